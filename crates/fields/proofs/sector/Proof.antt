@@ -1,0 +1,22 @@
+use mathlib.Core.Path.{_≡_, _∙_}
+use Rattle.model.specs.Disk.{view}
+use Rattle.laws.proofs.Bytes.{length-run, put-all}
+use borrow.Author.Needs.{needs}
+use Rattle.fields.proofs.sector.Statement.{statement}
+use Rattle.fields.proofs.sector.Tie as tie
+
+mul-copy-run : tie.Need-mul-copy-run
+mul-copy-run c = search needs
+
+slice-aggregate-copy-run : tie.Need-slice-aggregate-copy-run
+slice-aggregate-copy-run c = search needs
+
+copy-run-requires : tie.Need-copy-run-requires
+copy-run-requires c κs = search needs
+
+returns : tie.Need-returns
+unfolding view
+returns c = c .before .copy-run .ensures ∙ put-all _ _ (length-run _ _ 512)
+
+pub sector-spec : {M : Type 1} → statement M
+sector-spec = tie.close (tie.spec mul-copy-run slice-aggregate-copy-run copy-run-requires returns)

@@ -1,0 +1,134 @@
+// Leaves on byte slices: big-endian numbers, runs of bytes copied, filled and compared, sectors by value.
+use model::Sector;
+ghost use mathlib.Core.Path.{_≡_};
+ghost use Prim.Native.Nat.{_+_, _*_, _≤_, _<_, _^_};
+ghost use lib.ListN.{length, replicate};
+ghost use Rattle.model.specs.Bytes.{beAt, beBytes, run, put};
+ghost use Rattle.model.specs.Disk.{view};
+ghost use Rattle.model.specs.Search.{same};
+ghost use Rattle.model.specs.Entry.{hasZero};
+
+// The big-endian number of `width` bytes at `at`.
+pub fn be(s: &[u8], at: usize, width: usize) -> u64
+    requires { ⌜ width ≤ 8 ⌝ }
+    requires { ⌜ at + width ≤ length (now s) ⌝ }
+    ensures { λ r. ⌜ r ≡ beAt (now (s .entry)) at width ⌝ }
+    ensures { λ r. ⌜ r < 256 ^ width ⌝ }
+{
+    let mut v: u64 = 0;
+    let mut i: usize = 0;
+    while i < width {
+        v = v * 256 + (s[at + i] as u64);
+        i += 1;
+    }
+    v
+}
+
+pub fn be16(s: &[u8], at: usize) -> u16
+    requires { ⌜ at + 2 ≤ length (now s) ⌝ }
+    ensures { λ r. ⌜ r ≡ beAt (now (s .entry)) at 2 ⌝ }
+{
+    be(s, at, 2) as u16
+}
+
+pub fn be32(s: &[u8], at: usize) -> u32
+    requires { ⌜ at + 4 ≤ length (now s) ⌝ }
+    ensures { λ r. ⌜ r ≡ beAt (now (s .entry)) at 4 ⌝ }
+{
+    be(s, at, 4) as u32
+}
+
+pub fn be64(s: &[u8], at: usize) -> u64
+    requires { ⌜ at + 8 ≤ length (now s) ⌝ }
+    ensures { λ r. ⌜ r ≡ beAt (now (s .entry)) at 8 ⌝ }
+{
+    be(s, at, 8)
+}
+
+// Writes `v` as `width` big-endian bytes at `at`.
+pub fn put_be(b: &mut [u8], at: usize, width: usize, v: u64)
+    requires { ⌜ at + width ≤ length (now b) ⌝ }
+    ensures { λ _. ⌜ now (b .exit) ≡ put (now (b .entry)) at (beBytes width v) ⌝ }
+{
+    let mut x = v;
+    let mut i = width;
+    while 0 < i {
+        i -= 1;
+        b[at + i] = (x % 256) as u8;
+        x = x / 256;
+    }
+}
+
+// Copies `n` bytes of `src` from `from` to `dst` at `at`.
+pub fn copy_run(src: &[u8], from: usize, dst: &mut [u8], at: usize, n: usize)
+    requires { ⌜ from + n ≤ length (now src) ⌝ }
+    requires { ⌜ at + n ≤ length (now dst) ⌝ }
+    ensures { λ _. ⌜ now (dst .exit) ≡ put (now (dst .entry)) at (run (now (src .entry)) from n) ⌝ }
+{
+    let mut i: usize = 0;
+    while i < n {
+        dst[at + i] = src[from + i];
+        i += 1;
+    }
+}
+
+// Fills `n` bytes of `dst` at `at` with `v`.
+pub fn fill_run(dst: &mut [u8], at: usize, n: usize, v: u8)
+    requires { ⌜ at + n ≤ length (now dst) ⌝ }
+    ensures { λ _. ⌜ now (dst .exit) ≡ put (now (dst .entry)) at (replicate n v) ⌝ }
+{
+    let mut i: usize = 0;
+    while i < n {
+        dst[at + i] = v;
+        i += 1;
+    }
+}
+
+// Sector k of an image, by value.
+pub fn sector(img: &[u8], k: Sector) -> [u8; 512]
+    requires { ⌜ 512 * k .0 + 512 ≤ length (now img) ⌝ }
+    ensures { λ r. ⌜ r ≡ view (now (img .entry)) (k .0) ⌝ }
+{
+    let mut a = [0u8; 512];
+    copy_run(img, (512 * k.0) as usize, &mut a, 0, 512);
+    a
+}
+
+// The number of `width` bytes at `at` in sector k.
+pub fn number(img: &[u8], k: Sector, at: usize, width: usize) -> u64
+    requires { ⌜ 512 * k .0 + 512 ≤ length (now img) ⌝ }
+    requires { ⌜ (width ≤ 8) × (at + width ≤ 512) ⌝ }
+    ensures { λ r. ⌜ r ≡ beAt (view (now (img .entry)) (k .0)) at width ⌝ }
+    ensures { λ r. ⌜ r < 256 ^ width ⌝ }
+{
+    be(img, (512 * k.0) as usize + at, width)
+}
+
+// Whether the part begins with the text.
+pub fn starts_with(part: &[u8], text: &[u8]) -> bool
+    requires { ⌜ length (now text) ≤ length (now part) ⌝ }
+    ensures { λ r. ⌜ r ≡ same (run (now (part .entry)) 0 (length (now (text .entry)))) (now (text .entry)) ⌝ }
+{
+    let mut i: usize = 0;
+    while i < text.len() {
+        if part[i] != text[i] {
+            return false;
+        }
+        i += 1;
+    }
+    true
+}
+
+// Whether a byte of the name is 0.
+pub fn has_zero(name: &[u8]) -> bool
+    ensures { λ r. ⌜ r ≡ hasZero (now (name .entry)) ⌝ }
+{
+    let mut i: usize = 0;
+    while i < name.len() {
+        if name[i] == 0 {
+            return true;
+        }
+        i += 1;
+    }
+    false
+}

@@ -1,0 +1,54 @@
+-- Laws of Booleans and of tests of numbers. Assumes nothing.
+use Prim.Native.Nat.{ℕ, _≤_, _<_}
+use mathlib.Core.Path.{_≡_, refl, sym, ap, _∙_}
+use mathlib.Core.Bool.{Bool, true, false, not, _&&_, _||_, true≢false, false≢true}
+use lib.Dec.{leb, ltb}
+use borrow.Author.Tests.{le-leb, lt-leb, lt-ltb, leb-true, ltb-true, ltb-false}
+
+pub and-left : (a b : Bool) → (a && b) ≡ true → a ≡ true
+and-left true b e = refl
+and-left false b e = e
+
+pub and-right : (a b : Bool) → (a && b) ≡ true → b ≡ true
+and-right true b e = e
+and-right false b e = absurd (false≢true e)
+
+pub and-true : (a b : Bool) → (a && b) ≡ true → (a ≡ true) × (b ≡ true)
+and-true a b e = (and-left a b e, and-right a b e)
+
+pub and-yes : (a b : Bool) → a ≡ true → b ≡ true → (a && b) ≡ true
+and-yes a b e f = rw (e, f)
+
+pub and-false : (b : Bool) → (b && false) ≡ false
+and-false true = refl
+and-false false = refl
+
+pub or-left : (a b : Bool) → a ≡ true → (a || b) ≡ true
+or-left a b e = rw e
+
+pub or-right : (a b : Bool) → b ≡ true → (a || b) ≡ true
+or-right true b e = refl
+or-right false b e = e
+
+pub not-and : (a b : Bool) → not (a && b) ≡ (not a || not b)
+not-and true b = refl
+not-and false b = refl
+
+pub not-leb : (a b : ℕ) → not (leb a b) ≡ ltb b a
+not-leb a b = go (ltb b a) refl
+  where
+    go : (t : Bool) → ltb b a ≡ t → not (leb a b) ≡ ltb b a
+    go true e = ap not (lt-leb a b (ltb-true b a e)) ∙ sym e
+    go false e = ap not (le-leb a b (ltb-false b a e)) ∙ sym e
+
+-- a number from a to b - 1
+pub range-yes : (a b j : ℕ) → a ≤ j → j < b → (leb a j && ltb j b) ≡ true
+range-yes a b j p q = and-yes (leb a j) (ltb j b) (le-leb a j p) (lt-ltb j b q)
+
+pub range-no : (a b j : ℕ) → (a ≤ j → j < b → ⊥) → (leb a j && ltb j b) ≡ false
+range-no a b j h = go (leb a j) (ltb j b) refl refl
+  where
+    go : (x y : Bool) → leb a j ≡ x → ltb j b ≡ y → (x && y) ≡ false
+    go true true e f = absurd (h (leb-true a j e) (ltb-true j b f))
+    go true false e f = refl
+    go false y e f = refl

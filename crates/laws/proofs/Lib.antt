@@ -1,0 +1,9 @@
+-- Laws of the definitions, one file for each file of definitions that they speak of.
+pub mod Booleans
+pub mod Bytes
+pub mod Search
+pub mod Disk
+pub mod Entry
+pub mod Refusals
+pub mod Catalogue
+pub mod WriteList

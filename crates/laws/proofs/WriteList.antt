@@ -1,0 +1,58 @@
+-- Laws of write lists: a record's bytes, and emissions that follow one another. Assumes nothing.
+use Prim.Native.Nat.{ℕ, _+_, _*_}
+use mathlib.Core.Path.{_≡_, refl, ap, sym, _∙_}
+use mathlib.Core.List.{List, [], _∷_, _++_, append-assoc, append-nil}
+use native.Mathlib.Nat.{add-zero}
+use native.Mathlib.Omega.{arith}
+use lib.ListN.{length, length-append, length-replicate, replicate}
+use Rattle.model.specs.Bytes.{beBytes, run, put, zeroSector}
+use Rattle.model.specs.WriteList.{Record, sectorWrite, barrier, barrierNumber, recordBytes, listBytes, emit, Emitted}
+use Rattle.laws.proofs.Bytes.{length-beBytes, length-run, put-append, put-nil, run-all}
+
+pub length-recordBytes : (r : Record) → length (recordBytes r) ≡ 520
+unfolding recordBytes
+length-recordBytes r = simp (length-append, length-beBytes, length-run)
+
+pub listBytes-append : (a b : List Record) → listBytes (a ++ b) ≡ listBytes a ++ listBytes b
+unfolding listBytes
+listBytes-append [] b = refl
+listBytes-append (r ∷ a) b = ap (λ (x : List ℕ). recordBytes r ++ x) (listBytes-append a b) ∙ sym (append-assoc (recordBytes r) (listBytes a) (listBytes b))
+
+pub length-listBytes : (a : List Record) → length (listBytes a) ≡ length a * 520
+unfolding listBytes
+length-listBytes [] = refl
+length-listBytes (r ∷ a) = simp (length-append, length-recordBytes) (omega (arith, length-listBytes a))
+
+pub emit-nil : (l : List ℕ) (k : ℕ) → emit l k [] ≡ l
+unfolding emit listBytes
+emit-nil l k = put-nil l (k * 520)
+
+pub emit-append : (l : List ℕ) (k : ℕ) (a b : List Record) → emit l k (a ++ b) ≡ emit (emit l k a) (k + length a) b
+unfolding emit
+emit-append l k a b =
+    let e : k * 520 + length (listBytes a) ≡ (k + length a) * 520 = omega (arith, length-listBytes a) in
+    rw (listBytes-append, put-append, e)
+
+-- one record, as a number and then 512 bytes
+pub emit-run : (l : List ℕ) (k s : ℕ) (c : List ℕ) → emit l k (sectorWrite s c ∷ []) ≡ put (put l (k * 520) (beBytes 8 s)) (k * 520 + 8) (run c 0 512)
+unfolding emit listBytes recordBytes
+emit-run l k s c = rw (append-nil, put-append, length-beBytes)
+
+pub emit-one : (l : List ℕ) (k s : ℕ) (c : List ℕ) → length c ≡ 512 → emit l k (sectorWrite s c ∷ []) ≡ put (put l (k * 520) (beBytes 8 s)) (k * 520 + 8) c
+unfolding emit listBytes recordBytes
+emit-one l k s c h = rw (append-nil, put-append, length-beBytes, run-all c 512 h)
+
+pub emit-barrier : (l : List ℕ) (k : ℕ) → emit l k (barrier ∷ []) ≡ put (put l (k * 520) (beBytes 8 barrierNumber)) (k * 520 + 8) (replicate 512 0)
+unfolding barrier zeroSector
+emit-barrier l k = emit-one l k barrierNumber (replicate 512 0) (length-replicate {A = ℕ} 512 0)
+
+-- ---- what emitting calls compose by
+
+pub emitted-none : (l : List ℕ) (k : ℕ) → Emitted l k [] l k
+emitted-none l k = record { holds = sym (emit-nil l k); next = sym (add-zero k) }
+
+pub emitted-then : {l m m′ : List ℕ} {k j j′ : ℕ} {a b : List Record} → Emitted l k a m j → Emitted m j b m′ j′ → Emitted l k (a ++ b) m′ j′
+emitted-then {l} {m} {m′} {k} {j} {j′} {a} {b} p q =
+    let h = p .holds in
+    let n = p .next in
+    record { holds = q .holds ∙ rw (h, n) (sym (emit-append l k a b)); next = simp length-append (omega arith) }

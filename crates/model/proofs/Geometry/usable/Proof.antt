@@ -1,0 +1,20 @@
+use Rattle.model.proofs.Areas.{reserve-small}
+use native.Mathlib.Omega.{arith}
+use borrow.Author.Needs.{needs}
+use Rattle.model.proofs.Geometry.usable.Statement.{statement}
+use Rattle.model.proofs.Geometry.usable.Tie as tie
+
+reserve-extents-requires : tie.Need-reserve-extents-requires
+reserve-extents-requires c κs = search needs
+
+sub-result : tie.Need-sub-result
+sub-result c =
+    let d = c .before .before in
+    let a = d .args .self in
+    omega (arith, reserve-small (a .extents) (a .«extent_sectors») (d .pre .extents-low) (d .pre .extents-high) (d .pre .extent-low))
+
+returns : tie.Need-returns
+returns c = search needs
+
+pub usable-spec : {M : Type 1} → statement M
+usable-spec = tie.close (tie.spec reserve-extents-requires sub-result returns)

@@ -1,0 +1,108 @@
+-- What a volume says, apart from its files' bytes: the geometry, the root, each directory entry, each table entry. What a call
+-- decides is a function of this, so that a disk and the ledger can be asked the same question.
+use Prim.Native.Nat.{ℕ, _+_, _*_, _/_, _%_}
+use mathlib.Core.Bool.{Bool, true, false, cond, not, _&&_}
+use mathlib.Core.List.{List, []}
+use mathlib.Core.Option.{Option, none, some as just}
+use lib.Dec.{eqb, leb, ltb}
+use lib.ListN.{getD}
+use Rattle.model.specs.declared.Geometry.{Geometry}
+use Rattle.model.specs.declared.Place.{Place}
+use Rattle.model.specs.Search.{first, some, count, tab, indexOf, same}
+use Rattle.model.specs.Geometry.{SectorNumber, ExtentNumber, FileNumber, extentSectors, usable, superblockAt, rootAt, entryAt, extentAt, tableSectors}
+use Rattle.model.specs.Disk.{Disk}
+use Rattle.model.specs.Superblock.{geometryIn}
+use Rattle.model.specs.Root.{Root, rootIn}
+use Rattle.model.specs.Entry.{Entry, entryIn, isOccupied}
+use Rattle.model.specs.Table.{freeFile, tableFile, tableOffset}
+
+-- whose an extent is, and which of the file's extents
+pub record Owner : Type 0 where
+  pub file : FileNumber
+  pub offset : ℕ
+
+pub record Catalogue : Type 0 where
+  pub geometry : Geometry
+  pub root : Root
+  pub entries : FileNumber → Option Entry
+  pub table : ExtentNumber → Option Owner
+
+-- a disk's: nothing stands past the directory's and the table's end; "unused bytes, a free table entry's offset and table
+-- padding are not judged"
+unfoldable pub catalogueOf : Disk → Catalogue
+catalogueOf d =
+    let g = geometryIn (d superblockAt) in
+    record {
+      geometry = g;
+      root = rootIn (d rootAt);
+      entries = λ i. cond (ltb i (g .files) && isOccupied (d (entryAt i))) (just (entryIn (d (entryAt i)))) none;
+      table = λ e.
+        cond (ltb e (g .extents) && not (eqb (tableFile g d e) freeFile))
+          (just (record { file = tableFile g d e; offset = tableOffset g d e })) none
+    }
+
+-- ---- tests of one entry, of one table entry
+
+abbrev pub isFree {ℓ} : {A : Type ℓ} → Option A → Bool
+isFree none = true
+isFree (just a) = false
+
+abbrev pub hasName : List ℕ → Option Entry → Bool
+hasName n none = false
+hasName n (just e) = same (e .name) n
+
+abbrev pub hasId : ℕ → Option Entry → Bool
+hasId n none = false
+hasId n (just e) = eqb (e .id) n
+
+-- file i's, of offset o; file i's, of offset o or more
+abbrev pub isPart : FileNumber → ℕ → Option Owner → Bool
+isPart i o none = false
+isPart i o (just w) = eqb (w .file) i && eqb (w .offset) o
+
+abbrev pub isBeyond : FileNumber → ℕ → Option Owner → Bool
+isBeyond i o none = false
+isBeyond i o (just w) = eqb (w .file) i && leb o (w .offset)
+
+abbrev pub noEntry : Entry
+noEntry = record { size = 0; version = 0; id = 0; mode = 0; accessTime = 0; changeTime = 0; name = [] }
+
+abbrev pub entryOr : Option Entry → Entry
+entryOr none = noEntry
+entryOr (just e) = e
+
+module _ (c : Catalogue) where
+  -- the file of that name; the lowest free entry; the lowest usable free extent
+  unfoldable pub fileNamed : List ℕ → Place
+  fileNamed n = first (λ i. hasName n (c .entries i)) (c .geometry .files)
+
+  unfoldable pub freeEntry : Place
+  freeEntry = first (λ i. isFree (c .entries i)) (c .geometry .files)
+
+  unfoldable pub freeExtent : Place
+  freeExtent = first (λ e. isFree (c .table e)) (usable (c .geometry))
+
+  -- what entry i says; where it is free, nothing but zeros
+  unfoldable pub entryOf : FileNumber → Entry
+  entryOf i = entryOr (c .entries i)
+
+  -- file i's extent of offset o, and its sector number s
+  unfoldable pub extentOf : FileNumber → ℕ → ExtentNumber
+  extentOf i o = indexOf (first (λ e. isPart i o (c .table e)) (usable (c .geometry)))
+
+  unfoldable pub sectorOf : FileNumber → ℕ → SectorNumber
+  sectorOf i s = extentAt (c .geometry) (extentOf i (s / extentSectors (c .geometry))) + s % extentSectors (c .geometry)
+
+  -- table sector t holds an extent of file i of offset o or more; how many such sectors there are
+  unfoldable pub holdsBeyond : FileNumber → ℕ → ℕ → Bool
+  holdsBeyond i o t = some (λ k. isBeyond i o (c .table (128 * t + k))) 128
+
+  unfoldable pub sectorsBeyond : FileNumber → ℕ → ℕ
+  sectorsBeyond i o = count (holdsBeyond i o) (tableSectors (c .geometry))
+
+-- byte k of file i, and n of its bytes from byte offset on
+unfoldable pub fileByte : Catalogue → Disk → FileNumber → ℕ → ℕ
+fileByte c d i k = getD (d (sectorOf c i (k / 512))) (k % 512) 0
+
+unfoldable pub fileBytes : Catalogue → Disk → FileNumber → ℕ → ℕ → List ℕ
+fileBytes c d i offset n = tab (fileByte c d i) offset n

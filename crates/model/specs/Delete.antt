@@ -1,0 +1,46 @@
+-- "Delete: entry becomes 512 zeros, its extents become 65535, 65535; root as above. Targets 1, the entry, each table sector that
+-- holds one."
+use Prim.Native.Nat.{ℕ, _+_, _*_}
+use mathlib.Core.Bool.{cond}
+use mathlib.Core.List.{List, [], _∷_}
+use mathlib.Core.Option.{some as just}
+use lib.ListN.{length}
+use Rattle.model.specs.declared.Changed.{Changed}
+use Rattle.model.specs.Bytes.{zeroSector}
+use Rattle.model.specs.Search.{flat, indexOf}
+use Rattle.model.specs.Geometry.{FileNumber, rootAt, entryAt, tableAt, tableSectors}
+use Rattle.model.specs.Disk.{Disk}
+use Rattle.model.specs.Root.{updatedRootSector}
+use Rattle.model.specs.Table.{freedIn}
+use Rattle.model.specs.Catalogue.{Catalogue, catalogueOf, fileNamed, isBeyond, holdsBeyond, sectorsBeyond}
+use Rattle.model.specs.WriteList.{Plan, Record, sectorWrite, recordCount, Decision, decided, answerOf, listAfter}
+use Rattle.model.specs.Find.{nameConditions}
+
+-- table sector t with file i's extents of offset o or more freed, if it holds one
+unfoldable pub freedSector : Catalogue → Disk → FileNumber → ℕ → ℕ → List Record
+freedSector c d i o t =
+    let at = tableAt (c .geometry) + t in
+    cond (holdsBeyond c i o t) (sectorWrite at (freedIn (λ k. isBeyond i o (c .table (128 * t + k))) (d at) 128) ∷ []) []
+
+unfoldable pub freedSectors : Catalogue → Disk → FileNumber → ℕ → List Record
+freedSectors c d i o = flat (freedSector c d i o) 0 (tableSectors (c .geometry))
+
+unfoldable pub deletePlan : Catalogue → Disk → FileNumber → ℕ → Plan
+deletePlan c d i time = record {
+    dataSectors = [];
+    targets = sectorWrite rootAt (updatedRootSector time (d rootAt)) ∷ sectorWrite (entryAt i) zeroSector ∷ freedSectors c d i 0
+  }
+
+unfoldable pub deleteCount : Catalogue → FileNumber → ℕ
+deleteCount c i = recordCount 0 (2 + sectorsBeyond c i 0)
+
+unfoldable pub deleteDecision : ℕ → Disk → List ℕ → ℕ → ℕ → Decision
+deleteDecision len d name time room =
+    let c = catalogueOf d in
+    decided len d (nameConditions c name) (just (deletePlan c d (indexOf (fileNamed c name)) time)) room
+
+unfoldable pub deleteAnswer : ℕ → Disk → List ℕ → ℕ → ℕ → Changed
+deleteAnswer len d name time room = answerOf d (deleteDecision len d name time room)
+
+unfoldable pub deleteList : ℕ → Disk → List ℕ → ℕ → List ℕ → List ℕ
+deleteList len d name time list = listAfter d (deleteDecision len d name time (length list)) list

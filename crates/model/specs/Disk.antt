@@ -1,0 +1,12 @@
+-- A disk shows a sector's 512 bytes by its number; an image is a string of bytes seen as a disk. Every definition of what a
+-- volume says takes a disk, and where a refusal needs it the image's length.
+use Prim.Native.Nat.{ℕ, _*_}
+use mathlib.Core.List.{List}
+use Rattle.model.specs.Bytes.{run}
+use Rattle.model.specs.Geometry.{SectorNumber}
+
+abbrev pub Disk : Type 0
+Disk = SectorNumber → List ℕ
+
+unfoldable pub view : List ℕ → Disk
+view img k = run img (512 * k) 512

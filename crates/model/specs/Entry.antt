@@ -1,0 +1,99 @@
+-- "Directory entry: 0 mark (2; 0 free, 65535 occupied), 2 size (8), 10 version (4), 14 id (8), 22 mode (4), 26 access time (4),
+-- 30 change time (4), 34 name length (2), 36 name."
+use Prim.Native.Nat.{ℕ}
+use mathlib.Core.Bool.{Bool, _||_, not, _&&_}
+use mathlib.Core.List.{List, [], _∷_}
+use lib.Dec.{eqb, leb}
+use lib.ListN.{length, getD}
+use Rattle.model.specs.declared.Fields.{Fields}
+use Rattle.model.specs.Bytes.{Field, field, numberIn, setTo, stamped, raised, run, zeroSector}
+use Rattle.model.specs.Search.{some}
+
+pub record EntryLayout : Type 0 where
+  pub mark : Field
+  pub size : Field
+  pub version : Field
+  pub id : Field
+  pub mode : Field
+  pub accessTime : Field
+  pub changeTime : Field
+  pub nameLength : Field
+  pub name : ℕ
+
+abbrev pub entryField : EntryLayout
+entryField = record {
+    mark = field 0 2; size = field 2 8; version = field 10 4; id = field 14 8; mode = field 22 4; accessTime = field 26 4;
+    changeTime = field 30 4; nameLength = field 34 2; name = 36
+  }
+
+abbrev pub freeMark : ℕ
+freeMark = 0
+
+abbrev pub occupiedMark : ℕ
+occupiedMark = 65535
+
+-- what an occupied entry says
+pub record Entry : Type 0 where
+  pub size : ℕ
+  pub version : ℕ
+  pub id : ℕ
+  pub mode : ℕ
+  pub accessTime : ℕ
+  pub changeTime : ℕ
+  pub name : List ℕ
+
+-- "the bytes that start at 36 and end with the name"
+unfoldable pub nameIn : List ℕ → List ℕ
+nameIn s = run s (entryField .name) (numberIn s (entryField .nameLength))
+
+unfoldable pub entryIn : List ℕ → Entry
+entryIn s = record {
+    size = numberIn s (entryField .size); version = numberIn s (entryField .version); id = numberIn s (entryField .id);
+    mode = numberIn s (entryField .mode); accessTime = numberIn s (entryField .accessTime);
+    changeTime = numberIn s (entryField .changeTime); name = nameIn s
+  }
+
+unfoldable pub isOccupied : List ℕ → Bool
+isOccupied s = eqb (numberIn s (entryField .mark)) occupiedMark
+
+-- the fields that find and list give
+unfoldable pub fieldsOf : Entry → Fields
+fieldsOf e = record {
+    size = e .size; version = e .version; id = e .id; mode = e .mode; «access_time» = e .accessTime; «change_time» = e .changeTime;
+    «name_length» = length (e .name)
+  }
+
+abbrev pub noFields : Fields
+noFields = record { size = 0; version = 0; id = 0; mode = 0; «access_time» = 0; «change_time» = 0; «name_length» = 0 }
+
+-- "name length not 1 to 476 or containing 0"
+abbrev pub longestName : ℕ
+longestName = 476
+
+unfoldable pub hasZero : List ℕ → Bool
+hasZero n = some (λ k. eqb (getD n k 0) 0) (length n)
+
+unfoldable pub badName : List ℕ → Bool
+badName n = not (leb 1 (length n) && leb (length n) longestName) || hasZero n
+
+-- create's: "size 0, version 0, given id, mode and time (both times), bytes after the name zero"
+unfoldable pub newEntry : List ℕ → ℕ → ℕ → ℕ → Entry
+newEntry name id mode time = record { size = 0; version = 0; id = id; mode = mode; accessTime = time; changeTime = time; name = name }
+
+unfoldable pub newEntrySector : List ℕ → ℕ → ℕ → ℕ → List ℕ
+newEntrySector name id mode time =
+    stamped zeroSector
+      (setTo (entryField .mark) occupiedMark ∷ setTo (entryField .id) id ∷ setTo (entryField .mode) mode ∷ setTo (entryField .accessTime) time
+      ∷ setTo (entryField .changeTime) time ∷ setTo (entryField .nameLength) (length name) ∷ (entryField .name, name) ∷ [])
+
+-- write's and resize's: the size given, "version up, change time set"; and the same of its sector
+unfoldable pub updatedEntry : ℕ → ℕ → Entry → Entry
+updatedEntry size time e = record {
+    size = size; version = raised (e .version); id = e .id; mode = e .mode; accessTime = e .accessTime; changeTime = time; name = e .name
+  }
+
+unfoldable pub updatedEntrySector : ℕ → ℕ → List ℕ → List ℕ
+updatedEntrySector size time s =
+    stamped s
+      (setTo (entryField .size) size ∷ setTo (entryField .version) (raised (numberIn s (entryField .version)))
+      ∷ setTo (entryField .changeTime) time ∷ [])

@@ -1,0 +1,141 @@
+-- Write lists: "records of 520 bytes, no header: sector number (8), contents (512)"; "A list has four groups, each closed by a
+-- barrier: (A) data sectors in file order, then copies, then journal sectors; (B) superblock with length n; (C) the n targets in
+-- rising order; (D) superblock with length 0."
+use Prim.Native.Nat.{ℕ, _+_, _*_, _-_, _^_}
+use mathlib.Core.Path.{_≡_}
+use mathlib.Core.Bool.{cond}
+use mathlib.Core.List.{List, [], _∷_, _++_, map}
+use mathlib.Core.Option.{Option, none, some as just}
+use lib.Dec.{eqb, ltb}
+use lib.ListN.{length, getD}
+use Rattle.model.specs.declared.Geometry.{Geometry}
+use Rattle.model.specs.declared.Verdict.{Verdict}
+use Rattle.model.specs.declared.Changed.{Changed}
+use Rattle.model.specs.Bytes.{beBytes, run, put, zeroSector}
+use Rattle.model.specs.Search.{tab}
+use Rattle.model.specs.Geometry.{SectorNumber, superblockAt, journalAt, reserveAt}
+use Rattle.model.specs.Disk.{Disk}
+use Rattle.model.specs.Superblock.{geometryIn, withJournalLength}
+use Rattle.model.specs.Journal.{journalSectors, journalSector}
+use Rattle.model.specs.Refusals.{Conditions, verdictOf, andThen, isDone, refusal, judged}
+
+-- ---- records
+
+pub record Record : Type 0 where
+  pub sector : SectorNumber
+  pub contents : List ℕ
+
+abbrev pub sectorWrite : SectorNumber → List ℕ → Record
+sectorWrite s c = record { sector = s; contents = c }
+
+-- "A barrier is number 2^64 - 1 with 512 zero bytes."
+abbrev pub barrierNumber : ℕ
+barrierNumber = 2 ^ 64 - 1
+
+unfoldable pub barrier : Record
+barrier = sectorWrite barrierNumber zeroSector
+
+abbrev pub recordSize : ℕ
+recordSize = 520
+
+unfoldable pub recordBytes : Record → List ℕ
+recordBytes r = beBytes 8 (r .sector) ++ run (r .contents) 0 512
+
+unfoldable pub listBytes : List Record → List ℕ
+listBytes [] = []
+listBytes (r ∷ rs) = recordBytes r ++ listBytes rs
+
+-- a lent list with records put in from position k: "bytes past the list stay"
+unfoldable pub emit : List ℕ → ℕ → List Record → List ℕ
+emit list k rs = put list (k * recordSize) (listBytes rs)
+
+-- what a function that emits leaves: the records es in the list from position k, and the next position
+pub record Emitted (l : List ℕ) (k : ℕ) (es : List Record) (m : List ℕ) (j : ℕ) : Type 0 where
+  pub holds : m ≡ emit l k es
+  pub next : j ≡ k + length es
+
+-- the image after "all writes in order"; a barrier writes nothing
+unfoldable pub stored : List Record → List ℕ → List ℕ
+stored [] img = img
+stored (r ∷ rs) img = stored rs (cond (eqb (r .sector) barrierNumber) img (put img (512 * r .sector) (r .contents)))
+
+-- ---- plans and their groups
+
+-- what a changing call wants written: data sectors in file order, targets in rising order
+pub record Plan : Type 0 where
+  pub dataSectors : List Record
+  pub targets : List Record
+
+abbrev pub Group : Type 0
+Group = List Record
+
+-- "The k-th target's copy goes to the k-th reserve sector": the staging sectors of n copies
+unfoldable pub staging : Geometry → ℕ → List SectorNumber
+staging g n = tab (λ k. reserveAt g + k) 0 n
+
+unfoldable pub copies : List SectorNumber → Group → Group
+copies stages ts = tab (λ k. sectorWrite (getD stages k 0) (getD ts k barrier .contents)) 0 (length ts)
+
+abbrev pub sectorsOf : Group → List SectorNumber
+sectorsOf ts = map (λ (r : Record). r .sector) ts
+
+-- the journal of copies in these stages of these targets: "only journal sectors that hold entries are written"
+unfoldable pub journalOf : Geometry → List SectorNumber → List SectorNumber → Group
+journalOf g stages targets =
+    let n = length targets in
+    tab (λ j. sectorWrite (journalAt g + j) (journalSector (λ k. getD stages k 0) (λ k. getD targets k 0) n j)) 0 (journalSectors n)
+
+unfoldable pub groupA : Geometry → List SectorNumber → Plan → Group
+groupA g stages p = p .dataSectors ++ copies stages (p .targets) ++ journalOf g stages (sectorsOf (p .targets))
+
+abbrev pub superblockGroup : Disk → ℕ → Group
+superblockGroup d n = sectorWrite superblockAt (withJournalLength n (d superblockAt)) ∷ []
+
+unfoldable pub groupsOf : Geometry → Disk → Plan → List Group
+groupsOf g d p =
+    let n = length (p .targets) in
+    groupA g (staging g n) p ∷ superblockGroup d n ∷ p .targets ∷ superblockGroup d 0 ∷ []
+
+-- no plan, no groups: an empty list
+unfoldable pub groupsFor : Disk → Option Plan → List Group
+groupsFor d none = []
+groupsFor d (just p) = groupsOf (geometryIn (d superblockAt)) d p
+
+-- the records of groups, a barrier after each, behind those of acc
+abbrev pub closedAfter : List Record → List Group → List Record
+closedAfter acc [] = acc
+closedAfter acc (g ∷ gs) = closedAfter (acc ++ g ++ (barrier ∷ [])) gs
+
+abbrev pub closed : List Group → List Record
+closed gs = closedAfter [] gs
+
+-- how many bytes a list takes; and how many records one of so many data sectors and targets has
+abbrev pub listLength : List Group → ℕ
+listLength gs = length (closed gs) * recordSize
+
+abbrev pub recordCount : ℕ → ℕ → ℕ
+recordCount sectors targets = sectors + targets + journalSectors targets + 1 + (1 + 1) + (targets + 1) + (1 + 1)
+
+-- ---- what a changing call comes to
+
+-- its verdict, and its plan where it is done and something is to be written
+pub record Decision : Type 0 where
+  pub verdict : Verdict
+  pub plan : Option Plan
+
+-- the call's own refusals, last of them 14 list too short for the answer
+abbrev pub ownVerdict : Conditions → ℕ → ℕ → Verdict
+ownVerdict cs room needed = andThen (verdictOf cs) (verdictOf ((ltb room needed, refusal 14) ∷ []))
+
+-- on an image of len bytes: 1 to 7, its own conditions, 14 by the lent list's length, or the plan
+unfoldable pub decided : ℕ → Disk → Conditions → Option Plan → ℕ → Decision
+decided len d cs plan room =
+    let v = andThen (judged len d) (ownVerdict cs room (listLength (groupsFor d plan))) in
+    record { verdict = v; plan = cond (isDone v) plan none }
+
+-- its answer, and what it leaves in the lent list
+abbrev pub answerOf : Disk → Decision → Changed
+answerOf d x = record { verdict = x .verdict; length = listLength (groupsFor d (x .plan)) }
+
+abbrev pub listAfter : Disk → Decision → List ℕ → List ℕ
+listAfter d x list = emit list 0 (closed (groupsFor d (x .plan)))

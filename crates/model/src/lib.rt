@@ -1,0 +1,283 @@
+// The plain data that the volume's calls speak of, and the layout's rules on it. No other algorithm stands here.
+ghost use mathlib.Core.Path.{_≡_};
+ghost use Prim.Native.Nat.{_+_, _≤_, _<_};
+ghost use Rattle.model.specs.Geometry.{inBounds, tableSectors, reserveExtents, usable, entryAt, journalAt, tableAt, dataAt, extentAt, reserveAt, volumeSectors};
+ghost use Rattle.model.specs.Table.{tableSectorOf};
+ghost use Rattle.model.specs.Summary.{journalLocated, tableLocated, dataLocated, reserveLocated};
+ghost use Rattle.model.specs.Opened.{Bounded};
+
+// Sector, extent and file numbers are never mixed: each is its own kind.
+pub struct Sector(pub u64);
+
+pub struct Extent(pub u64);
+
+pub struct FileIndex(pub u64);
+
+// F files, N extents, S sectors in each extent. The superblock gives S four bytes, so no area's start can overflow.
+pub struct Geometry {
+    pub files: u64,
+    pub extents: u64,
+    pub extent_sectors: u32,
+}
+
+// What the superblock's journal length says; a waiting volume's entry count goes with it.
+pub enum State {
+    Clean,
+    Waiting(u64),
+    Damaged,
+    Unfinished,
+}
+
+pub struct Summary {
+    pub geometry: Geometry,
+    pub state: State,
+}
+
+// What a search over indexes answers.
+pub enum Place {
+    At(usize),
+    Nowhere,
+}
+
+// No fault, or the first one's number and place.
+pub enum Soundness {
+    Sound,
+    Faulty(u64, u64),
+}
+
+// A number of document 01's table; with 7 also the fault and its place, else both are 0.
+pub struct Verdict {
+    pub number: u64,
+    pub fault: u64,
+    pub place: u64,
+}
+
+// What find and list give of an entry.
+pub struct Fields {
+    pub size: u64,
+    pub version: u32,
+    pub id: u64,
+    pub mode: u32,
+    pub access_time: u32,
+    pub change_time: u32,
+    pub name_length: u64,
+}
+
+// ---- one answer for each kind of call
+
+pub struct Summarized {
+    pub number: u64,
+    pub summary: Summary,
+}
+
+// Where an area starts, from a summary alone: 0 and the sector, or 3.
+pub struct Located {
+    pub number: u64,
+    pub sector: Sector,
+}
+
+pub struct Checked {
+    pub verdict: Verdict,
+}
+
+pub struct Found {
+    pub verdict: Verdict,
+    pub index: FileIndex,
+    pub fields: Fields,
+}
+
+// The name's bytes stand in the output; their count is the field `name_length`.
+pub struct Listed {
+    pub verdict: Verdict,
+    pub fields: Fields,
+}
+
+pub struct BytesRead {
+    pub verdict: Verdict,
+    pub count: u64,
+}
+
+// Create, delete, resize, write: the write list's length in bytes.
+pub struct Changed {
+    pub verdict: Verdict,
+    pub length: u64,
+}
+
+pub struct Recovered {
+    pub number: u64,
+    pub length: u64,
+}
+
+pub struct Formatted {
+    pub number: u64,
+    pub length: u64,
+}
+
+pub struct CarriedOut {
+    pub number: u64,
+}
+
+// ---- the layout's rules: only these turn a file index or an extent into a sector
+
+impl FileIndex {
+    pub fn sector(self) -> Sector
+        requires { ⌜ 2 + self .0 < 18446744073709551616 ⌝ }
+        ensures { λ r. ⌜ r .0 ≡ entryAt (self .0) ⌝ }
+    {
+        Sector(2 + self.0)
+    }
+}
+
+impl Geometry {
+    pub fn in_bounds(self) -> bool
+        ensures { λ r. ⌜ r ≡ inBounds self ⌝ }
+    {
+        if 255 <= self.files {
+            if self.files <= 1024 {
+                if 2 <= self.extents {
+                    if self.extents <= 65535 {
+                        return 128 <= self.extent_sectors;
+                    }
+                    return false;
+                }
+                return false;
+            }
+            return false;
+        }
+        false
+    }
+
+    pub fn table_sectors(self) -> u64
+        requires { ⌜ Bounded self ⌝ }
+        ensures { λ r. ⌜ r ≡ tableSectors self ⌝ }
+    {
+        (self.extents + 127) / 128
+    }
+
+    pub fn reserve_extents(self) -> u64
+        requires { ⌜ Bounded self ⌝ }
+        ensures { λ r. ⌜ r ≡ reserveExtents self ⌝ }
+    {
+        let s = self.extent_sectors as u64;
+        (self.table_sectors() + 2 + (s - 1)) / s
+    }
+
+    pub fn usable(self) -> u64
+        requires { ⌜ Bounded self ⌝ }
+        ensures { λ r. ⌜ r ≡ usable self ⌝ }
+    {
+        self.extents - self.reserve_extents()
+    }
+
+    pub fn journal_at(self) -> Sector
+        requires { ⌜ Bounded self ⌝ }
+        ensures { λ r. ⌜ r .0 ≡ journalAt self ⌝ }
+    {
+        Sector(2 + self.files)
+    }
+
+    pub fn table_at(self) -> Sector
+        requires { ⌜ Bounded self ⌝ }
+        ensures { λ r. ⌜ r .0 ≡ tableAt self ⌝ }
+    {
+        Sector(34 + self.files)
+    }
+
+    // The table sector that holds the entry of extent `e`.
+    pub fn table_sector_of(self, e: Extent) -> Sector
+        requires { ⌜ Bounded self ⌝ }
+        requires { ⌜ e .0 < self .extents ⌝ }
+        ensures { λ r. ⌜ r .0 ≡ tableSectorOf self (e .0) ⌝ }
+    {
+        Sector(34 + self.files + e.0 / 128)
+    }
+
+    pub fn data_at(self) -> Sector
+        requires { ⌜ Bounded self ⌝ }
+        ensures { λ r. ⌜ r .0 ≡ dataAt self ⌝ }
+    {
+        Sector(34 + self.files + self.table_sectors())
+    }
+
+    pub fn extent_at(self, e: Extent) -> Sector
+        requires { ⌜ Bounded self ⌝ }
+        requires { ⌜ e .0 ≤ self .extents ⌝ }
+        ensures { λ r. ⌜ r .0 ≡ extentAt self (e .0) ⌝ }
+    {
+        let d = self.data_at();
+        Sector(d.0 + e.0 * (self.extent_sectors as u64))
+    }
+
+    pub fn reserve_at(self) -> Sector
+        requires { ⌜ Bounded self ⌝ }
+        ensures { λ r. ⌜ r .0 ≡ reserveAt self ⌝ }
+    {
+        self.extent_at(Extent(self.usable()))
+    }
+
+    pub fn volume_sectors(self) -> u64
+        requires { ⌜ Bounded self ⌝ }
+        ensures { λ r. ⌜ r ≡ volumeSectors self ⌝ }
+    {
+        let end = self.extent_at(Extent(self.extents));
+        end.0
+    }
+}
+
+fn starts_at(sector: Sector) -> Located
+    ensures { λ r. ⌜ r ≡ record { number = 0; sector = sector } ⌝ }
+{
+    Located { number: 0, sector }
+}
+
+fn out_of_bounds() -> Located
+    ensures { λ r. ⌜ r ≡ record { number = 3; sector = record { 0 = 0 } } ⌝ }
+{
+    Located {
+        number: 3,
+        sector: Sector(0),
+    }
+}
+
+// Once made, the summary alone answers where each area starts; one whose geometry breaks the bounds answers 3.
+impl Summary {
+    pub fn journal_at(self) -> Located
+        ensures { λ r. ⌜ r ≡ journalLocated self ⌝ }
+    {
+        let g = self.geometry;
+        if g.in_bounds() {
+            return starts_at(g.journal_at());
+        }
+        out_of_bounds()
+    }
+
+    pub fn table_at(self) -> Located
+        ensures { λ r. ⌜ r ≡ tableLocated self ⌝ }
+    {
+        let g = self.geometry;
+        if g.in_bounds() {
+            return starts_at(g.table_at());
+        }
+        out_of_bounds()
+    }
+
+    pub fn data_at(self) -> Located
+        ensures { λ r. ⌜ r ≡ dataLocated self ⌝ }
+    {
+        let g = self.geometry;
+        if g.in_bounds() {
+            return starts_at(g.data_at());
+        }
+        out_of_bounds()
+    }
+
+    pub fn reserve_at(self) -> Located
+        ensures { λ r. ⌜ r ≡ reserveLocated self ⌝ }
+    {
+        let g = self.geometry;
+        if g.in_bounds() {
+            return starts_at(g.reserve_at());
+        }
+        out_of_bounds()
+    }
+}

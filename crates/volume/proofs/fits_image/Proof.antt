@@ -1,0 +1,29 @@
+use Rattle.model.proofs.Areas.{bounds}
+use Rattle.model.specs.Refusals.{isWhole, fitsImage}
+use native.Mathlib.Omega.{arith}
+use mathlib.Core.Path.{_≡_, refl, sym, ap, _∙_}
+use borrow.Author.Needs.{needs}
+use Rattle.volume.proofs.fits_image.Statement.{statement}
+use Rattle.volume.proofs.fits_image.Tie as tie
+
+geometry-in-requires : tie.Need-geometry-in-requires
+geometry-in-requires c κs = search needs
+
+in-bounds-requires : tie.Need-in-bounds-requires
+in-bounds-requires c κs = search needs
+
+volume-sectors-requires : tie.Need-volume-sectors-requires
+volume-sectors-requires c κs = bounds _ (sym (c .before .in-bounds .ensures) ∙ c .if1 .taken) (omega arith)
+
+returns : tie.Need-returns
+unfolding fitsImage
+returns c = rw (← c .before .before .before .geometry-in .ensures, ← c .before .before .in-bounds .ensures, c .before .if1 .taken, ← c .volume-sectors .ensures)
+
+returns-2 : tie.Need-returns-2
+unfolding fitsImage
+returns-2 c = rw (← c .before .before .geometry-in .ensures, ← c .before .in-bounds .ensures, c .if1 .left)
+
+pub fits-image-spec : {M : Type 1} → statement M
+fits-image-spec =
+    tie.close
+    (tie.spec geometry-in-requires in-bounds-requires volume-sectors-requires returns returns-2)

@@ -1,0 +1,58 @@
+use Rattle.laws.proofs.Disk.{run-view}
+use Rattle.laws.proofs.Bytes.{run-part}
+use Rattle.model.specs.Search.{same}
+use Rattle.model.specs.Disk.{view}
+use Rattle.model.specs.Bytes.{run}
+use Rattle.model.specs.Superblock.{isVolume, geometryIn, journalLength, stateOf, magic}
+use native.Mathlib.Omega.{arith}
+use mathlib.Core.Path.{_≡_, refl, sym, ap, _∙_}
+use borrow.Author.Needs.{needs}
+use Rattle.volume.proofs.is_volume.Statement.{statement}
+use Rattle.volume.proofs.is_volume.Tie as tie
+
+sub-starts-with : tie.Need-sub-starts-with
+sub-starts-with c = search needs
+
+part-starts-with-start : tie.Need-part-starts-with-start
+part-starts-with-start c = search needs
+
+part-starts-with-end : tie.Need-part-starts-with-end
+part-starts-with-end c = search needs
+
+slice-aggregate-starts-with : tie.Need-slice-aggregate-starts-with
+slice-aggregate-starts-with c = search needs
+
+starts-with-requires : tie.Need-starts-with-requires
+starts-with-requires c κs = search needs
+
+number-requires : tie.Need-number-requires
+number-requires c κs = search needs
+
+returns : tie.Need-returns
+unfolding isVolume
+returns c = let d = c .before .before in
+    let img = d .before .before .before .before .args .img .now in
+    let m : same (run (view img 0) 8 8) magic ≡ d .starts-with .result =
+        rw (run-view img 0 8 8 (omega arith), ← run-part img 8 8 8 (omega arith)) (sym (d .starts-with .ensures)) in
+    rw (m, c .before .if1 .taken, ← c .number .ensures .0)
+
+returns-2 : tie.Need-returns-2
+unfolding isVolume
+returns-2 c = let d = c .before in
+    let img = d .before .before .before .before .args .img .now in
+    let m : same (run (view img 0) 8 8) magic ≡ d .starts-with .result =
+        rw (run-view img 0 8 8 (omega arith), ← run-part img 8 8 8 (omega arith)) (sym (d .starts-with .ensures)) in
+    rw (m, c .if1 .left)
+
+pub is-volume-spec : {M : Type 1} → statement M
+is-volume-spec =
+    tie.close
+    (tie.spec
+    sub-starts-with
+    part-starts-with-start
+    part-starts-with-end
+    slice-aggregate-starts-with
+    starts-with-requires
+    number-requires
+    returns
+    returns-2)

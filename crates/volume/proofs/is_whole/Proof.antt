@@ -1,0 +1,17 @@
+use Rattle.model.specs.Refusals.{isWhole, fitsImage}
+use borrow.Author.Tests.{eq-eqb, ne-eqb, le-leb, lt-leb, lt-ltb, le-ltb}
+use mathlib.Core.Path.{_≡_, refl, sym, ap, _∙_}
+use borrow.Author.Needs.{needs}
+use Rattle.volume.proofs.is_whole.Statement.{statement}
+use Rattle.volume.proofs.is_whole.Tie as tie
+
+returns : tie.Need-returns
+unfolding isWhole
+returns c = rw (lt-ltb _ _ (c .if1 .taken))
+
+returns-2 : tie.Need-returns-2
+unfolding isWhole
+returns-2 c = rw (le-ltb _ _ (c .if1 .left))
+
+pub is-whole-spec : {M : Type 1} → statement M
+is-whole-spec = tie.close (tie.spec returns returns-2)

@@ -1,0 +1,675 @@
+//! The ledger: what the calls of a run must answer, told from their arguments alone. It sees no
+//! image and no write list. Of a cut call it hears whether the start mark landed and, if not, which
+//! data sectors did.
+//!
+//! It shares with the calls only the geometry; answers, list lengths and the choice of entries and
+//! extents are worked out here a second time.
+
+use crate::answers::{
+    code, ChangeAnswer, CheckAnswer, FindAnswer, ListAnswer, ReadAnswer, Refusal, SummaryAnswer,
+};
+use crate::format::FormatRequest;
+use crate::layout::{
+    get16, get32, get64, root, sector, superblock, Entry, Extent, FileIndex, Geometry, Sector,
+    NO_FILE, SECTOR,
+};
+use crate::request::{Answer, Request};
+
+/// The fields of the root record.
+#[derive(Clone, Debug, PartialEq, Eq)]
+pub struct Root {
+    pub version: u32,
+    pub id: u64,
+    pub mode: u32,
+    pub access_time: u32,
+    pub change_time: u32,
+}
+
+/// A file: its entry's fields, its bytes (the size is their number) and its extents in order.
+#[derive(Clone, Debug, PartialEq, Eq)]
+pub struct File {
+    pub name: Vec<u8>,
+    pub version: u32,
+    pub id: u64,
+    pub mode: u32,
+    pub access_time: u32,
+    pub change_time: u32,
+    pub bytes: Vec<u8>,
+    pub extents: Vec<Extent>,
+}
+
+/// What landed of a cut changing call.
+#[derive(Clone, Debug, PartialEq, Eq)]
+pub struct CutReport {
+    /// Whether the superblock of group B landed; the call is then done.
+    pub start_mark: bool,
+    /// If not: the data sectors that landed, by their place among the call's data sectors.
+    pub data_sectors: Vec<usize>,
+}
+
+/// The ledger's answer, with the bytes that a list or read puts at the start of its output.
+#[derive(Clone, Debug, PartialEq, Eq)]
+pub struct Told {
+    pub answer: Answer,
+    pub output: Vec<u8>,
+}
+
+#[derive(Clone, Debug, PartialEq, Eq)]
+pub struct Ledger {
+    geometry: Geometry,
+    root: Root,
+    slots: Vec<Option<File>>,
+}
+
+/// What a changing call that is not refused does. The data of a growing resize are zeros.
+enum Change {
+    Nothing,
+    Create {
+        slot: usize,
+        file: File,
+    },
+    Delete {
+        slot: usize,
+        time: u32,
+    },
+    Shrink {
+        slot: usize,
+        size: usize,
+        kept: usize,
+        time: u32,
+    },
+    Write {
+        slot: usize,
+        offset: usize,
+        data: Vec<u8>,
+        extent: Option<Extent>,
+        time: u32,
+    },
+}
+
+impl Ledger {
+    /// The ledger after a format, or nothing if the format is refused.
+    pub fn new(format: &FormatRequest) -> Option<Ledger> {
+        let geometry = format.geometry()?;
+        Some(Ledger::with_geometry(
+            geometry,
+            format.id,
+            format.mode,
+            format.time,
+        ))
+    }
+
+    /// The ledger of a fresh volume of any geometry, also one that no format gives.
+    pub fn with_geometry(geometry: Geometry, id: u64, mode: u32, time: u32) -> Ledger {
+        let root = Root {
+            version: 0,
+            id,
+            mode,
+            access_time: time,
+            change_time: time,
+        };
+        Ledger {
+            geometry,
+            root,
+            slots: vec![None; geometry.files() as usize],
+        }
+    }
+
+    pub fn geometry(&self) -> Geometry {
+        self.geometry
+    }
+
+    pub fn root(&self) -> &Root {
+        &self.root
+    }
+
+    /// For each entry of the directory, nothing or its file.
+    pub fn slots(&self) -> &[Option<File>] {
+        &self.slots
+    }
+
+    /// The answer of a call whose list, if it has one, lands whole. The length is that of the lent
+    /// buffer.
+    pub fn call(&mut self, request: &Request, buffer_length: usize) -> Told {
+        let (told, change) = self.tell(request, buffer_length);
+        self.apply(change);
+        told
+    }
+
+    /// The answer of a call that is cut while its list is carried out. A call without a list can't
+    /// be cut; then nothing is answered and nothing changes.
+    pub fn cut_call(
+        &mut self,
+        request: &Request,
+        buffer_length: usize,
+        cut: &CutReport,
+    ) -> Option<Told> {
+        let (told, change) = self.tell(request, buffer_length);
+        if told.answer.list_length() == 0 {
+            return None;
+        }
+        if cut.start_mark {
+            self.apply(change);
+        } else {
+            self.keep_landed_data(change, &cut.data_sectors);
+        }
+        Some(told)
+    }
+
+    /// The answer, and what the call does if it is done.
+    fn tell(&self, request: &Request, buffer_length: usize) -> (Told, Change) {
+        let mut output = Vec::new();
+        let mut change = Change::Nothing;
+        let answer = match request {
+            Request::Summary => Answer::Summary(SummaryAnswer {
+                files: self.geometry.files(),
+                extents: self.geometry.extents(),
+                extent_sectors: self.geometry.extent_sectors(),
+                ..SummaryAnswer::default()
+            }),
+            Request::Check => Answer::Check(CheckAnswer::default()),
+            Request::Find { name } => Answer::Find(match self.find(name) {
+                Ok((slot, file)) => find_answer(slot, file),
+                Err(refusal) => refusal.into(),
+            }),
+            Request::List { index } => Answer::List(match self.list(*index, buffer_length) {
+                Ok(file) => {
+                    output = file.name.clone();
+                    list_answer(file)
+                }
+                Err(refusal) => refusal.into(),
+            }),
+            Request::Read {
+                name,
+                offset,
+                count,
+            } => Answer::Read(match self.read(name, *offset, *count, buffer_length) {
+                Ok(bytes) => {
+                    output = bytes.to_vec();
+                    ReadAnswer {
+                        count: bytes.len() as u64,
+                        ..ReadAnswer::default()
+                    }
+                }
+                Err(refusal) => refusal.into(),
+            }),
+            _ => Answer::Change(match self.change(request, buffer_length) {
+                Ok((length, planned)) => {
+                    change = planned;
+                    ChangeAnswer {
+                        length: length as u64,
+                        ..ChangeAnswer::default()
+                    }
+                }
+                Err(refusal) => refusal.into(),
+            }),
+        };
+        (Told { answer, output }, change)
+    }
+
+    /// The list length of a changing call and what it does, or its refusal.
+    fn change(&self, request: &Request, buffer_length: usize) -> Result<(usize, Change), Refusal> {
+        let (length, change) = match request {
+            Request::Create {
+                name,
+                id,
+                mode,
+                time,
+            } => self.create(name, *id, *mode, *time)?,
+            Request::Delete { name, time } => self.delete(name, *time)?,
+            Request::Resize { name, size, time } => self.resize(name, *size, *time)?,
+            Request::Write {
+                name,
+                offset,
+                data,
+                time,
+            } => self.write(name, *offset, data, *time)?,
+            _ => (0, Change::Nothing),
+        };
+        if buffer_length < length {
+            return Err(Refusal::new(code::BUFFER_TOO_SHORT));
+        }
+        Ok((length, change))
+    }
+
+    fn find(&self, name: &[u8]) -> Result<(usize, &File), Refusal> {
+        if bad_name(name) {
+            return Err(Refusal::new(code::BAD_ARGUMENT));
+        }
+        self.files()
+            .find(|(_, file)| file.name == name)
+            .ok_or(Refusal::new(code::NOT_THERE))
+    }
+
+    fn files(&self) -> impl Iterator<Item = (usize, &File)> {
+        self.slots
+            .iter()
+            .enumerate()
+            .filter_map(|(slot, file)| file.as_ref().map(|file| (slot, file)))
+    }
+
+    fn list(&self, index: u64, buffer_length: usize) -> Result<&File, Refusal> {
+        if index >= self.slots.len() as u64 {
+            return Err(Refusal::new(code::BAD_ARGUMENT));
+        }
+        let file = self.slots[index as usize]
+            .as_ref()
+            .ok_or(Refusal::new(code::NOT_THERE))?;
+        if buffer_length < file.name.len() {
+            return Err(Refusal::new(code::BUFFER_TOO_SHORT));
+        }
+        Ok(file)
+    }
+
+    fn read(
+        &self,
+        name: &[u8],
+        offset: u64,
+        count: u64,
+        buffer_length: usize,
+    ) -> Result<&[u8], Refusal> {
+        if bad_name(name) || count > 65_536 {
+            return Err(Refusal::new(code::BAD_ARGUMENT));
+        }
+        let (_, file) = self.find(name)?;
+        if offset > file.bytes.len() as u64 {
+            return Err(Refusal::new(code::PAST_THE_END));
+        }
+        let rest = &file.bytes[offset as usize..];
+        let given = &rest[..rest.len().min(count as usize)];
+        if buffer_length < given.len() {
+            return Err(Refusal::new(code::BUFFER_TOO_SHORT));
+        }
+        Ok(given)
+    }
+
+    fn create(
+        &self,
+        name: &[u8],
+        id: u64,
+        mode: u32,
+        time: u32,
+    ) -> Result<(usize, Change), Refusal> {
+        if bad_name(name) || id == 0 {
+            return Err(Refusal::new(code::BAD_ARGUMENT));
+        }
+        if id == self.root.id
+            || self
+                .files()
+                .any(|(_, file)| file.name == name || file.id == id)
+        {
+            return Err(Refusal::new(code::ALREADY_THERE));
+        }
+        let free = self.slots.iter().position(|slot| slot.is_none());
+        let slot = free.ok_or(Refusal::new(code::DIRECTORY_FULL))?;
+        let file = File {
+            name: name.to_vec(),
+            version: 0,
+            id,
+            mode,
+            access_time: time,
+            change_time: time,
+            bytes: Vec::new(),
+            extents: Vec::new(),
+        };
+        Ok((length_by_groups(0, 2), Change::Create { slot, file }))
+    }
+
+    fn delete(&self, name: &[u8], time: u32) -> Result<(usize, Change), Refusal> {
+        let (slot, file) = self.find(name)?;
+        let targets = 2 + table_sectors_with(&file.extents);
+        Ok((length_by_groups(0, targets), Change::Delete { slot, time }))
+    }
+
+    fn resize(&self, name: &[u8], size: u64, time: u32) -> Result<(usize, Change), Refusal> {
+        let (slot, file) = self.find(name)?;
+        let old_size = file.bytes.len() as u64;
+        if size == old_size {
+            return Ok((0, Change::Nothing));
+        }
+        if size < old_size {
+            let kept = self.extents_of_size(size);
+            let targets = 1 + table_sectors_with(&file.extents[kept..]);
+            let change = Change::Shrink {
+                slot,
+                size: size as usize,
+                kept,
+                time,
+            };
+            return Ok((length_by_groups(0, targets), change));
+        }
+        if size - old_size > 65_536 {
+            return Err(Refusal::new(code::BAD_ARGUMENT));
+        }
+        self.put(
+            slot,
+            file,
+            file.bytes.len(),
+            vec![0; (size - old_size) as usize],
+            time,
+        )
+    }
+
+    fn write(
+        &self,
+        name: &[u8],
+        offset: u64,
+        data: &[u8],
+        time: u32,
+    ) -> Result<(usize, Change), Refusal> {
+        if bad_name(name) || data.len() > 65_536 {
+            return Err(Refusal::new(code::BAD_ARGUMENT));
+        }
+        let (slot, file) = self.find(name)?;
+        if offset > file.bytes.len() as u64 {
+            return Err(Refusal::new(code::PAST_THE_END));
+        }
+        if data.is_empty() {
+            return Ok((0, Change::Nothing));
+        }
+        self.put(slot, file, offset as usize, data.to_vec(), time)
+    }
+
+    fn put(
+        &self,
+        slot: usize,
+        file: &File,
+        offset: usize,
+        data: Vec<u8>,
+        time: u32,
+    ) -> Result<(usize, Change), Refusal> {
+        let end = offset + data.len();
+        let new_size = end.max(file.bytes.len());
+        let extent = if self.extents_of_size(new_size as u64) > file.extents.len() {
+            Some(
+                self.lowest_free_extent()
+                    .ok_or(Refusal::new(code::NO_ROOM))?,
+            )
+        } else {
+            None
+        };
+        let data_sectors = (end - 1) / SECTOR - offset / SECTOR + 1;
+        let targets = if extent.is_some() { 2 } else { 1 };
+        let length = length_by_groups(data_sectors, targets);
+        Ok((
+            length,
+            Change::Write {
+                slot,
+                offset,
+                data,
+                extent,
+                time,
+            },
+        ))
+    }
+
+    /// C for this size.
+    fn extents_of_size(&self, size: u64) -> usize {
+        size.div_ceil(self.geometry.extent_bytes()) as usize
+    }
+
+    /// The lowest usable extent that no slot has.
+    fn lowest_free_extent(&self) -> Option<Extent> {
+        let mut taken = vec![false; self.geometry.usable_extents() as usize];
+        for (_, file) in self.files() {
+            for extent in &file.extents {
+                taken[extent.0 as usize] = true;
+            }
+        }
+        taken
+            .iter()
+            .position(|taken| !taken)
+            .map(|lowest| Extent(lowest as u64))
+    }
+
+    fn apply(&mut self, change: Change) {
+        match change {
+            Change::Nothing => {}
+            Change::Create { slot, file } => {
+                self.change_root(file.change_time);
+                self.slots[slot] = Some(file);
+            }
+            Change::Delete { slot, time } => {
+                self.change_root(time);
+                self.slots[slot] = None;
+            }
+            Change::Shrink {
+                slot,
+                size,
+                kept,
+                time,
+            } => {
+                let file = self.changed_file(slot, time);
+                file.bytes.truncate(size);
+                file.extents.truncate(kept);
+            }
+            Change::Write {
+                slot,
+                offset,
+                data,
+                extent,
+                time,
+            } => {
+                let file = self.changed_file(slot, time);
+                let end = offset + data.len();
+                if file.bytes.len() < end {
+                    file.bytes.resize(end, 0);
+                }
+                file.bytes[offset..end].copy_from_slice(&data);
+                file.extents.extend(extent);
+            }
+        }
+    }
+
+    /// A call that was not done leaves its data sectors behind that landed, as far as the file
+    /// went.
+    fn keep_landed_data(&mut self, change: Change, landed: &[usize]) {
+        let Change::Write {
+            slot, offset, data, ..
+        } = change
+        else {
+            return;
+        };
+        let Some(file) = &mut self.slots[slot] else {
+            return;
+        };
+        let span_end = (offset + data.len()).min(file.bytes.len());
+        for place in landed {
+            let sector_start = (offset / SECTOR + place) * SECTOR;
+            let from = sector_start.max(offset);
+            let to = (sector_start + SECTOR).min(span_end);
+            if from < to {
+                file.bytes[from..to].copy_from_slice(&data[from - offset..to - offset]);
+            }
+        }
+    }
+
+    fn change_root(&mut self, time: u32) {
+        self.root.version = self.root.version.wrapping_add(1);
+        self.root.change_time = time;
+    }
+
+    fn changed_file(&mut self, slot: usize, time: u32) -> &mut File {
+        let file = self.slots[slot]
+            .as_mut()
+            .expect("the slot of a planned change holds a file");
+        file.version = file.version.wrapping_add(1);
+        file.change_time = time;
+        file
+    }
+
+    /// Whether the image says what the ledger holds: geometry, clean, root, directory, table and
+    /// the bytes of each file. The journal, free extents, the reserve and bytes past a file's end
+    /// are not looked at. The error tells the first difference.
+    pub fn compare(&self, image: &[u8]) -> Result<(), String> {
+        if !image.len().is_multiple_of(SECTOR)
+            || ((image.len() / SECTOR) as u64) < self.geometry.end().0
+        {
+            return Err(format!(
+                "the volume does not fit the image of {} bytes",
+                image.len()
+            ));
+        }
+        self.compare_superblock(sector(image, Sector(0)))?;
+        self.compare_root(sector(image, self.geometry.root_at()))?;
+        for (index, slot) in self.slots.iter().enumerate() {
+            let entry = Entry(sector(
+                image,
+                self.geometry.entry_at(FileIndex(index as u64)),
+            ));
+            compare_entry(slot.as_ref(), entry)
+                .map_err(|difference| format!("entry {index}: {difference}"))?;
+        }
+        self.compare_table(image)?;
+        for (index, file) in self.files() {
+            for (offset, (bytes, extent)) in file
+                .bytes
+                .chunks(self.geometry.extent_bytes() as usize)
+                .zip(&file.extents)
+                .enumerate()
+            {
+                let at = self.geometry.extent_at(*extent).0 as usize * SECTOR;
+                if image[at..at + bytes.len()] != *bytes {
+                    return Err(format!("file {index}: bytes differ in its extent {offset}"));
+                }
+            }
+        }
+        Ok(())
+    }
+
+    fn compare_superblock(&self, found: &[u8; SECTOR]) -> Result<(), String> {
+        let magic_length = superblock::MAGIC_TEXT.len();
+        let magic = &found[superblock::MAGIC..superblock::MAGIC + magic_length];
+        same("magic", &superblock::MAGIC_TEXT[..], magic)?;
+        same(
+            "volume version",
+            superblock::THIS_VERSION,
+            get16(found, superblock::VERSION),
+        )?;
+        same(
+            "files",
+            self.geometry.files(),
+            u64::from(get16(found, superblock::FILES)),
+        )?;
+        same(
+            "extents",
+            self.geometry.extents(),
+            u64::from(get16(found, superblock::EXTENTS)),
+        )?;
+        let extent_sectors = u64::from(get32(found, superblock::EXTENT_SECTORS));
+        same(
+            "extent sectors",
+            self.geometry.extent_sectors(),
+            extent_sectors,
+        )?;
+        same(
+            "journal length",
+            0,
+            get16(found, superblock::JOURNAL_LENGTH),
+        )
+    }
+
+    fn compare_root(&self, found: &[u8; SECTOR]) -> Result<(), String> {
+        let found = Root {
+            version: get32(found, root::VERSION),
+            id: get64(found, root::ID),
+            mode: get32(found, root::MODE),
+            access_time: get32(found, root::ACCESS_TIME),
+            change_time: get32(found, root::CHANGE_TIME),
+        };
+        same("root", &self.root, &found)
+    }
+
+    fn compare_table(&self, image: &[u8]) -> Result<(), String> {
+        let mut expected = vec![None; self.geometry.extents() as usize];
+        for (index, file) in self.files() {
+            for (offset, extent) in file.extents.iter().enumerate() {
+                expected[extent.0 as usize] = Some((index as u16, offset as u16));
+            }
+        }
+        for (extent, expected) in expected.into_iter().enumerate() {
+            let (table_sector, at) = self.geometry.table_place(Extent(extent as u64));
+            let found = sector(image, table_sector);
+            let (owner, offset) = (get16(found, at), get16(found, at + 2));
+            let found = if owner == NO_FILE {
+                None
+            } else {
+                Some((owner, offset))
+            };
+            same("table entry", expected, found)
+                .map_err(|text| format!("extent {extent}: {text}"))?;
+        }
+        Ok(())
+    }
+}
+
+fn compare_entry(slot: Option<&File>, entry: Entry) -> Result<(), String> {
+    let Some(file) = slot else {
+        return same("mark", 0, entry.mark());
+    };
+    same("mark", 65_535, entry.mark())?;
+    same("size", file.bytes.len() as u64, entry.size())?;
+    same("version", file.version, entry.version())?;
+    same("id", file.id, entry.id())?;
+    same("mode", file.mode, entry.mode())?;
+    same("access time", file.access_time, entry.access_time())?;
+    same("change time", file.change_time, entry.change_time())?;
+    same("name", Some(&file.name[..]), entry.name())
+}
+
+fn same<T: PartialEq + std::fmt::Debug>(what: &str, expected: T, found: T) -> Result<(), String> {
+    if expected == found {
+        Ok(())
+    } else {
+        Err(format!("{what} is {found:?}, not {expected:?}"))
+    }
+}
+
+fn bad_name(name: &[u8]) -> bool {
+    name.is_empty() || name.len() > 476 || name.contains(&0)
+}
+
+/// How many table sectors hold the entries of these extents.
+fn table_sectors_with(extents: &[Extent]) -> usize {
+    let mut sectors: Vec<u64> = extents.iter().map(|extent| extent.0 / 128).collect();
+    sectors.sort_unstable();
+    sectors.dedup();
+    sectors.len()
+}
+
+/// The bytes of a list with this many data sectors and targets.
+fn length_by_groups(data_sectors: usize, targets: usize) -> usize {
+    let journal_sectors = targets.div_ceil(32);
+    let group_a = data_sectors + targets + journal_sectors;
+    let group_c = targets;
+    let superblocks = 2;
+    let barriers = 4;
+    520 * (group_a + group_c + superblocks + barriers)
+}
+
+fn find_answer(slot: usize, file: &File) -> FindAnswer {
+    FindAnswer {
+        index: slot as u64,
+        size: file.bytes.len() as u64,
+        version: u64::from(file.version),
+        id: file.id,
+        mode: u64::from(file.mode),
+        access_time: u64::from(file.access_time),
+        change_time: u64::from(file.change_time),
+        name_length: file.name.len() as u64,
+        ..FindAnswer::default()
+    }
+}
+
+fn list_answer(file: &File) -> ListAnswer {
+    ListAnswer {
+        size: file.bytes.len() as u64,
+        version: u64::from(file.version),
+        id: file.id,
+        mode: u64::from(file.mode),
+        access_time: u64::from(file.access_time),
+        change_time: u64::from(file.change_time),
+        name_length: file.name.len() as u64,
+        ..ListAnswer::default()
+    }
+}

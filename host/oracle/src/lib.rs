@@ -1,0 +1,44 @@
+//! An independent second implementation of the flat volume's rules in plain Rust.
+//!
+//! Every call works on a lent image of any bytes and never panics. The rules stand in these
+//! modules:
+//! - `layout`: the kinds of numbers, the geometry and the fields of each area;
+//! - `answers`: the numbers that a call gives back;
+//! - `judge`: opening an image, its state and its faults;
+//! - `calls`: summary, check, find, list and read;
+//! - `changes`: create, delete, resize and write;
+//! - `recovery`: finishing a transaction that a power cut interrupted;
+//! - `format`: the geometry for a sector count, and the format's records;
+//! - `lists`: write lists and carrying them out;
+//! - `report`: the text of the small program that describes a superblock.
+//!
+//! What a run of calls must answer is told a second time, without image and list, by `ledger`,
+//! which is fed the `request`s. `power` cuts lists, and `draw` is the generator behind its random
+//! choices.
+
+#![forbid(unsafe_code)]
+
+pub mod answers;
+pub mod calls;
+pub mod changes;
+pub mod draw;
+pub mod format;
+pub mod judge;
+pub mod layout;
+pub mod ledger;
+pub mod lists;
+pub mod power;
+pub mod recovery;
+pub mod report;
+pub mod request;
+
+pub use calls::{check, find, list, read, summary};
+pub use changes::{create, delete, resize, write};
+pub use format::{format_record, FormatRequest};
+pub use ledger::Ledger;
+pub use lists::carry_out;
+pub use recovery::recover;
+pub use request::{Answer, Request};
+
+#[cfg(test)]
+mod tests;

@@ -1,0 +1,127 @@
+//! Recovery of journals that no call wrote: random entries at the edges of the areas against a slow
+//! reading of the rule, in any order, with shared sources, and as long as the journal.
+
+use super::sample_image;
+use crate::answers::code;
+use crate::draw::Draw;
+use crate::layout::{put16, put64, SECTOR};
+use crate::lists::RECORD;
+use crate::recover;
+
+const JOURNAL: usize = 257 * SECTOR;
+
+fn set_journal(image: &mut [u8], entries: &[(u64, u64)]) {
+    put16(image, 18, entries.len() as u16);
+    for (k, (source, target)) in entries.iter().enumerate() {
+        put64(image, JOURNAL + 16 * k, *source);
+        put64(image, JOURNAL + 16 * k + 8, *target);
+    }
+}
+
+/// The list by the rule: the lowest target left, again and again; or nothing.
+fn plain_recovery(image: &[u8], entries: &[(u64, u64)]) -> Option<Vec<u8>> {
+    let mut left = entries.to_vec();
+    let mut list = Vec::new();
+    let contents = |sector: u64| &image[sector as usize * SECTOR..][..SECTOR];
+    let mut last_target = 0;
+    while !left.is_empty() {
+        let lowest = (0..left.len()).min_by_key(|k| left[*k].1).unwrap();
+        let (source, target) = left.swap_remove(lowest);
+        let target_is_good = target == 1 || (2..257).contains(&target) || target == 289;
+        if !(290..802).contains(&source) || !target_is_good || target == last_target {
+            return None;
+        }
+        last_target = target;
+        list.extend(target.to_be_bytes());
+        list.extend(contents(source));
+    }
+    let mut superblock = contents(0).to_vec();
+    put16(&mut superblock, 18, 0);
+    let barrier = [&[255; 8][..], &[0; SECTOR]].concat();
+    list.extend([&barrier, &[0; 8][..], &superblock, &barrier].concat());
+    Some(list)
+}
+
+fn recovered_alike(image: &[u8], entries: &[(u64, u64)], draw: &mut Draw) -> u64 {
+    let expected = plain_recovery(image, entries);
+    let needed = (entries.len() + 3) * RECORD;
+    let length = *draw.pick(&[0, needed - 1, needed, needed + 1, needed + RECORD]);
+    let mut list = super::lent(length);
+    let answer = recover(image, &mut list);
+    let filled = super::kept_rest(list, answer.length as usize);
+    let expected = match expected {
+        None => (code::DAMAGED, Vec::new()),
+        Some(_) if length < needed => (code::BUFFER_TOO_SHORT, Vec::new()),
+        Some(list) => (code::DONE, list),
+    };
+    assert_eq!((answer.code, filled), expected);
+    answer.code
+}
+
+#[test]
+fn random_journals() {
+    let mut image = sample_image();
+    let mut draw = Draw::new(31);
+    let mut seen = [0; 15];
+    for _ in 0..3_000 {
+        let count = draw.between(1, 6);
+        let wild = draw.one_in(2);
+        let entries: Vec<(u64, u64)> = (0..count)
+            .map(|_| {
+                let source = if wild && draw.one_in(4) {
+                    *draw.pick(&[0, 1, 289, 802, 1_312, 1_313, u64::MAX])
+                } else {
+                    *draw.pick(&[290, 291, 500, 673, 674, 675, 801])
+                };
+                let target = if wild && draw.one_in(4) {
+                    *draw.pick(&[0, 257, 288, 290, 674, u64::MAX])
+                } else {
+                    *draw.pick(&[1, 2, 3, 4, 5, 255, 256, 289])
+                };
+                (source, target)
+            })
+            .collect();
+        set_journal(&mut image, &entries);
+        seen[recovered_alike(&image, &entries, &mut draw) as usize] += 1;
+    }
+    assert!(seen[0] > 100 && seen[6] > 100 && seen[14] > 100, "{seen:?}");
+}
+
+/// Root, the whole directory and the table of the sample: 257 targets, in falling order, all from
+/// one source.
+#[test]
+fn all_targets_at_once() {
+    let mut image = sample_image();
+    let mut draw = Draw::new(32);
+    let mut entries: Vec<(u64, u64)> = (1..257).chain([289]).map(|target| (700, target)).collect();
+    entries.reverse();
+    set_journal(&mut image, &entries);
+    let codes: Vec<u64> = (0..20)
+        .map(|_| recovered_alike(&image, &entries, &mut draw))
+        .collect();
+    assert!(codes.contains(&code::DONE) && codes.contains(&code::BUFFER_TOO_SHORT));
+    // An entry past the count is not judged; one more that is counted has a target twice.
+    put64(&mut image, JOURNAL + 16 * 257, 0);
+    assert_eq!(recover(&image, &mut vec![0; 260 * RECORD]).code, code::DONE);
+    entries.push((700, 1));
+    set_journal(&mut image, &entries);
+    assert_eq!(recovered_alike(&image, &entries, &mut draw), code::DAMAGED);
+}
+
+/// The same copy lands in each target.
+#[test]
+fn recovery_is_not_a_judgement() {
+    let mut image = sample_image();
+    // A directory entry with a bad mark comes from the reserve; recovery lands it all the same.
+    image[700 * SECTOR..701 * SECTOR].fill(3);
+    let mut draw = Draw::new(33);
+    let entries = [(700, 2)];
+    set_journal(&mut image, &entries);
+    recovered_alike(&image, &entries, &mut draw);
+    let mut list = vec![0; 4 * RECORD];
+    assert_eq!(recover(&image, &mut list).code, code::DONE);
+    assert_eq!(crate::carry_out(&mut image, &list), 0);
+    let judged = crate::check(&image);
+    assert_eq!((judged.code, judged.fault, judged.place), (7, 21, 0));
+    assert_eq!(recover(&image, &mut []).length, 0);
+}

@@ -1,0 +1,550 @@
+//! The judgement of images: each fault by hand, and thousands of spoilt images and images of any
+//! bytes against a slow second judge that follows the definitions word by word.
+
+use super::{create, resize, write, Volume};
+use crate::answers::{fault, CheckAnswer, Refusal};
+use crate::draw::Draw;
+use crate::layout::{put16, put32, put64, SECTOR};
+use crate::ledger::Ledger;
+use crate::request::{Answer, Request};
+use crate::{check, format_record, recover, summary, FormatRequest};
+
+/// Six extents, five of them usable; six files that hold three, one, no, and one extents.
+fn some_files() -> Volume {
+    let request = FormatRequest {
+        sectors: 546 + 255 + 6 * 128,
+        files: 255,
+        id: 900,
+        mode: 1,
+        time: 1,
+    };
+    let ledger = Ledger::new(&request).unwrap();
+    let mut volume = Volume {
+        image: super::formatted(&request),
+        ledger,
+    };
+    for (name, id) in [
+        (&b"a"[..], 1),
+        (b"ab", 2),
+        (b"abc", 3),
+        (b"b", 4),
+        (b"c", 5),
+        (b"cab", 6),
+    ] {
+        volume.done(&create(name, id));
+    }
+    volume.done(&resize(b"ab", 65_536));
+    volume.done(&write(b"abc", 0, vec![1; 5]));
+    volume.done(&resize(b"ab", 131_072));
+    volume.done(&resize(b"ab", 131_073));
+    volume.done(&write(b"cab", 0, vec![2; 600]));
+    // A free entry between occupied ones.
+    volume.done(&super::delete(b"b"));
+    volume
+}
+
+/// Byte offsets in the image of an entry's field and of an extent's table entry.
+fn entry_field(index: u64, field: usize) -> usize {
+    (2 + index as usize) * SECTOR + field
+}
+
+fn table_field(extent: u64, field: usize) -> usize {
+    (34 + 255) * SECTOR + 4 * extent as usize + field
+}
+
+/// A big-endian number of this many bytes.
+fn number(image: &[u8], at: usize, length: usize) -> u128 {
+    image[at..at + length]
+        .iter()
+        .fold(0, |number, byte| number << 8 | u128::from(*byte))
+}
+
+/// The refusal of a check, word by word and slowly; code 0 for a sound volume.
+fn plain_check(image: &[u8]) -> CheckAnswer {
+    let refused = |code| CheckAnswer {
+        code,
+        fault: 0,
+        place: 0,
+    };
+    if image.is_empty() || !image.len().is_multiple_of(512) {
+        return refused(1);
+    }
+    if image[8..16] != *b"/Goo/FS/" || number(image, 16, 2) != 1 {
+        return refused(2);
+    }
+    let [files, extents, extent_sectors] =
+        [(0, 2), (2, 2), (4, 4)].map(|(at, n)| number(image, at, n));
+    let bounds =
+        (255..=1_024).contains(&files) && (2..=65_535).contains(&extents) && extent_sectors >= 128;
+    let table_sectors = extents.div_ceil(128);
+    if !bounds
+        || (34 + files + table_sectors + extents * extent_sectors) * 512 > image.len() as u128
+    {
+        return refused(3);
+    }
+    match number(image, 18, 2) {
+        0 => {}
+        1..=1_024 => return refused(5),
+        65_535 => return refused(4),
+        _ => return refused(6),
+    }
+    let not_sound = |fault, place: u128| CheckAnswer {
+        code: 7,
+        fault,
+        place: place as u64,
+    };
+
+    let extent_bytes = 512 * extent_sectors;
+    let mut reserve = 0;
+    while reserve * extent_sectors < table_sectors + 2 {
+        reserve += 1;
+    }
+    let usable = extents - reserve;
+    let at = |file: u128, field| (2 + file) as usize * 512 + field;
+    let mark = |file| number(image, at(file, 0), 2);
+    let occupied: Vec<u128> = (0..files).filter(|file| mark(*file) == 65_535).collect();
+    let size = |file| number(image, at(file, 2), 8);
+    let id = |file| number(image, at(file, 14), 8);
+    let name = |file| &image[at(file, 36)..][..number(image, at(file, 34), 2) as usize];
+    let table_at = (34 + files) as usize * 512;
+    let owner = |extent: u128| number(image, table_at + 4 * extent as usize, 2);
+    let offset = |extent: u128| number(image, table_at + 4 * extent as usize + 2, 2);
+
+    if let Some(file) = (0..files).find(|file| mark(*file) != 0 && mark(*file) != 65_535) {
+        return not_sound(21, file);
+    }
+    for &file in &occupied {
+        let length = number(image, at(file, 34), 2);
+        let bad_length = !(1..=476).contains(&length);
+        if bad_length || name(file).contains(&0) || size(file) > usable * extent_bytes {
+            return not_sound(22, file);
+        }
+    }
+    let lower = |file: u128| occupied.iter().copied().filter(move |lower| *lower < file);
+    if let Some(file) = occupied
+        .iter()
+        .find(|file| lower(**file).any(|lower| name(lower) == name(**file)))
+    {
+        return not_sound(23, *file);
+    }
+    let root_id = number(image, 512 + 4, 8);
+    for &file in &occupied {
+        if id(file) == 0 || id(file) == root_id || lower(file).any(|lower| id(lower) == id(file)) {
+            return not_sound(24, file);
+        }
+    }
+    for extent in 0..extents {
+        let free = owner(extent) == 65_535;
+        if !free && (extent >= usable || !occupied.contains(&owner(extent))) {
+            return not_sound(25, extent);
+        }
+    }
+    for &file in &occupied {
+        let count = size(file).div_ceil(extent_bytes);
+        let its_offsets: Vec<u128> = (0..extents)
+            .filter(|extent| owner(*extent) == file)
+            .map(offset)
+            .collect();
+        let once = |wanted| {
+            its_offsets
+                .iter()
+                .filter(|offset| **offset == wanted)
+                .count()
+                == 1
+        };
+        if !(0..count).all(once) || its_offsets.iter().any(|offset| *offset >= count) {
+            return not_sound(26, file);
+        }
+    }
+    CheckAnswer::default()
+}
+
+/// Every call that judges soundness; in a sound volume with `some_files` none is refused.
+fn judging_calls() -> Vec<Request> {
+    vec![
+        Request::Check,
+        super::find(b"a"),
+        Request::List { index: 0 },
+        super::read(b"ab", 0, 10),
+        create(b"new", 77),
+        super::delete(b"ab"),
+        resize(b"ab", 0),
+        resize(b"ab", 131_074),
+        write(b"abc", 0, vec![1; 600]),
+    ]
+}
+
+/// Makes sure that check and every other call answer what the slow judge says.
+fn judged_alike(image: &[u8]) -> CheckAnswer {
+    let expected = plain_check(image);
+    assert_eq!(check(image), expected);
+    if expected.code != 0 {
+        let CheckAnswer { code, fault, place } = expected;
+        let refusal = Refusal { code, fault, place };
+        for request in judging_calls() {
+            let (answer, filled) = super::ask(&request, image, super::ANY_LIST);
+            let expected = match answer {
+                Answer::Check(_) => Answer::Check(refusal.into()),
+                Answer::Find(_) => Answer::Find(refusal.into()),
+                Answer::List(_) => Answer::List(refusal.into()),
+                Answer::Read(_) => Answer::Read(refusal.into()),
+                Answer::Change(_) => Answer::Change(refusal.into()),
+                Answer::Summary(_) => unreachable!("the summary doesn't judge"),
+            };
+            assert_eq!(answer, expected);
+            assert!(filled.is_empty());
+        }
+    }
+    expected
+}
+
+#[test]
+fn each_fault_by_hand() {
+    let sound = some_files().image;
+    assert_eq!(judged_alike(&sound).code, 0);
+    for request in judging_calls() {
+        assert_eq!(
+            super::ask(&request, &sound, super::ANY_LIST).0.code(),
+            0,
+            "{request:?}"
+        );
+    }
+    let spoilt = |spoil: &dyn Fn(&mut [u8])| {
+        let mut image = sound.clone();
+        spoil(&mut image);
+        let answer = judged_alike(&image);
+        (answer.fault, answer.place)
+    };
+    // 21: also an entry that was free, and the lowest place first.
+    assert_eq!(
+        spoilt(&|image| put16(image, entry_field(254, 0), 1)),
+        (fault::MARK, 254)
+    );
+    assert_eq!(
+        spoilt(&|image| {
+            put16(image, entry_field(9, 0), 65_534);
+            put16(image, entry_field(3, 0), 1);
+            put16(image, entry_field(0, 34), 0);
+        }),
+        (fault::MARK, 3)
+    );
+    // 22: length, a zero in the name, size; a free entry isn't judged.
+    assert_eq!(
+        spoilt(&|image| put16(image, entry_field(2, 34), 0)),
+        (fault::NAME_OR_SIZE, 2)
+    );
+    assert_eq!(
+        spoilt(&|image| put16(image, entry_field(2, 34), 477)),
+        (fault::NAME_OR_SIZE, 2)
+    );
+    assert_eq!(
+        spoilt(&|image| put16(image, entry_field(2, 34), 65_535)),
+        (fault::NAME_OR_SIZE, 2)
+    );
+    assert_eq!(
+        spoilt(&|image| image[entry_field(2, 37)] = 0),
+        (fault::NAME_OR_SIZE, 2)
+    );
+    assert_eq!(
+        spoilt(&|image| put64(image, entry_field(2, 2), 5 * 65_536 + 1)),
+        (fault::NAME_OR_SIZE, 2)
+    );
+    assert_eq!(
+        spoilt(&|image| put64(image, entry_field(2, 2), u64::MAX)),
+        (fault::NAME_OR_SIZE, 2)
+    );
+    assert_eq!(
+        spoilt(&|image| put64(image, entry_field(2, 2), 5 * 65_536)),
+        (fault::EXTENTS, 2)
+    );
+    assert_eq!(
+        spoilt(&|image| image[entry_field(3, 2)..entry_field(4, 0)].fill(0)),
+        (0, 0)
+    );
+    assert_eq!(
+        spoilt(&|image| image[entry_field(3, 2)..entry_field(4, 0)].fill(1)),
+        (0, 0)
+    );
+    // 23: names compared over their whole length, from byte 36 on.
+    assert_eq!(
+        spoilt(&|image| put16(image, entry_field(2, 34), 2)),
+        (fault::SAME_NAME, 2)
+    );
+    assert_eq!(
+        spoilt(&|image| put16(image, entry_field(2, 34), 1)),
+        (fault::SAME_NAME, 2)
+    );
+    assert_eq!(spoilt(&|image| image[entry_field(2, 39)] = b'x'), (0, 0));
+    // 24: zero, the root's, a lower entry's; not a free entry's.
+    assert_eq!(
+        spoilt(&|image| put64(image, entry_field(4, 14), 0)),
+        (fault::ID, 4)
+    );
+    assert_eq!(
+        spoilt(&|image| put64(image, entry_field(4, 14), 900)),
+        (fault::ID, 4)
+    );
+    assert_eq!(
+        spoilt(&|image| put64(image, entry_field(4, 14), 6)),
+        (fault::ID, 5)
+    );
+    assert_eq!(spoilt(&|image| put64(image, 512 + 4, 1)), (fault::ID, 0));
+    assert_eq!(
+        spoilt(&|image| {
+            put64(image, entry_field(3, 14), 1);
+            put64(image, 512 + 4, 0);
+        }),
+        (0, 0)
+    );
+    // 25: a free file, no file, and the reserve; the offset of a free extent isn't judged.
+    assert_eq!(
+        spoilt(&|image| put16(image, table_field(4, 0), 3)),
+        (fault::TABLE_ENTRY, 4)
+    );
+    assert_eq!(
+        spoilt(&|image| put16(image, table_field(0, 0), 255)),
+        (fault::TABLE_ENTRY, 0)
+    );
+    assert_eq!(
+        spoilt(&|image| put16(image, table_field(0, 0), 65_534)),
+        (fault::TABLE_ENTRY, 0)
+    );
+    assert_eq!(
+        spoilt(&|image| put16(image, table_field(5, 0), 4)),
+        (fault::TABLE_ENTRY, 5)
+    );
+    assert_eq!(spoilt(&|image| put16(image, table_field(5, 2), 4)), (0, 0));
+    assert_eq!(
+        spoilt(&|image| image[table_field(6, 0)..table_field(128, 0)].fill(0)),
+        (0, 0)
+    );
+    // 26: one too many, one too few, twice the same offset, an offset too large.
+    assert_eq!(
+        spoilt(&|image| put64(image, entry_field(1, 2), 131_072)),
+        (fault::EXTENTS, 1)
+    );
+    assert_eq!(
+        spoilt(&|image| put64(image, entry_field(1, 2), 3 * 65_536 + 1)),
+        (fault::EXTENTS, 1)
+    );
+    assert_eq!(
+        spoilt(&|image| put64(image, entry_field(1, 2), 3 * 65_536)),
+        (0, 0)
+    );
+    assert_eq!(
+        spoilt(&|image| put16(image, table_field(0, 2), 1)),
+        (fault::EXTENTS, 1)
+    );
+    assert_eq!(
+        spoilt(&|image| put16(image, table_field(0, 2), 3)),
+        (fault::EXTENTS, 1)
+    );
+    assert_eq!(
+        spoilt(&|image| put16(image, table_field(0, 0), 65_535)),
+        (fault::EXTENTS, 1)
+    );
+    assert_eq!(
+        spoilt(&|image| put16(image, table_field(0, 0), 0)),
+        (fault::EXTENTS, 0)
+    );
+}
+
+/// Changes a byte or two where it matters.
+fn spoil(image: &mut [u8], draw: &mut Draw) {
+    let index = draw.below(8);
+    let other = draw.below(8);
+    match draw.below(14) {
+        0 => put16(
+            image,
+            entry_field(draw.pick(&[index, 254]).to_owned(), 0),
+            *draw.pick(&[0, 1, 65_534, 65_535]),
+        ),
+        1 => put64(image, entry_field(index, 2), draw.number()),
+        2 => put64(
+            image,
+            entry_field(index, 2),
+            (draw.below(8) * 65_536 + draw.below(3)).wrapping_sub(1),
+        ),
+        3 => put64(
+            image,
+            entry_field(index, 14),
+            *draw.pick(&[0, 900, 1, 2, 3, 4, 5, 6, 7]),
+        ),
+        4 => put16(
+            image,
+            entry_field(index, 34),
+            *draw.pick(&[0, 1, 2, 3, 476, 477, 65_535]),
+        ),
+        5 => image[entry_field(index, 36 + draw.below(4) as usize)] = *draw.pick(b"\0abc"),
+        6 => {
+            let name: Vec<u8> = image[entry_field(other, 34)..entry_field(other, 512)].to_vec();
+            image[entry_field(index, 34)..entry_field(index, 512)].copy_from_slice(&name);
+        }
+        7 | 8 => put16(
+            image,
+            table_field(draw.below(6), 0),
+            *draw.pick(&[0, 1, 2, 3, 4, 5, 6, 254, 255, 65_535]),
+        ),
+        9 | 10 => put16(
+            image,
+            table_field(draw.below(6), 2),
+            *draw.pick(&[0, 1, 2, 3, 65_535]),
+        ),
+        11 => put64(image, 512 + 4, draw.below(8)),
+        12 => put16(
+            image,
+            18,
+            *draw.pick(&[0, 0, 0, 1, 1_024, 1_025, 65_534, 65_535]),
+        ),
+        _ => {
+            let (from, to) = (table_field(draw.below(6), 0), table_field(draw.below(6), 0));
+            let entry: [u8; 4] = image[from..from + 4].try_into().unwrap();
+            image[to..to + 4].copy_from_slice(&entry);
+        }
+    }
+}
+
+#[test]
+fn spoilt_images_against_the_slow_judge() {
+    let sound = some_files().image;
+    let metadata = 290 * SECTOR;
+    let mut image = sound.clone();
+    let mut draw = Draw::new(21);
+    let mut seen = std::collections::BTreeMap::new();
+    for _ in 0..20_000 {
+        image[..metadata].copy_from_slice(&sound[..metadata]);
+        for _ in 0..draw.between(1, 3) {
+            spoil(&mut image, &mut draw);
+        }
+        let answer = judged_alike(&image);
+        *seen.entry((answer.code, answer.fault)).or_insert(0) += 1;
+    }
+    for kind in [
+        (0, 0),
+        (4, 0),
+        (5, 0),
+        (6, 0),
+        (7, 21),
+        (7, 22),
+        (7, 23),
+        (7, 24),
+        (7, 25),
+        (7, 26),
+    ] {
+        assert!(
+            seen.get(&kind).copied().unwrap_or(0) > 100,
+            "{kind:?} is too rare: {seen:?}"
+        );
+    }
+}
+
+/// Images of any length and bytes: nothing panics, and summary, check and recovery agree with the
+/// slow judge.
+#[test]
+fn any_bytes() {
+    let mut draw = Draw::new(22);
+    let mut seen = std::collections::BTreeMap::new();
+    for _ in 0..3_000 {
+        let sectors = *draw.pick(&[0, 1, 2, 300, 546, 547]);
+        let odd = if draw.one_in(8) {
+            draw.below(512) as usize
+        } else {
+            0
+        };
+        let mut image = vec![0; sectors * SECTOR + odd];
+        if draw.one_in(2) {
+            draw.fill(&mut image);
+        }
+        if image.len() >= SECTOR {
+            put16(
+                &mut image,
+                0,
+                *draw.pick(&[255, 255, 256, 254, 0, 1_025, 65_535]),
+            );
+            put16(&mut image, 2, *draw.pick(&[2, 2, 2, 1, 0, 65_535]));
+            put32(
+                &mut image,
+                4,
+                *draw.pick(&[128, 128, 128, 127, 0, u32::MAX]),
+            );
+            if !draw.one_in(8) {
+                image[8..16].copy_from_slice(b"/Goo/FS/");
+            }
+            put16(&mut image, 16, if draw.one_in(8) { 2 } else { 1 });
+            put16(
+                &mut image,
+                18,
+                *draw.pick(&[0, 0, 1, 2, 514, 1_024, 1_025, 65_535]),
+            );
+        }
+        let answer = judged_alike(&image);
+        *seen.entry(answer.code).or_insert(0) += 1;
+        let told = summary(&image);
+        let recovered = recover(&image, &mut vec![0; super::ANY_LIST]);
+        if answer.code <= 3 && answer.code > 0 {
+            assert_eq!((told.code, recovered.code), (answer.code, answer.code));
+            assert_eq!((told.files, told.extents, told.extent_sectors), (0, 0, 0));
+            assert_eq!((told.state, told.entries), (0, 0));
+            assert_eq!(told.reserve_at(), Err(3));
+        } else {
+            let expected_state = match answer.code {
+                4 => 3,
+                5 => 1,
+                6 => 2,
+                _ => 0,
+            };
+            assert_eq!((told.code, told.state), (0, expected_state));
+            match answer.code {
+                0 | 7 => assert_eq!((recovered.code, recovered.length), (0, 0)),
+                4 | 6 => assert_eq!(recovered.code, answer.code),
+                _ => assert!([0, 6, 14].contains(&recovered.code)),
+            }
+        }
+    }
+    assert!((1..=7).all(|code| seen.contains_key(&code)), "{seen:?}");
+}
+
+/// Format is asked with any arguments too.
+#[test]
+fn any_format() {
+    let mut draw = Draw::new(23);
+    let mut accepted = 0;
+    for _ in 0..20_000 {
+        let request = FormatRequest {
+            sectors: draw.number() >> draw.below(64),
+            files: *draw.pick(&[0, 254, 255, 256, 1_024, 1_025, u64::MAX]),
+            id: draw.number(),
+            mode: draw.number() as u32,
+            time: draw.number() as u32,
+        };
+        let mut record = [0; 520];
+        let position = draw.number() >> draw.below(64);
+        let answer = format_record(&request, position, &mut record);
+        // The geometry by the definition: the first size of an extent that is large enough.
+        let room = request
+            .sectors
+            .saturating_sub(546 + request.files.min(1 << 20));
+        let size = (7..=31)
+            .map(|power| 1_u64 << power)
+            .find(|size| room / size <= 65_535);
+        let expected = match size {
+            Some(size) if (255..=1_024).contains(&request.files) && room / size >= 2 => {
+                let extents = room / size;
+                let geometry = request.geometry().expect("there is one");
+                assert_eq!(
+                    (geometry.extents(), geometry.extent_sectors()),
+                    (extents, size)
+                );
+                accepted += 1;
+                if position < request.files + extents.div_ceil(128) + 6 {
+                    0
+                } else {
+                    9
+                }
+            }
+            _ => 8,
+        };
+        assert_eq!(answer.code, expected);
+    }
+    assert!(accepted > 1_000);
+}

@@ -1,0 +1,492 @@
+//! The numbers that a call gives back, their order, and the edges of single calls.
+
+use super::{create, delete, find, formatted, read, resize, sample_image, write, Volume, SAMPLE};
+use crate::answers::{code, state, FormatRecordAnswer, SummaryAnswer};
+use crate::layout::{get32, put16, put32, Geometry, SECTOR};
+use crate::lists::{BARRIER, RECORD};
+use crate::request::{Answer, Request};
+use crate::{carry_out, check, format_record, recover, summary, FormatRequest};
+
+fn one_of_each_call() -> Vec<Request> {
+    vec![
+        Request::Check,
+        find(b"a"),
+        Request::List { index: 0 },
+        read(b"a", 0, 1),
+        create(b"b", 2),
+        delete(b"a"),
+        resize(b"a", 1),
+        write(b"a", 0, vec![1]),
+    ]
+}
+
+fn code_of(request: &Request, image: &[u8], buffer_length: usize) -> u64 {
+    super::ask(request, image, buffer_length).0.code()
+}
+
+#[test]
+fn images_that_are_no_volume() {
+    let mut volume = Volume::sample();
+    volume.done(&create(b"a", 1));
+    let sample = volume.image;
+    let geometry = summary(&sample).geometry().unwrap();
+    let volume_bytes = geometry.end().0 as usize * SECTOR;
+    let with = |at: usize, bytes: &[u8]| {
+        let mut image = sample.clone();
+        image[at..at + bytes.len()].copy_from_slice(bytes);
+        image
+    };
+    let images = [
+        (1, Vec::new()),
+        (1, sample[..SECTOR - 1].to_vec()),
+        (1, sample[..sample.len() - 1].to_vec()),
+        (2, with(8, b"/goo/FS/")),
+        (2, with(15, b" ")),
+        (2, with(16, &[0, 2])),
+        (2, with(16, &[1, 1])),
+        (3, with(0, &[0, 254])),
+        (3, with(0, &[4, 1])),
+        (3, with(2, &[0, 1])),
+        (3, with(2, &[0, 8])),
+        (3, with(4, &[0, 0, 0, 127])),
+        (3, with(4, &[255, 255, 255, 255])),
+        (3, sample[..volume_bytes - SECTOR].to_vec()),
+        (0, sample[..volume_bytes].to_vec()),
+    ];
+    for (expected, image) in images {
+        for request in one_of_each_call() {
+            assert_eq!(code_of(&request, &image, super::ANY_LIST), expected);
+        }
+        assert_eq!(recover(&image, &mut []).code, expected);
+        let told = summary(&image);
+        assert_eq!(told.code, expected);
+        if expected != 0 {
+            assert_eq!(
+                told,
+                SummaryAnswer {
+                    code: expected,
+                    ..SummaryAnswer::default()
+                }
+            );
+            assert_eq!(
+                (told.journal_at(), told.table_at(), told.data_at()),
+                (Err(3), Err(3), Err(3))
+            );
+        }
+        if expected == 1 {
+            assert_eq!(carry_out(&mut image.clone(), &[]), 1);
+        }
+    }
+}
+
+#[test]
+fn every_state() {
+    let mut volume = Volume::sample();
+    volume.done(&create(b"a", 1));
+    let mut image = volume.image;
+    // A bad mark besides: the state is told first.
+    put16(&mut image, 2 * SECTOR, 5);
+    let lengths = [
+        (0, code::NOT_SOUND, state::CLEAN, 0),
+        (1, code::WAITING, state::WAITING, 1),
+        (1_024, code::WAITING, state::WAITING, 1_024),
+        (1_025, code::DAMAGED, state::DAMAGED, 0),
+        (65_534, code::DAMAGED, state::DAMAGED, 0),
+        (65_535, code::UNFINISHED, state::UNFINISHED, 0),
+    ];
+    for (length, refusal, expected_state, entries) in lengths {
+        put16(&mut image, 18, length);
+        for request in one_of_each_call() {
+            assert_eq!(code_of(&request, &image, super::ANY_LIST), refusal);
+        }
+        let told = summary(&image);
+        assert_eq!(
+            (told.code, told.state, told.entries),
+            (0, expected_state, entries)
+        );
+        assert_eq!(
+            (told.files, told.extents, told.extent_sectors),
+            (255, 4, 128)
+        );
+        assert_eq!(told.reserve_at().unwrap().0, 674);
+        let recovered = recover(&image, &mut []).code;
+        match refusal {
+            code::NOT_SOUND => assert_eq!(recovered, 0),
+            // The journal after one create holds two entries, so a longer one is bad.
+            code::WAITING => assert_eq!(recovered, if length == 1 { 14 } else { 6 }),
+            _ => assert_eq!(recovered, refusal),
+        }
+    }
+}
+
+/// Calls in the order of their refusals: each has all the later reasons too.
+#[test]
+fn lowest_number_first() {
+    let mut volume = Volume::sample();
+    volume.done(&create(b"a", 1));
+    volume.done(&create(b"full", 2));
+    for size in 1..=3 {
+        volume.done(&resize(b"full", size * 65_536));
+    }
+    let image = volume.image.clone();
+    let answers = [
+        (8, create(b"", 1)),
+        (8, create(b"a\0", 1)),
+        (8, create(b"a", 0)),
+        (10, create(b"a", 3)),
+        (10, create(b"c", 2)),
+        (10, create(b"c", 900)),
+        (14, create(b"c", 3)),
+        (8, delete(&[b'a'; 477])),
+        (9, delete(b"aa")),
+        (14, delete(b"a")),
+        (8, find(b"")),
+        (9, find(b"ful")),
+        (0, find(b"full")),
+        (8, Request::List { index: 255 }),
+        (8, Request::List { index: u64::MAX }),
+        (9, Request::List { index: 254 }),
+        (14, Request::List { index: 0 }),
+        (8, read(b"none", u64::MAX, 65_537)),
+        (8, read(b"\0", 0, 0)),
+        (9, read(b"none", u64::MAX, 65_536)),
+        (12, read(b"a", 1, 65_536)),
+        (12, read(b"full", u64::MAX, 65_536)),
+        (0, read(b"a", 0, 65_536)),
+        (14, read(b"full", 0, 1)),
+        (0, read(b"full", 3 * 65_536, 1)),
+        (8, write(b"none", u64::MAX, vec![0; 65_537])),
+        (8, write(b"", u64::MAX, Vec::new())),
+        (9, write(b"none", u64::MAX, Vec::new())),
+        (12, write(b"a", 1, Vec::new())),
+        (12, write(b"a", u64::MAX, vec![1])),
+        (13, write(b"a", 0, vec![1])),
+        (13, write(b"full", 3 * 65_536, vec![1])),
+        (14, write(b"full", 3 * 65_536 - 1, vec![1])),
+        (0, write(b"a", 0, Vec::new())),
+        (8, resize(b"a\0", u64::MAX)),
+        (9, resize(b"none", u64::MAX)),
+        (8, resize(b"a", 65_537)),
+        (8, resize(b"full", u64::MAX)),
+        (13, resize(b"a", 1)),
+        (13, resize(b"a", 65_536)),
+        (14, resize(b"full", 0)),
+        (0, resize(b"full", 3 * 65_536)),
+    ];
+    for (expected, request) in answers {
+        let (answer, filled) = super::ask(&request, &image, 0);
+        assert_eq!(answer.code(), expected, "{request:?}");
+        assert!(filled.is_empty());
+        assert_eq!(volume.ledger.call(&request, 0).answer, answer);
+    }
+}
+
+#[test]
+fn directory_full() {
+    let mut volume = Volume::sample();
+    let name = |number: u64| format!("file {number}").into_bytes();
+    for number in 1..=255 {
+        volume.done(&create(&name(number), number));
+    }
+    assert_eq!(
+        volume.call(&create(&name(256), 256)).0,
+        code::DIRECTORY_FULL
+    );
+    assert_eq!(volume.call(&create(&name(256), 255)).0, code::ALREADY_THERE);
+    volume.done(&delete(&name(200)));
+    volume.done(&delete(&name(100)));
+    // The lowest free entry, and an id that is free again.
+    volume.done(&create(&name(256), 200));
+    let (answer, _) = super::ask(&find(&name(256)), &volume.image, 0);
+    assert!(matches!(answer, Answer::Find(found) if found.index == 99 && found.id == 200));
+}
+
+/// Versions wrap and times go back.
+#[test]
+fn versions_and_times() {
+    let mut volume = Volume::sample();
+    volume.done(&create(b"a", 1));
+    let mut image = volume.image;
+    put32(&mut image, SECTOR, u32::MAX);
+    put32(&mut image, 2 * SECTOR + 10, u32::MAX);
+    for (request, version_at, time_at) in [
+        (
+            Request::Create {
+                name: b"b".to_vec(),
+                id: 2,
+                mode: 0,
+                time: 1,
+            },
+            SECTOR,
+            SECTOR + 20,
+        ),
+        (
+            Request::Write {
+                name: b"a".to_vec(),
+                offset: 0,
+                data: vec![1],
+                time: 1,
+            },
+            2 * SECTOR + 10,
+            2 * SECTOR + 30,
+        ),
+    ] {
+        let (_, list) = super::ask(&request, &image, super::ANY_LIST);
+        assert!(get32(&image, time_at) > 1);
+        assert_eq!(carry_out(&mut image, &list), 0);
+        assert_eq!((get32(&image, version_at), get32(&image, time_at)), (0, 1));
+    }
+    assert_eq!(check(&image).code, 0);
+}
+
+/// The reserve is just large enough for root, entry and table.
+#[test]
+fn reserves() {
+    let reserve = |extents, extent_sectors| {
+        Geometry::new(255, extents, extent_sectors)
+            .unwrap()
+            .reserve_extents()
+    };
+    assert_eq!(reserve(65_535, 128), 5);
+    assert_eq!(reserve(126 * 128, 128), 1);
+    assert_eq!(reserve(126 * 128 + 1, 128), 2);
+    assert_eq!(reserve(127 * 128, 129), 1);
+    assert_eq!(reserve(2, 128), 1);
+    assert_eq!(reserve(2, u64::from(u32::MAX)), 1);
+    for (files, extents, extent_sectors) in [
+        (254, 2, 128),
+        (1_025, 2, 128),
+        (255, 1, 128),
+        (255, 65_536, 128),
+        (255, 2, 127),
+        (255, 2, 1 << 32),
+    ] {
+        assert_eq!(Geometry::new(files, extents, extent_sectors), None);
+        let told = SummaryAnswer {
+            files,
+            extents,
+            extent_sectors,
+            ..SummaryAnswer::default()
+        };
+        assert_eq!(told.reserve_at(), Err(code::OUT_OF_BOUNDS));
+    }
+}
+
+#[test]
+fn carrying_out() {
+    let record = |number: u64, byte: u8| {
+        let mut record = number.to_be_bytes().to_vec();
+        record.extend([byte; SECTOR]);
+        record
+    };
+    let lent = super::lent(3 * SECTOR);
+    let after = |list: &[u8]| {
+        let mut image = lent.clone();
+        let code = carry_out(&mut image, list);
+        (code, image)
+    };
+    assert_eq!(after(&[]), (0, lent.clone()));
+    assert_eq!(after(&record(BARRIER, 0)), (0, lent.clone()));
+    // A later write to the same sector wins.
+    let twice = [record(2, 1), record(BARRIER, 0), record(2, 5), record(0, 6)].concat();
+    let mut expected = lent.clone();
+    expected[..SECTOR].fill(6);
+    expected[2 * SECTOR..].fill(5);
+    assert_eq!(after(&twice), (0, expected));
+    // A good record before the bad one is not carried out either.
+    let good = record(0, 1);
+    let bad = [
+        record(3, 0),
+        record(BARRIER - 1, 0),
+        record(1 << 55, 0),
+        record(BARRIER, 1),
+        [&BARRIER.to_be_bytes()[..], &[0; SECTOR - 1], &[1]].concat(),
+        record(1, 0)[..RECORD - 1].to_vec(),
+        vec![0],
+    ];
+    for bad in bad {
+        assert_eq!(
+            after(&[good.clone(), bad.clone()].concat()),
+            (8, lent.clone())
+        );
+        assert_eq!(after(&bad), (8, lent.clone()));
+    }
+    assert_eq!(carry_out(&mut [], &[1]), 1);
+    assert_eq!(carry_out(&mut [0; 513], &good), 1);
+}
+
+#[test]
+fn format_records() {
+    let request = FormatRequest {
+        sectors: 546 + 300 + 129 * 128,
+        files: 300,
+        id: 0,
+        mode: 5,
+        time: 6,
+    };
+    let geometry = request.geometry().unwrap();
+    assert_eq!((geometry.extents(), geometry.table_sectors()), (129, 2));
+    let record = |position| {
+        let mut output = super::lent(RECORD + 3);
+        let answer = format_record(&request, position, &mut output);
+        assert_eq!((answer.code, answer.length), (0, RECORD as u64));
+        let output = super::kept_rest(output, RECORD);
+        (
+            u64::from_be_bytes(output[..8].try_into().unwrap()),
+            output[8..].to_vec(),
+        )
+    };
+    let contents = |start: &[u8]| [start, &vec![0; SECTOR - start.len()]].concat();
+    let superblock = |length: &[u8]| {
+        contents(
+            &[
+                &[1, 44, 0, 129, 0, 0, 0, 128],
+                &b"/Goo/FS/"[..],
+                &[0, 1],
+                length,
+            ]
+            .concat(),
+        )
+    };
+    let root = contents(&[&[0; 12][..], &[0, 0, 0, 5, 0, 0, 0, 6, 0, 0, 0, 6]].concat());
+    let barrier = (BARRIER, vec![0; SECTOR]);
+    assert_eq!(record(0), (0, superblock(&[255, 255])));
+    assert_eq!(record(1), barrier);
+    assert_eq!(record(2), (1, root));
+    for entry in 0..300 {
+        assert_eq!(record(3 + entry), (2 + entry, vec![0; SECTOR]));
+    }
+    for table in 0..2 {
+        assert_eq!(record(303 + table), (334 + table, vec![255; SECTOR]));
+    }
+    assert_eq!(record(305), barrier);
+    assert_eq!(record(306), (0, superblock(&[0, 0])));
+    assert_eq!(record(307), barrier);
+    assert_eq!(request.records(), Some(308));
+
+    let refusal = |request: &FormatRequest, position, length| {
+        let mut output = super::lent(length);
+        let answer = format_record(request, position, &mut output);
+        super::kept_rest(output, 0);
+        assert_eq!(
+            answer,
+            FormatRecordAnswer {
+                code: answer.code,
+                length: 0
+            }
+        );
+        answer.code
+    };
+    assert_eq!(refusal(&request, 308, 0), 9);
+    assert_eq!(refusal(&request, u64::MAX, RECORD), 9);
+    assert_eq!(refusal(&request, 307, RECORD - 1), 14);
+    assert_eq!(
+        refusal(
+            &FormatRequest {
+                files: 254,
+                ..request
+            },
+            308,
+            0
+        ),
+        8
+    );
+    assert_eq!(
+        refusal(
+            &FormatRequest {
+                files: 1_025,
+                ..request
+            },
+            0,
+            RECORD
+        ),
+        8
+    );
+    assert_eq!(
+        refusal(
+            &FormatRequest {
+                files: u64::MAX,
+                ..request
+            },
+            0,
+            RECORD
+        ),
+        8
+    );
+    assert_eq!(
+        refusal(
+            &FormatRequest {
+                sectors: 0,
+                ..request
+            },
+            0,
+            RECORD
+        ),
+        8
+    );
+    assert_eq!(
+        refusal(
+            &FormatRequest {
+                sectors: 845,
+                ..request
+            },
+            0,
+            RECORD
+        ),
+        8
+    );
+    assert_eq!(
+        refusal(
+            &FormatRequest {
+                sectors: u64::MAX,
+                ..request
+            },
+            0,
+            RECORD
+        ),
+        8
+    );
+    let most = FormatRequest {
+        sectors: (1 << 47) + 545 + 300,
+        ..request
+    };
+    assert_eq!(most.geometry(), Geometry::new(300, 65_535, 1 << 31));
+    assert_eq!(
+        FormatRequest {
+            sectors: most.sectors + 1,
+            ..most
+        }
+        .geometry(),
+        None
+    );
+}
+
+/// A root id of 0 is allowed, and a longer image than the volume.
+#[test]
+fn odd_volumes() {
+    let mut image = formatted(&FormatRequest { id: 0, ..SAMPLE });
+    image.extend([9; SECTOR]);
+    assert_eq!(check(&image).code, 0);
+    assert_eq!(code_of(&create(b"a", 1), &image, super::ANY_LIST), 0);
+    assert_eq!(summary(&image), summary(&sample_image()));
+}
+
+/// A new extent keeps its old bytes outside the span, and the edge of an extent takes no further
+/// one.
+#[test]
+fn extent_edges() {
+    let mut volume = Volume::sample();
+    volume.done(&create(b"a", 1));
+    let data_at = 290 * SECTOR;
+    let old = volume.image[data_at..data_at + SECTOR].to_vec();
+    volume.done(&write(b"a", 0, vec![1, 2, 3]));
+    assert_eq!(volume.image[data_at..data_at + 3], [1, 2, 3]);
+    assert_eq!(volume.image[data_at + 3..data_at + SECTOR], old[3..]);
+    volume.done(&write(b"a", 3, vec![4; 65_533]));
+    assert_eq!(volume.ledger.slots()[0].as_ref().unwrap().extents.len(), 1);
+    volume.done(&write(b"a", 65_536, vec![5]));
+    assert_eq!(volume.ledger.slots()[0].as_ref().unwrap().extents.len(), 2);
+    assert_eq!(volume.done(&read(b"a", 65_535, 65_536)), [4, 5]);
+    volume.done(&resize(b"a", 65_536));
+    assert_eq!(volume.ledger.slots()[0].as_ref().unwrap().extents.len(), 1);
+}

@@ -7,3 +7,5 @@ pub mod Entry
 pub mod Refusals
 pub mod Catalogue
 pub mod WriteList
+pub mod Judged
+pub mod Named

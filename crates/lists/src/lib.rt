@@ -4,7 +4,7 @@ ghost use mathlib.Core.Path.{_≡_};
 ghost use mathlib.Core.List.{[], _∷_, _++_};
 ghost use Prim.Native.Nat.{_+_, _*_, _≤_, _<_};
 ghost use lib.ListN.{length};
-ghost use Rattle.model.specs.Bytes.{beBytes, put};
+ghost use Rattle.model.specs.Bytes.{beBytes, run, put};
 ghost use Rattle.model.specs.Disk.{view};
 ghost use Rattle.model.specs.Superblock.{withJournalLength};
 ghost use Rattle.model.specs.WriteList.{sectorWrite, barrier, Emitted};
@@ -14,9 +14,18 @@ pub fn put_sector(list: &mut [u8], k: usize, sector: Sector, s: [u8; 512]) -> us
     requires { ⌜ (k + 1) * 520 ≤ length (now list) ⌝ }
     ensures { λ r. ⌜ Emitted (now (list .entry)) k (sectorWrite (sector .0) s ∷ []) (now (list .exit)) r ⌝ }
 {
+    put_from(list, k, sector, &s, 0)
+}
+
+// Record k: a sector's number and its new contents, the 512 bytes of `src` from `from` on.
+pub fn put_from(list: &mut [u8], k: usize, sector: Sector, src: &[u8], from: usize) -> usize
+    requires { ⌜ (k + 1) * 520 ≤ length (now list) ⌝ }
+    requires { ⌜ from + 512 ≤ length (now src) ⌝ }
+    ensures { λ r. ⌜ Emitted (now (list .entry)) k (sectorWrite (sector .0) (run (now (src .entry)) from 512) ∷ []) (now (list .exit)) r ⌝ }
+{
     let at = k * 520;
     fields::put_be(list, at, 8, sector.0);
-    fields::copy_run(&s, 0, list, at + 8, 512);
+    fields::copy_run(src, from, list, at + 8, 512);
     k + 1
 }
 

@@ -3,16 +3,13 @@
 //! data sectors did.
 //!
 //! It shares with the calls only the geometry; answers, list lengths and the choice of entries and
-//! extents are worked out here a second time.
+//! extents are worked out here a second time. How an image is held against it stands in `compare`.
 
 use crate::answers::{
     code, ChangeAnswer, CheckAnswer, FindAnswer, ListAnswer, ReadAnswer, Refusal, SummaryAnswer,
 };
 use crate::format::FormatRequest;
-use crate::layout::{
-    get16, get32, get64, root, sector, superblock, Entry, Extent, FileIndex, Geometry, Sector,
-    NO_FILE, SECTOR,
-};
+use crate::layout::{Extent, Geometry, SECTOR};
 use crate::request::{Answer, Request};
 
 /// The fields of the root record.
@@ -224,6 +221,7 @@ impl Ledger {
                 data,
                 time,
             } => self.write(name, *offset, data, *time)?,
+            // The other calls have no list.
             _ => (0, Change::Nothing),
         };
         if buffer_length < length {
@@ -241,7 +239,8 @@ impl Ledger {
             .ok_or(Refusal::new(code::NOT_THERE))
     }
 
-    fn files(&self) -> impl Iterator<Item = (usize, &File)> {
+    /// The slots that are not free, with their index.
+    pub fn files(&self) -> impl Iterator<Item = (usize, &File)> {
         self.slots
             .iter()
             .enumerate()
@@ -496,132 +495,6 @@ impl Ledger {
         file.version = file.version.wrapping_add(1);
         file.change_time = time;
         file
-    }
-
-    /// Whether the image says what the ledger holds: geometry, clean, root, directory, table and
-    /// the bytes of each file. The journal, free extents, the reserve and bytes past a file's end
-    /// are not looked at. The error tells the first difference.
-    pub fn compare(&self, image: &[u8]) -> Result<(), String> {
-        if !image.len().is_multiple_of(SECTOR)
-            || ((image.len() / SECTOR) as u64) < self.geometry.end().0
-        {
-            return Err(format!(
-                "the volume does not fit the image of {} bytes",
-                image.len()
-            ));
-        }
-        self.compare_superblock(sector(image, Sector(0)))?;
-        self.compare_root(sector(image, self.geometry.root_at()))?;
-        for (index, slot) in self.slots.iter().enumerate() {
-            let entry = Entry(sector(
-                image,
-                self.geometry.entry_at(FileIndex(index as u64)),
-            ));
-            compare_entry(slot.as_ref(), entry)
-                .map_err(|difference| format!("entry {index}: {difference}"))?;
-        }
-        self.compare_table(image)?;
-        for (index, file) in self.files() {
-            for (offset, (bytes, extent)) in file
-                .bytes
-                .chunks(self.geometry.extent_bytes() as usize)
-                .zip(&file.extents)
-                .enumerate()
-            {
-                let at = self.geometry.extent_at(*extent).0 as usize * SECTOR;
-                if image[at..at + bytes.len()] != *bytes {
-                    return Err(format!("file {index}: bytes differ in its extent {offset}"));
-                }
-            }
-        }
-        Ok(())
-    }
-
-    fn compare_superblock(&self, found: &[u8; SECTOR]) -> Result<(), String> {
-        let magic_length = superblock::MAGIC_TEXT.len();
-        let magic = &found[superblock::MAGIC..superblock::MAGIC + magic_length];
-        same("magic", &superblock::MAGIC_TEXT[..], magic)?;
-        same(
-            "volume version",
-            superblock::THIS_VERSION,
-            get16(found, superblock::VERSION),
-        )?;
-        same(
-            "files",
-            self.geometry.files(),
-            u64::from(get16(found, superblock::FILES)),
-        )?;
-        same(
-            "extents",
-            self.geometry.extents(),
-            u64::from(get16(found, superblock::EXTENTS)),
-        )?;
-        let extent_sectors = u64::from(get32(found, superblock::EXTENT_SECTORS));
-        same(
-            "extent sectors",
-            self.geometry.extent_sectors(),
-            extent_sectors,
-        )?;
-        same(
-            "journal length",
-            0,
-            get16(found, superblock::JOURNAL_LENGTH),
-        )
-    }
-
-    fn compare_root(&self, found: &[u8; SECTOR]) -> Result<(), String> {
-        let found = Root {
-            version: get32(found, root::VERSION),
-            id: get64(found, root::ID),
-            mode: get32(found, root::MODE),
-            access_time: get32(found, root::ACCESS_TIME),
-            change_time: get32(found, root::CHANGE_TIME),
-        };
-        same("root", &self.root, &found)
-    }
-
-    fn compare_table(&self, image: &[u8]) -> Result<(), String> {
-        let mut expected = vec![None; self.geometry.extents() as usize];
-        for (index, file) in self.files() {
-            for (offset, extent) in file.extents.iter().enumerate() {
-                expected[extent.0 as usize] = Some((index as u16, offset as u16));
-            }
-        }
-        for (extent, expected) in expected.into_iter().enumerate() {
-            let (table_sector, at) = self.geometry.table_place(Extent(extent as u64));
-            let found = sector(image, table_sector);
-            let (owner, offset) = (get16(found, at), get16(found, at + 2));
-            let found = if owner == NO_FILE {
-                None
-            } else {
-                Some((owner, offset))
-            };
-            same("table entry", expected, found)
-                .map_err(|text| format!("extent {extent}: {text}"))?;
-        }
-        Ok(())
-    }
-}
-
-fn compare_entry(slot: Option<&File>, entry: Entry) -> Result<(), String> {
-    let Some(file) = slot else {
-        return same("mark", 0, entry.mark());
-    };
-    same("mark", 65_535, entry.mark())?;
-    same("size", file.bytes.len() as u64, entry.size())?;
-    same("version", file.version, entry.version())?;
-    same("id", file.id, entry.id())?;
-    same("mode", file.mode, entry.mode())?;
-    same("access time", file.access_time, entry.access_time())?;
-    same("change time", file.change_time, entry.change_time())?;
-    same("name", Some(&file.name[..]), entry.name())
-}
-
-fn same<T: PartialEq + std::fmt::Debug>(what: &str, expected: T, found: T) -> Result<(), String> {
-    if expected == found {
-        Ok(())
-    } else {
-        Err(format!("{what} is {found:?}, not {expected:?}"))
     }
 }
 

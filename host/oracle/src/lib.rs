@@ -13,14 +13,15 @@
 //! - `report`: the text of the small program that describes a superblock.
 //!
 //! What a run of calls must answer is told a second time, without image and list, by `ledger`,
-//! which is fed the `request`s. `power` cuts lists, and `draw` is the generator behind its random
-//! choices.
+//! which is fed the `request`s; `compare` holds an image against it. `power` cuts lists, and `draw`
+//! is the generator behind its random choices.
 
 #![forbid(unsafe_code)]
 
 pub mod answers;
 pub mod calls;
 pub mod changes;
+mod compare;
 pub mod draw;
 pub mod format;
 pub mod judge;

@@ -1,42 +1,25 @@
-use Rattle.laws.proofs.WriteList.{emit-run}
-use mathlib.Core.Path.{refl}
+use mathlib.Core.Path.{_≡_}
+use lib.ListN.{length}
+use Rattle.laws.proofs.Bytes.{run-all}
 use borrow.Author.Needs.{needs}
 use Rattle.lists.proofs.put_sector.Statement.{statement}
 use Rattle.lists.proofs.put_sector.Tie as tie
 
-mul-at : tie.Need-mul-at
-mul-at c = search needs
+slice-aggregate-put-from : tie.Need-slice-aggregate-put-from
+slice-aggregate-put-from c = search needs
 
-put-be-requires : tie.Need-put-be-requires
-put-be-requires c κs = search needs
-
-slice-aggregate-copy-run : tie.Need-slice-aggregate-copy-run
-slice-aggregate-copy-run c = search needs
-
-add-copy-run : tie.Need-add-copy-run
-add-copy-run c = search needs
-
-copy-run-requires : tie.Need-copy-run-requires
-copy-run-requires c κs = search needs
-
-add-result : tie.Need-add-result
-add-result c = search needs
+put-from-requires : tie.Need-put-from-requires
+put-from-requires c κs = search needs
 
 same-length : tie.Need-same-length
 same-length c = search needs
 
 returns : tie.Need-returns
-returns c = record { holds = rw emit-run (cc); next = refl }
+returns c =
+    let s = c .before .before .before .before .before .before .args .t4 in
+    let e : length s ≡ 512 = search needs in
+    rw (run-all s 512 e) at (c .before .before .put-from .ensures)
 
 pub put-sector-spec : {M : Type 1} → statement M
 put-sector-spec =
-    tie.close
-    (tie.spec
-    mul-at
-    put-be-requires
-    slice-aggregate-copy-run
-    add-copy-run
-    copy-run-requires
-    add-result
-    same-length
-    returns)
+    tie.close (tie.spec slice-aggregate-put-from put-from-requires same-length returns)

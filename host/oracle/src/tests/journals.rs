@@ -108,11 +108,11 @@ fn all_targets_at_once() {
     assert_eq!(recovered_alike(&image, &entries, &mut draw), code::DAMAGED);
 }
 
-/// The same copy lands in each target.
+/// Recovery lands what the copies hold, sound or not.
 #[test]
 fn recovery_is_not_a_judgement() {
     let mut image = sample_image();
-    // A directory entry with a bad mark comes from the reserve; recovery lands it all the same.
+    // A directory entry with a bad mark.
     image[700 * SECTOR..701 * SECTOR].fill(3);
     let mut draw = Draw::new(33);
     let entries = [(700, 2)];

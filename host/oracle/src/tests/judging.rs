@@ -9,7 +9,8 @@ use crate::ledger::Ledger;
 use crate::request::{Answer, Request};
 use crate::{check, format_record, recover, summary, FormatRequest};
 
-/// Six extents, five of them usable; six files that hold three, one, no, and one extents.
+/// Six extents, five of them usable: "ab" has three, "abc" and "cab" one each. Entry 3 is free
+/// again between occupied ones.
 fn some_files() -> Volume {
     let request = FormatRequest {
         sectors: 546 + 255 + 6 * 128,
@@ -38,7 +39,6 @@ fn some_files() -> Volume {
     volume.done(&resize(b"ab", 131_072));
     volume.done(&resize(b"ab", 131_073));
     volume.done(&write(b"cab", 0, vec![2; 600]));
-    // A free entry between occupied ones.
     volume.done(&super::delete(b"b"));
     volume
 }
@@ -411,7 +411,7 @@ fn spoilt_images_against_the_slow_judge() {
     let mut image = sound.clone();
     let mut draw = Draw::new(21);
     let mut seen = std::collections::BTreeMap::new();
-    for _ in 0..20_000 {
+    for _ in 0..12_000 {
         image[..metadata].copy_from_slice(&sound[..metadata]);
         for _ in 0..draw.between(1, 3) {
             spoil(&mut image, &mut draw);

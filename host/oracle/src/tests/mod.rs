@@ -3,6 +3,7 @@
 
 mod audit;
 mod cases;
+mod comparison;
 mod cuts;
 mod journals;
 mod judging;

@@ -417,12 +417,12 @@ fn run_over_two_table_sectors(seed: u64, counts: &mut Counts) {
 #[test]
 fn random_runs_on_small_volumes() {
     let mut counts = Counts::default();
-    for seed in 1..=1_000 {
+    for seed in 1..=600 {
         small_run(seed, &mut counts);
     }
     let Counts { codes, .. } = counts;
     for expected in [0, 8, 9, 10, 12, 13, 14] {
-        assert!(codes[expected] > 1_000, "{expected} is too rare: {codes:?}");
+        assert!(codes[expected] > 500, "{expected} is too rare: {codes:?}");
     }
     assert_eq!(codes[1..8], [0; 7]);
     assert!(

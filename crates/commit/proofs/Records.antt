@@ -1,0 +1,194 @@
+-- Laws of the records of a write list: what stands in the list after they were put in, copies that grow by a target, the journal,
+-- and how long a plan's list is. Assumes nothing.
+use Prim.Native.Nat.{ℕ, zero, suc, _+_, _-_, _*_, _≤_, _<_, min}
+use mathlib.Core.Path.{_≡_, refl, sym, ap, ap₂, _∙_}
+use mathlib.Core.List.{List, [], _∷_, _++_, append-assoc}
+use mathlib.Core.Option.{some as just}
+use native.Mathlib.Nat.{zero-add, not-suc-le-zero}
+use native.Mathlib.Omega.{arith}
+use lib.ListN.{length, getD, length-append, List·getD-append}
+use lib.Seq.{ext-getD, getD-append-add, getD-append-seam}
+use Rattle.model.specs.declared.Geometry.{Geometry}
+use Rattle.model.specs.Bytes.{beBytes, run, put}
+use Rattle.model.specs.Search.{tab}
+use Rattle.model.specs.Geometry.{superblockAt, journalAt, reserveAt}
+use Rattle.model.specs.Disk.{Disk}
+use Rattle.model.specs.Superblock.{geometryIn}
+use Rattle.model.specs.Journal.{journalSectors, entriesIn, journalSector}
+use Rattle.model.specs.WriteList.{Record, Group, Plan, sectorWrite, barrier, recordSize, recordBytes, listBytes, emit, Emitted, staging, copies, sectorsOf, journalOf, groupA, groupsOf, groupsFor, closedAfter, closed, listLength, recordCount}
+use Rattle.laws.proofs.Bytes.{length-beBytes, run-ext, run-run, run-put-other, run-put-in}
+use Rattle.laws.proofs.Search.{length-tab, getD-tab0, tab-more, tab-ext}
+use Rattle.laws.proofs.WriteList.{length-recordBytes, listBytes-append, length-listBytes, emitted-then}
+
+-- ---- of two strings one after the other
+
+run-left : (a b : List ℕ) (o n : ℕ) → o + n ≤ length a → run (a ++ b) o n ≡ run a o n
+run-left a b o n h = run-ext (a ++ b) a o o n (λ i k. List·getD-append a b 0 (o + i) (omega arith))
+
+run-right : (a b : List ℕ) (l o n : ℕ) → length a ≡ l → run (a ++ b) (l + o) n ≡ run b o n
+run-right a b l o n h =
+    run-ext (a ++ b) b (l + o) o n
+    (λ i k. let e : l + o + i ≡ length a + (o + i) = omega arith in ap (λ x. getD (a ++ b) x 0) e ∙ getD-append-add a b (o + i) 0)
+
+-- ---- what stands in a list
+
+contents-of : (r : Record) → run (recordBytes r) 8 512 ≡ run (r .contents) 0 512
+unfolding recordBytes
+contents-of r =
+    run-right (beBytes 8 (r .sector)) (run (r .contents) 0 512) 8 0 512 (length-beBytes 8 (r .sector))
+    ∙ run-run (r .contents) 0 512 0 512 (omega arith)
+
+contents-in : (rs : List Record) (i : ℕ) → i < length rs → run (listBytes rs) (i * recordSize + 8) 512 ≡ run (getD rs i barrier .contents) 0 512
+unfolding listBytes
+contents-in [] i h = absurd (not-suc-le-zero h)
+contents-in (r ∷ rs) zero h =
+    run-left (recordBytes r) (listBytes rs) 8 512 (omega (arith, length-recordBytes r)) ∙ contents-of r
+contents-in (r ∷ rs) (suc i) h =
+    let e : suc i * recordSize + 8 ≡ 520 + (i * recordSize + 8) = omega arith in
+    ap (λ o. run (recordBytes r ++ listBytes rs) o 512) e
+    ∙ run-right (recordBytes r) (listBytes rs) 520 (i * recordSize + 8) 512 (length-recordBytes r)
+    ∙ contents-in rs i (omega arith)
+
+-- the contents of record i of those that were put in
+pub contents-emitted : (l : List ℕ) (k : ℕ) (rs : List Record) (i : ℕ) → i < length rs → (k + length rs) * recordSize ≤ length l
+    → run (emit l k rs) ((k + i) * recordSize + 8) 512 ≡ run (getD rs i barrier .contents) 0 512
+unfolding emit
+contents-emitted l k rs i h room =
+    let e : (k + i) * recordSize + 8 ≡ k * recordSize + (i * recordSize + 8) = omega arith in
+    let n : length (listBytes rs) ≡ length rs * recordSize = length-listBytes rs in
+    ap (λ o. run (emit l k rs) o 512) e
+    ∙ run-put-in l (k * recordSize) (listBytes rs) (i * recordSize + 8) 512 (omega arith) (omega arith)
+    ∙ contents-in rs i h
+
+-- what stands before them stays
+pub run-before : (l : List ℕ) (k : ℕ) (rs : List Record) (from n : ℕ) → from + n ≤ k * recordSize → run (emit l k rs) from n ≡ run l from n
+unfolding emit
+run-before l k rs from n h = run-put-other l (k * recordSize) (listBytes rs) from n (λ i a b c d. omega arith)
+
+-- one record more of a list by index
+pub emitted-more : {l m m′ : List ℕ} {k j r : ℕ} (f : ℕ → Record) → Emitted l k (tab f 0 j) m (k + j) → Emitted m (k + j) (f j ∷ []) m′ r
+    → Emitted l k (tab f 0 (j + 1)) m′ (k + (j + 1))
+emitted-more {l} {m} {m′} {k} {j} {r} f p q =
+    let next : r ≡ k + (j + 1) = omega (arith, q .next) in
+    rw (tab-more f 0 j, zero-add j, ← next) (emitted-then p q)
+
+-- ---- records of the same bytes
+
+-- only the contents' first 512 bytes are written
+pub written : (s : ℕ) (c : List ℕ) → recordBytes (sectorWrite s (run c 0 512)) ≡ recordBytes (sectorWrite s c)
+unfolding recordBytes
+written s c = ap (λ (b : List ℕ). beBytes 8 s ++ b) (run-run c 0 512 0 512 (omega arith))
+
+bytes-one : (r : Record) → listBytes (r ∷ []) ≡ recordBytes r ++ []
+unfolding listBytes
+bytes-one r = refl
+
+pub bytes-tab : (f h : ℕ → Record) (n : ℕ) → ((j : ℕ) → j < n → recordBytes (f j) ≡ recordBytes (h j)) → listBytes (tab f 0 n) ≡ listBytes (tab h 0 n)
+unfolding tab
+bytes-tab f h zero e = refl
+bytes-tab f h (suc n) e =
+    let q : recordBytes (f (0 + n)) ≡ recordBytes (h (0 + n)) = e (0 + n) (omega arith) in
+    listBytes-append (tab f 0 n) (f (0 + n) ∷ [])
+    ∙ ap₂ (λ (a b : List ℕ). a ++ b) (bytes-tab f h n (λ j l. e j (omega arith))) (bytes-one (f (0 + n)) ∙ ap (λ (b : List ℕ). b ++ []) q ∙ sym (bytes-one (h (0 + n))))
+    ∙ sym (listBytes-append (tab h 0 n) (h (0 + n) ∷ []))
+
+pub emitted-same : {l m : List ℕ} {k j : ℕ} {a b : List Record} → listBytes a ≡ listBytes b → length a ≡ length b → Emitted l k a m j → Emitted l k b m j
+unfolding emit
+emitted-same {l} {m} {k} {j} {a} {b} e n p =
+    record { holds = p .holds ∙ ap (λ (x : List ℕ). put l (k * recordSize) x) e; next = p .next ∙ ap (λ x. k + x) n }
+
+pub tab-list {ℓ} : {A : Type ℓ} (d : A) (l : List A) → tab (λ k. getD l k d) 0 (length l) ≡ l
+tab-list d l =
+    ext-getD d (tab (λ k. getD l k d) 0 (length l)) l (length-tab (λ k. getD l k d) 0 (length l))
+    (λ i h. getD-tab0 (λ k. getD l k d) (length l) i d (omega (arith, length-tab (λ k. getD l k d) 0 (length l))))
+
+-- ---- the journal looks only at the sources and targets of its entries
+
+module _ (s s′ t t′ : ℕ → ℕ) where
+  entriesIn-ext : (from n : ℕ) → ((k : ℕ) → k < n → s (from + k) ≡ s′ (from + k)) → ((k : ℕ) → k < n → t (from + k) ≡ t′ (from + k))
+      → entriesIn s t from n ≡ entriesIn s′ t′ from n
+  unfolding entriesIn
+  entriesIn-ext from zero p q = refl
+  entriesIn-ext from (suc n) p q =
+      rw (p n (omega arith), q n (omega arith))
+      (ap (λ (x : List ℕ). put x (16 * n) (beBytes 8 (s′ (from + n)) ++ beBytes 8 (t′ (from + n))))
+        (entriesIn-ext from n (λ k l. p k (omega arith)) (λ k l. q k (omega arith))))
+
+  pub journalSector-ext : (n j : ℕ) → ((k : ℕ) → k < n → s k ≡ s′ k) → ((k : ℕ) → k < n → t k ≡ t′ k) → journalSector s t n j ≡ journalSector s′ t′ n j
+  unfolding journalSector
+  journalSector-ext n j p q =
+      entriesIn-ext (32 * j) (min 32 (n - 32 * j)) (λ k l. p (32 * j + k) (omega arith)) (λ k l. q (32 * j + k) (omega arith))
+
+-- ---- sector numbers and copies of targets
+
+pub sector-at : (ts : Group) (j : ℕ) → j < length ts → getD (sectorsOf ts) j 0 ≡ getD ts j barrier .sector
+sector-at [] j h = absurd (not-suc-le-zero h)
+sector-at (t ∷ ts) zero h = refl
+sector-at (t ∷ ts) (suc j) h = sector-at ts j (omega arith)
+
+pub sectors-more : (ts : Group) (r : Record) → sectorsOf (ts ++ (r ∷ [])) ≡ sectorsOf ts ++ (r .sector ∷ [])
+sectors-more [] r = refl
+sectors-more (t ∷ ts) r = ap (λ (l : List ℕ). t .sector ∷ l) (sectors-more ts r)
+
+pub length-copies : (stages : List ℕ) (ts : Group) → length (copies stages ts) ≡ length ts
+unfolding copies
+length-copies stages ts = length-tab (λ k. sectorWrite (getD stages k 0) (getD ts k barrier .contents)) 0 (length ts)
+
+pub copy-at : (stages : List ℕ) (ts : Group) (k : ℕ) → k < length ts → getD (copies stages ts) k barrier .contents ≡ getD ts k barrier .contents
+unfolding copies
+copy-at stages ts k h =
+    ap (λ (r : Record). r .contents) (getD-tab0 (λ k. sectorWrite (getD stages k 0) (getD ts k barrier .contents)) (length ts) k barrier h)
+
+copies-are : (g : Geometry) (ts : Group) → copies (staging g (length ts)) ts ≡ tab (λ k. sectorWrite (reserveAt g + k) (getD ts k barrier .contents)) 0 (length ts)
+unfolding copies staging
+copies-are g ts =
+    tab-ext _ _ 0 0 (length ts)
+    (λ k l. ap (λ (s : ℕ). sectorWrite s (getD ts (0 + k) barrier .contents)) (getD-tab0 (λ k. reserveAt g + k) (length ts) (0 + k) 0 (omega arith)))
+
+-- one more target, one more copy
+pub copies-more : (g : Geometry) (ts : Group) (r : Record)
+    → copies (staging g (length (ts ++ (r ∷ [])))) (ts ++ (r ∷ [])) ≡ copies (staging g (length ts)) ts ++ (sectorWrite (reserveAt g + length ts) (r .contents) ∷ [])
+copies-more g ts r =
+    let us : Group = ts ++ (r ∷ []) in
+    let f : ℕ → Record = λ k. sectorWrite (reserveAt g + k) (getD us k barrier .contents) in
+    let n : length us ≡ length ts + 1 = length-append ts (r ∷ []) in
+    let last : getD us (length ts) barrier ≡ r = getD-append-seam ts r [] barrier in
+    copies-are g us
+    ∙ ap (λ (m : ℕ). tab f 0 m) n
+    ∙ tab-more f 0 (length ts)
+    ∙ ap₂ (λ (a : Group) (b : Record). a ++ (b ∷ []))
+        (tab-ext f (λ k. sectorWrite (reserveAt g + k) (getD ts k barrier .contents)) 0 0 (length ts)
+          (λ k l. ap (λ (x : Record). sectorWrite (reserveAt g + (0 + k)) (x .contents)) (List·getD-append ts (r ∷ []) barrier (0 + k) (omega arith)))
+          ∙ sym (copies-are g ts))
+        (ap f (zero-add (length ts)) ∙ ap (λ (x : Record). sectorWrite (reserveAt g + length ts) (x .contents)) last)
+
+-- ---- groups
+
+pub closed-front : (a b : List Record) (gs : List Group) → closedAfter (a ++ b) gs ≡ a ++ closedAfter b gs
+closed-front a b [] = refl
+closed-front a b (h ∷ gs) =
+    ap (λ (x : List Record). closedAfter x gs) (append-assoc (a ++ b) h (barrier ∷ []) ∙ append-assoc a b (h ++ (barrier ∷ [])) ∙ ap (λ (x : List Record). a ++ x) (sym (append-assoc b h (barrier ∷ []))))
+    ∙ closed-front a (b ++ h ++ (barrier ∷ [])) gs
+
+length-sectors : (ts : Group) → length (sectorsOf ts) ≡ length ts
+length-sectors [] = refl
+length-sectors (t ∷ ts) = ap suc (length-sectors ts)
+
+length-journalOf : (g : Geometry) (stages targets : List ℕ) → length (journalOf g stages targets) ≡ journalSectors (length targets)
+unfolding journalOf
+length-journalOf g stages targets =
+    length-tab (λ j. sectorWrite (journalAt g + j) (journalSector (λ k. getD stages k 0) (λ k. getD targets k 0) (length targets) j)) 0 (journalSectors (length targets))
+
+-- how many records a plan's list has
+pub plan-length : (g : Geometry) (d : Disk) (p : Plan) → length (closed (groupsOf g d p)) ≡ recordCount (length (p .dataSectors)) (length (p .targets))
+unfolding groupsOf groupA
+plan-length g d p = simp (length-append, length-copies, length-journalOf, length-sectors) (omega arith)
+
+-- how many bytes it takes, by which refusal 14 is decided
+pub plan-needs : (d : Disk) (p : Plan) → listLength (groupsFor d (just p)) ≡ recordCount (length (p .dataSectors)) (length (p .targets)) * recordSize
+unfolding groupsFor
+plan-needs d p = ap (λ n. n * recordSize) (plan-length (geometryIn (d superblockAt)) d p)
+
+-- the next position says the same
+pub emitted-length : {l m : List ℕ} {j : ℕ} (gs : List Group) → Emitted l 0 (closed gs) m j → j * recordSize ≡ listLength gs
+emitted-length gs e = ap (λ n. n * recordSize) (e .next ∙ zero-add (length (closed gs)))

@@ -1,0 +1,96 @@
+use mathlib.Core.Path.{_≡_, refl}
+use Prim.Native.Nat.{ℕ, _+_, _-_, _≤_, _<_}
+use native.Mathlib.Omega.{arith}
+use lib.ListN.{length, getD}
+use Rattle.model.specs.Bytes.{zeroSector}
+use Rattle.model.specs.Journal.{entriesIn}
+use Rattle.commit.proofs.Turns.{entries-more}
+use borrow.Author.Needs.{needs}
+use Rattle.commit.proofs.entries_in.Statement.{statement}
+use Rattle.commit.proofs.entries_in.Tie as tie
+
+abbrev Inv-loop : tie.InvT-loop
+Inv-loop first numbers from n a₀ i₀ a i = (i ≤ n) × (a ≡ entriesIn (λ k. first .0 + k) (λ k. getD numbers k 0) from i) × (length a ≡ 512)
+
+abbrev μ-loop : tie.MeasureT-loop
+μ-loop first numbers from n a₀ i₀ a i = n - i
+
+loop-holds : tie.Need-loop-holds Inv-loop μ-loop
+unfolding entriesIn zeroSector
+loop-holds c = (omega arith, refl, omega arith)
+
+add-source : tie.Need-add-source Inv-loop μ-loop
+add-source c = search needs
+
+add-source-2 : tie.Need-add-source-2 Inv-loop μ-loop
+add-source-2 c = search needs
+
+add-target : tie.Need-add-target Inv-loop μ-loop
+add-target c = search needs
+
+mul-target : tie.Need-mul-target Inv-loop μ-loop
+mul-target c = search needs
+
+shared-slice-read-target : tie.Need-shared-slice-read-target Inv-loop μ-loop
+shared-slice-read-target c = search needs
+
+slice-aggregate-put-be : tie.Need-slice-aggregate-put-be Inv-loop μ-loop
+slice-aggregate-put-be c = search needs
+
+mul-put-be : tie.Need-mul-put-be Inv-loop μ-loop
+mul-put-be c = search needs
+
+put-be-requires : tie.Need-put-be-requires Inv-loop μ-loop
+put-be-requires c κs = search needs
+
+slice-aggregate-put-be-2 : tie.Need-slice-aggregate-put-be-2 Inv-loop μ-loop
+slice-aggregate-put-be-2 c = search needs
+
+mul-put-be-2 : tie.Need-mul-put-be-2 Inv-loop μ-loop
+mul-put-be-2 c = search needs
+
+add-put-be : tie.Need-add-put-be Inv-loop μ-loop
+add-put-be c = search needs
+
+put-be-requires-2 : tie.Need-put-be-requires-2 Inv-loop μ-loop
+put-be-requires-2 c κs = search needs
+
+add-i : tie.Need-add-i Inv-loop μ-loop
+add-i c = search needs
+
+loop-less : tie.Need-loop-less Inv-loop μ-loop
+loop-less c = search needs
+
+loop-again : tie.Need-loop-again Inv-loop μ-loop
+loop-again c = 
+    let l = c .before .before .before .before .before .before .before .before .before .loop in
+    (search needs, rw (entries-more, ← l .inv .1, ← c .before .before .before .before .put-be .ensures) (c .before .put-be2 .ensures), search needs)
+
+returns : tie.Need-returns Inv-loop μ-loop
+returns c = 
+    let e : c .before .loop .i ≡ c .before .before .before .args .n = omega arith in
+    rw (← e) (c .before .loop .inv .1)
+
+pub entries-in-spec : {M : Type 1} → statement M
+entries-in-spec =
+    tie.close
+    (tie.spec
+    Inv-loop
+    μ-loop
+    loop-holds
+    add-source
+    add-source-2
+    add-target
+    mul-target
+    shared-slice-read-target
+    slice-aggregate-put-be
+    mul-put-be
+    put-be-requires
+    slice-aggregate-put-be-2
+    mul-put-be-2
+    add-put-be
+    put-be-requires-2
+    add-i
+    loop-less
+    loop-again
+    returns)

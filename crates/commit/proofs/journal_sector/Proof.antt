@@ -1,0 +1,36 @@
+use mathlib.Core.Path.{ap₂, _∙_}
+use Prim.Native.Nat.{ℕ, _+_, _*_}
+use native.Mathlib.Omega.{arith}
+use lib.ListN.{getD}
+use Rattle.model.specs.Journal.{entriesIn, journalSector}
+use Rattle.commit.proofs.Turns.{reserve-fits}
+use borrow.Author.Needs.{needs}
+use Rattle.commit.proofs.journal_sector.Statement.{statement}
+use Rattle.commit.proofs.journal_sector.Tie as tie
+
+reserve-at-requires : tie.Need-reserve-at-requires
+reserve-at-requires c κs = search needs
+
+mul-from : tie.Need-mul-from
+mul-from c = search needs
+
+sub-fewer : tie.Need-sub-fewer
+sub-fewer c = search needs
+
+fewer-requires : tie.Need-fewer-requires
+fewer-requires c κs = search needs
+
+entries-in-requires : tie.Need-entries-in-requires
+entries-in-requires c κs = omega (arith, reserve-fits (c .before .before .before .args .g) (c .before .before .before .pre .0))
+
+returns : tie.Need-returns
+unfolding journalSector
+returns c = 
+    let a = c .before .before .before .before .args in
+    c .entries-in .ensures
+    ∙ ap₂ (λ (f m : ℕ). entriesIn (λ k. f + k) (λ k. getD (a .numbers .now) k 0) (32 * a .j) m) (c .before .before .reserve-at .ensures) (c .before .fewer .ensures)
+
+pub journal-sector-spec : {M : Type 1} → statement M
+journal-sector-spec =
+    tie.close
+    (tie.spec reserve-at-requires mul-from sub-fewer fewer-requires entries-in-requires returns)

@@ -1,0 +1,142 @@
+// What every changing call's write list holds behind its data sectors. The call hands over its targets one by one, and their
+// copies go into the list; journal, start mark, targets and end mark then follow from the targets' numbers and the copies.
+use model::Geometry;
+use model::Sector;
+ghost use mathlib.Core.Path.{_≡_};
+ghost use mathlib.Core.List.{[], _∷_};
+ghost use Prim.Native.Nat.{_+_, _-_, _*_, _≤_, _<_, min};
+ghost use lib.ListN.{length, getD, set};
+ghost use Rattle.model.specs.Bytes.{run};
+ghost use Rattle.model.specs.Geometry.{reserveAt};
+ghost use Rattle.model.specs.Disk.{view};
+ghost use Rattle.model.specs.Journal.{journalSectors, entriesIn, journalSector};
+ghost use Rattle.model.specs.WriteList.{sectorWrite, recordSize, staging, journalOf, closed, recordCount, Emitted};
+ghost use Rattle.model.specs.Opened.{Bounded};
+ghost use Rattle.commit.specs.Commit.{stagedTargets, commitGroups};
+
+// Record k is the copy of target j, in the j-th reserve sector; the target's number is noted for the journal.
+pub fn put_copy(list: &mut [u8], k: usize, g: Geometry, numbers: &mut [u64], j: usize, target: Sector, s: [u8; 512]) -> usize
+    requires { ⌜ (k + 1) * recordSize ≤ length (now list) ⌝ }
+    requires { ⌜ Bounded g ⌝ }
+    requires { ⌜ (j ≤ k) × (j < length (now numbers)) ⌝ }
+    ensures { λ r. ⌜ Emitted (now (list .entry)) k (sectorWrite (reserveAt g + j) s ∷ []) (now (list .exit)) r ⌝ }
+    ensures { λ _. ⌜ now (numbers .exit) ≡ set (now (numbers .entry)) j (target .0) ⌝ }
+{
+    numbers[j] = target.0;
+    let first = g.reserve_at();
+    lists::put_sector(list, k, Sector(first.0 + (j as u64)), s)
+}
+
+// ---- the journal
+
+fn fewer(a: usize, b: usize) -> usize
+    ensures { λ r. ⌜ r ≡ min a b ⌝ }
+{
+    if a <= b { a } else { b }
+}
+
+// A sector of zeros with n entries put in from its front, the first of them entry `from`. Copies stand from sector `first` on.
+fn entries_in(first: Sector, numbers: &[u64], from: usize, n: usize) -> [u8; 512]
+    requires { ⌜ (n ≤ 32) × (from + n ≤ length (now numbers)) ⌝ }
+    requires { ⌜ first .0 + (from + n) < 18446744073709551616 ⌝ }
+    ensures { λ r. ⌜ r ≡ entriesIn (λ k. first .0 + k) (λ k. getD (now (numbers .entry)) k 0) from n ⌝ }
+{
+    let mut a = [0u8; 512];
+    let mut i: usize = 0;
+    while i < n {
+        let source = first.0 + ((from + i) as u64);
+        let target = numbers[from + i];
+        fields::put_be(&mut a, 16 * i, 8, source);
+        fields::put_be(&mut a, 16 * i + 8, 8, target);
+        i += 1;
+    }
+    a
+}
+
+// Journal sector j of n targets.
+fn journal_sector(g: Geometry, numbers: &[u64], n: usize, j: usize) -> [u8; 512]
+    requires { ⌜ Bounded g ⌝ }
+    requires { ⌜ (n ≤ 1024) × (n ≤ length (now numbers)) × (32 * j ≤ n) ⌝ }
+    ensures { λ r. ⌜ r ≡ journalSector (λ k. reserveAt g + k) (λ k. getD (now (numbers .entry)) k 0) n j ⌝ }
+{
+    let first = g.reserve_at();
+    let from = 32 * j;
+    entries_in(first, numbers, from, fewer(32, n - from))
+}
+
+// The journal of n targets, from position k on.
+pub fn put_journal(list: &mut [u8], k: usize, g: Geometry, numbers: &[u64], n: usize) -> usize
+    requires { ⌜ (k + journalSectors n) * recordSize ≤ length (now list) ⌝ }
+    requires { ⌜ Bounded g ⌝ }
+    requires { ⌜ (n ≤ 1024) × (n ≤ length (now numbers)) ⌝ }
+    ensures { λ r. ⌜ Emitted (now (list .entry)) k (journalOf g (staging g n) (run (now (numbers .entry)) 0 n)) (now (list .exit)) r ⌝ }
+    ensures { λ r. ⌜ r ≡ k + journalSectors n ⌝ }
+{
+    let at = g.journal_at();
+    let m = (n + 31) / 32;
+    let mut j: usize = 0;
+    while j < m {
+        let s = journal_sector(g, numbers, n, j);
+        lists::put_sector(list, k + j, Sector(at.0 + (j as u64)), s);
+        j += 1;
+    }
+    k + m
+}
+
+// ---- the targets
+
+// The contents of record k.
+fn contents_at(list: &[u8], k: usize) -> [u8; 512]
+    requires { ⌜ (k + 1) * recordSize ≤ length (now list) ⌝ }
+    ensures { λ r. ⌜ r ≡ run (now (list .entry)) (k * recordSize + 8) 512 ⌝ }
+{
+    let mut a = [0u8; 512];
+    fields::copy_run(list, k * 520 + 8, &mut a, 0, 512);
+    a
+}
+
+// Record k is the target whose copy is record `copy`.
+fn put_target(list: &mut [u8], k: usize, target: Sector, copy: usize) -> usize
+    requires { ⌜ (k + 1) * recordSize ≤ length (now list) ⌝ }
+    requires { ⌜ copy < k ⌝ }
+    ensures { λ r. ⌜ Emitted (now (list .entry)) k (sectorWrite (target .0) (run (now (list .entry)) (copy * recordSize + 8) 512) ∷ []) (now (list .exit)) r ⌝ }
+{
+    let s = contents_at(list, copy);
+    lists::put_sector(list, k, target, s)
+}
+
+// The n targets, from position k on; their copies are the records from position `from` on.
+pub fn put_targets(list: &mut [u8], k: usize, numbers: &[u64], n: usize, from: usize) -> usize
+    requires { ⌜ (k + n) * recordSize ≤ length (now list) ⌝ }
+    requires { ⌜ n ≤ length (now numbers) ⌝ }
+    requires { ⌜ from + n ≤ k ⌝ }
+    ensures { λ r. ⌜ Emitted (now (list .entry)) k (stagedTargets (now (list .entry)) from (now (numbers .entry)) n) (now (list .exit)) r ⌝ }
+    ensures { λ r. ⌜ r ≡ k + n ⌝ }
+{
+    let mut j: usize = 0;
+    while j < n {
+        let target = Sector(numbers[j]);
+        put_target(list, k + j, target, from + j);
+        j += 1;
+    }
+    k + n
+}
+
+// ---- all of it
+
+// Behind n copies that end at position k: the journal; the start mark; the targets; the end mark; a barrier after each.
+pub fn put_commit(list: &mut [u8], k: usize, img: &[u8], g: Geometry, numbers: &[u64], n: usize) -> usize
+    requires { ⌜ recordCount (k - n) n * recordSize ≤ length (now list) ⌝ }
+    requires { ⌜ 512 ≤ length (now img) ⌝ }
+    requires { ⌜ Bounded g ⌝ }
+    requires { ⌜ (n ≤ 1024) × (n ≤ length (now numbers)) × (n ≤ k) ⌝ }
+    ensures { λ r. ⌜ Emitted (now (list .entry)) k (closed (commitGroups g (view (now (img .entry))) (now (list .entry)) (k - n) (now (numbers .entry)) n)) (now (list .exit)) r ⌝ }
+    ensures { λ r. ⌜ r ≡ recordCount (k - n) n ⌝ }
+{
+    let k1 = put_journal(list, k, g, numbers, n);
+    let k2 = lists::put_barrier(list, k1);
+    let k3 = lists::put_superblock(list, k2, img, n as u64);
+    let k4 = put_targets(list, k3, numbers, n, k - n);
+    let k5 = lists::put_barrier(list, k4);
+    lists::put_superblock(list, k5, img, 0)
+}

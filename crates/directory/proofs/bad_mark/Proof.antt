@@ -1,0 +1,24 @@
+use borrow.Author.Needs.{needs}
+use Prim.Native.Nat.{_-_}
+use borrow.Author.Tests.{eq-eqb, ne-eqb}
+use Rattle.model.specs.Entry.{isOccupied}
+use Rattle.model.specs.Faults.{fault21}
+use Rattle.directory.proofs.bad_mark.Statement.{statement}
+use Rattle.directory.proofs.bad_mark.Tie as tie
+
+sector-requires : tie.Need-sector-requires
+sector-requires c κs = search needs
+
+number-requires : tie.Need-number-requires
+number-requires c κs = search needs
+
+returns : tie.Need-returns
+unfolding fault21 isOccupied
+returns c = rw (← c .before .before .sector .ensures, ← c .before .number .ensures .0, eq-eqb _ _ (c .if1 .taken))
+
+returns-2 : tie.Need-returns-2
+unfolding fault21 isOccupied
+returns-2 c = rw (← c .before .before .sector .ensures, ← c .before .number .ensures .0, ne-eqb _ _ (c .if1 .left))
+
+pub bad-mark-spec : {M : Type 1} → statement M
+bad-mark-spec = tie.close (tie.spec sector-requires number-requires returns returns-2)

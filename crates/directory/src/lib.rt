@@ -1,0 +1,245 @@
+// Directory entries: their marks, names, ids and fields, the searches by name and by id, faults 21 and 22.
+use model::Fields;
+use model::FileIndex;
+use model::Geometry;
+use model::Place;
+ghost use mathlib.Core.Path.{_≡_};
+ghost use mathlib.Core.Bool.{_&&_, _||_};
+ghost use Prim.Native.Nat.{_+_, _*_, _≤_, _<_};
+ghost use lib.Dec.{eqb, ltb};
+ghost use lib.ListN.{length};
+ghost use Rattle.model.specs.Bytes.{numberIn};
+ghost use Rattle.model.specs.Search.{first, some, same};
+ghost use Rattle.model.specs.Geometry.{usable, extentBytes, entryAt};
+ghost use Rattle.model.specs.Disk.{view};
+ghost use Rattle.model.specs.Entry.{entryField, entryIn, fieldsOf, longestName, isOccupied, nameIn, badName};
+ghost use Rattle.model.specs.Catalogue.{catalogueOf, hasId, fileNamed, freeEntry};
+ghost use Rattle.model.specs.Faults.{fault21, fault22};
+ghost use Rattle.model.specs.Opened.{Bounded, Opened};
+
+// ---- one entry
+
+pub fn is_occupied(img: &[u8], i: FileIndex) -> bool
+    requires { ⌜ 512 * entryAt (i .0) + 512 ≤ length (now img) ⌝ }
+    ensures { λ r. ⌜ r ≡ isOccupied (view (now (img .entry)) (entryAt (i .0))) ⌝ }
+{
+    fields::number(img, i.sector(), 0, 2) == 65535
+}
+
+// What an occupied entry says.
+pub fn fields_at(img: &[u8], i: FileIndex) -> Fields
+    requires { ⌜ 512 * entryAt (i .0) + 512 ≤ length (now img) ⌝ }
+    ensures { λ r. ⌜ r ≡ fieldsOf (entryIn (view (now (img .entry)) (entryAt (i .0)))) ⌝ }
+{
+    let k = i.sector();
+    let size = fields::number(img, k, 2, 8);
+    let version = fields::number(img, k, 10, 4) as u32;
+    let id = fields::number(img, k, 14, 8);
+    let mode = fields::number(img, k, 22, 4) as u32;
+    let access_time = fields::number(img, k, 26, 4) as u32;
+    let change_time = fields::number(img, k, 30, 4) as u32;
+    let name_length = fields::number(img, k, 34, 2);
+    Fields {
+        size,
+        version,
+        id,
+        mode,
+        access_time,
+        change_time,
+        name_length,
+    }
+}
+
+pub fn id_at(img: &[u8], i: FileIndex) -> u64
+    requires { ⌜ 512 * entryAt (i .0) + 512 ≤ length (now img) ⌝ }
+    ensures { λ r. ⌜ r ≡ numberIn (view (now (img .entry)) (entryAt (i .0))) (entryField .id) ⌝ }
+{
+    fields::number(img, i.sector(), 14, 8)
+}
+
+// The name's bytes, where they end in the sector.
+pub fn name_at(img: &[u8], i: FileIndex) -> &[u8]
+    requires { ⌜ 512 * entryAt (i .0) + 512 ≤ length (now img) ⌝ }
+    requires { ⌜ numberIn (view (now img) (entryAt (i .0))) (entryField .nameLength) ≤ longestName ⌝ }
+    ensures { λ r. ⌜ now r ≡ nameIn (view (now (img .entry)) (entryAt (i .0))) ⌝ }
+{
+    let k = i.sector();
+    let n = fields::number(img, k, 34, 2) as usize;
+    let at = 512 * (k.0 as usize) + 36;
+    &img[at..at + n]
+}
+
+// Whether entry i is occupied and has the name. The lengths are compared first: the comparison sees no byte past the name.
+pub fn has_name(img: &[u8], i: FileIndex, name: &[u8]) -> bool
+    requires { ⌜ 512 * entryAt (i .0) + 512 ≤ length (now img) ⌝ }
+    requires { ⌜ length (now name) ≤ longestName ⌝ }
+    ensures { λ r. ⌜ r ≡ (isOccupied (view (now (img .entry)) (entryAt (i .0))) && same (nameIn (view (now (img .entry)) (entryAt (i .0)))) (now (name .entry))) ⌝ }
+{
+    if is_occupied(img, i) {
+        let k = i.sector();
+        let n = fields::number(img, k, 34, 2) as usize;
+        if n == name.len() {
+            let at = 512 * (k.0 as usize);
+            return fields::starts_with(&img[at + 36..at + 512], name);
+        }
+        return false;
+    }
+    false
+}
+
+// Whether entry i is occupied and has the id.
+pub fn has_id_at(img: &[u8], i: FileIndex, id: u64) -> bool
+    requires { ⌜ 512 * entryAt (i .0) + 512 ≤ length (now img) ⌝ }
+    ensures { λ r. ⌜ r ≡ (isOccupied (view (now (img .entry)) (entryAt (i .0))) && eqb (numberIn (view (now (img .entry)) (entryAt (i .0))) (entryField .id)) id) ⌝ }
+{
+    if is_occupied(img, i) {
+        return id_at(img, i) == id;
+    }
+    false
+}
+
+// ---- searches
+
+// The file of that name.
+pub fn file_named(img: &[u8], g: Geometry, name: &[u8]) -> Place
+    requires { ⌜ Opened (now img) g ⌝ }
+    requires { ⌜ length (now name) ≤ longestName ⌝ }
+    ensures { λ r. ⌜ r ≡ fileNamed (catalogueOf (view (now (img .entry)))) (now (name .entry)) ⌝ }
+{
+    let f = g.files as usize;
+    let mut i: usize = 0;
+    while i < f {
+        if has_name(img, FileIndex(i as u64), name) {
+            return Place::At(i);
+        }
+        i += 1;
+    }
+    Place::Nowhere
+}
+
+// The lowest free entry.
+pub fn free_entry(img: &[u8], g: Geometry) -> Place
+    requires { ⌜ Opened (now img) g ⌝ }
+    ensures { λ r. ⌜ r ≡ freeEntry (catalogueOf (view (now (img .entry)))) ⌝ }
+{
+    let f = g.files as usize;
+    let mut i: usize = 0;
+    while i < f {
+        if is_occupied(img, FileIndex(i as u64)) {
+            i += 1;
+        } else {
+            return Place::At(i);
+        }
+    }
+    Place::Nowhere
+}
+
+// Whether an occupied entry has the id.
+pub fn has_id(img: &[u8], g: Geometry, id: u64) -> bool
+    requires { ⌜ Opened (now img) g ⌝ }
+    ensures { λ r. ⌜ r ≡ some (λ i. hasId id (catalogueOf (view (now (img .entry))) .entries i)) (catalogueOf (view (now (img .entry))) .geometry .files) ⌝ }
+{
+    let f = g.files as usize;
+    let mut i: usize = 0;
+    while i < f {
+        if has_id_at(img, FileIndex(i as u64), id) {
+            return true;
+        }
+        i += 1;
+    }
+    false
+}
+
+// ---- fault 21
+
+// The mark is neither 0 nor 65535.
+fn bad_mark(img: &[u8], i: FileIndex) -> bool
+    requires { ⌜ 512 * entryAt (i .0) + 512 ≤ length (now img) ⌝ }
+    ensures { λ r. ⌜ r ≡ fault21 (view (now (img .entry))) (i .0) ⌝ }
+{
+    let mark = fields::number(img, i.sector(), 0, 2);
+    if mark == 0 {
+        return false;
+    }
+    mark != 65535
+}
+
+pub fn fault21(img: &[u8], g: Geometry) -> Place
+    requires { ⌜ Opened (now img) g ⌝ }
+    ensures { λ r. ⌜ r ≡ first (fault21 (view (now (img .entry)))) (g .files) ⌝ }
+{
+    let f = g.files as usize;
+    let mut i: usize = 0;
+    while i < f {
+        if bad_mark(img, FileIndex(i as u64)) {
+            return Place::At(i);
+        }
+        i += 1;
+    }
+    Place::Nowhere
+}
+
+// ---- fault 22
+
+// The length isn't 1 to 476, or a byte is 0.
+pub fn bad_name(name: &[u8]) -> bool
+    ensures { λ r. ⌜ r ≡ badName (now (name .entry)) ⌝ }
+{
+    let n = name.len();
+    if 1 <= n {
+        if n <= 476 {
+            return fields::has_zero(name);
+        }
+        return true;
+    }
+    true
+}
+
+// The same of the name in entry i.
+fn bad_name_at(img: &[u8], i: FileIndex) -> bool
+    requires { ⌜ 512 * entryAt (i .0) + 512 ≤ length (now img) ⌝ }
+    ensures { λ r. ⌜ r ≡ badName (nameIn (view (now (img .entry)) (entryAt (i .0)))) ⌝ }
+{
+    if fields::number(img, i.sector(), 34, 2) <= 476 {
+        return bad_name(name_at(img, i));
+    }
+    true
+}
+
+// (N - K) x E
+fn most_bytes(g: Geometry) -> u64
+    requires { ⌜ Bounded g ⌝ }
+    ensures { λ r. ⌜ r ≡ usable g * extentBytes g ⌝ }
+{
+    g.usable() * (512 * (g.extent_sectors as u64))
+}
+
+// Entry i is occupied, and its name is bad or its size exceeds `most`.
+fn bad_entry(img: &[u8], most: u64, i: FileIndex) -> bool
+    requires { ⌜ 512 * entryAt (i .0) + 512 ≤ length (now img) ⌝ }
+    ensures { λ r. ⌜ r ≡ (isOccupied (view (now (img .entry)) (entryAt (i .0))) && (badName (nameIn (view (now (img .entry)) (entryAt (i .0)))) || ltb most (numberIn (view (now (img .entry)) (entryAt (i .0))) (entryField .size)))) ⌝ }
+{
+    if is_occupied(img, i) {
+        if bad_name_at(img, i) {
+            return true;
+        }
+        return most < fields::number(img, i.sector(), 2, 8);
+    }
+    false
+}
+
+pub fn fault22(img: &[u8], g: Geometry) -> Place
+    requires { ⌜ Opened (now img) g ⌝ }
+    ensures { λ r. ⌜ r ≡ first (fault22 (catalogueOf (view (now (img .entry))))) (g .files) ⌝ }
+{
+    let most = most_bytes(g);
+    let f = g.files as usize;
+    let mut i: usize = 0;
+    while i < f {
+        if bad_entry(img, most, FileIndex(i as u64)) {
+            return Place::At(i);
+        }
+        i += 1;
+    }
+    Place::Nowhere
+}

@@ -1,0 +1,35 @@
+use mathlib.Core.Path.{refl}
+use Rattle.model.specs.Bytes.{run}
+use Rattle.laws.proofs.Bytes.{run-all, length-run}
+use Rattle.laws.proofs.WriteList.{emit-run}
+use borrow.Author.Needs.{needs}
+use Rattle.lists.proofs.put_from.Statement.{statement}
+use Rattle.lists.proofs.put_from.Tie as tie
+
+mul-at : tie.Need-mul-at
+mul-at c = search needs
+
+put-be-requires : tie.Need-put-be-requires
+put-be-requires c κs = search needs
+
+add-copy-run : tie.Need-add-copy-run
+add-copy-run c = search needs
+
+copy-run-requires : tie.Need-copy-run-requires
+copy-run-requires c κs = search needs
+
+add-result : tie.Need-add-result
+add-result c = search needs
+
+same-length : tie.Need-same-length
+same-length c = search needs
+
+returns : tie.Need-returns
+returns c = 
+    let a = c .before .before .before .before .before .before .before .before .before .before .args in
+    record { holds = rw (emit-run, run-all (run (a .src .now) (a .from) 512) 512 (length-run (a .src .now) (a .from) 512)) (cc); next = refl }
+
+pub put-from-spec : {M : Type 1} → statement M
+put-from-spec =
+    tie.close
+    (tie.spec mul-at put-be-requires add-copy-run copy-run-requires add-result same-length returns)

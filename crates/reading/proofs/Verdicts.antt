@@ -1,0 +1,94 @@
+-- The verdicts of find, list and read on a disk, from the tests that the code makes. Assumes nothing.
+use Prim.Native.Nat.{ℕ, _≤_, _<_}
+use mathlib.Core.Path.{_≡_, refl, sym, ap, _∙_}
+use mathlib.Core.Bool.{Bool, true, false, cond, not, _||_}
+use mathlib.Core.List.{List, [], _∷_}
+use native.Mathlib.Omega.{arith}
+use lib.Dec.{leb, ltb}
+use lib.ListN.{length}
+use borrow.Author.Tests.{le-leb, lt-leb, lt-ltb, le-ltb}
+use Rattle.model.specs.declared.Place.{Place}
+use Rattle.model.specs.declared.Place.the-variants.{At}
+use Rattle.model.specs.declared.Verdict.{Verdict}
+use Rattle.model.specs.Bytes.{beAt}
+use Rattle.model.specs.Search.{isAt, indexOf}
+use Rattle.model.specs.Geometry.{superblockAt, entryAt}
+use Rattle.model.specs.Disk.{Disk}
+use Rattle.model.specs.Superblock.{geometryIn}
+use Rattle.model.specs.Entry.{Entry, nameIn, entryIn, isOccupied, badName}
+use Rattle.model.specs.Catalogue.{catalogueOf, isFree, fileNamed, entryOf}
+use Rattle.model.specs.Refusals.{verdictOf, refusal, done}
+use Rattle.model.specs.Listing.{listConditions}
+use Rattle.model.specs.Read.{longestTransfer, readCount, sizeNamed, readConditions}
+use Rattle.laws.proofs.Entry.{length-nameIn}
+use Rattle.reading.specs.FileVerdict.{fileVerdict}
+use Rattle.laws.proofs.Named.{entry-on, free-is, named-entry}
+
+-- the first of four conditions that holds
+abbrev by3 : ℕ → ℕ → ℕ → Bool → Bool → Bool → Verdict
+by3 k l m a b c = cond a (refusal k) (cond b (refusal l) (cond c (refusal m) done))
+
+module _ (d : Disk) (i room : ℕ) where
+  abbrev files : ℕ
+  files = geometryIn (d superblockAt) .files
+
+  pub list-past : files ≤ i → verdictOf (listConditions (catalogueOf d) i room) ≡ refusal 8
+  unfolding verdictOf listConditions catalogueOf
+  list-past h = rw (le-leb files i h)
+
+  module _ (l : i < files) where
+    free-list : verdictOf (listConditions (catalogueOf d) i room) ≡ by3 8 9 14 false (not (isOccupied (d (entryAt i)))) (ltb room (length (entryOf (catalogueOf d) i .name)))
+    unfolding verdictOf listConditions catalogueOf
+    free-list =
+        ap (λ (b : Bool). by3 8 9 14 b (isFree (catalogueOf d .entries i)) (ltb room (length (entryOf (catalogueOf d) i .name)))) (lt-leb files i l)
+        ∙ ap (λ (b : Bool). by3 8 9 14 false b (ltb room (length (entryOf (catalogueOf d) i .name)))) (free-is d i l)
+
+    pub list-free : isOccupied (d (entryAt i)) ≡ false → verdictOf (listConditions (catalogueOf d) i room) ≡ refusal 9
+    list-free o = free-list ∙ ap (λ (b : Bool). by3 8 9 14 false (not b) (ltb room (length (entryOf (catalogueOf d) i .name)))) o
+
+    module _ (o : isOccupied (d (entryAt i)) ≡ true) where
+      full-list : verdictOf (listConditions (catalogueOf d) i room) ≡ by3 8 9 14 false false (ltb room (beAt (d (entryAt i)) 34 2))
+      unfolding entryIn
+      full-list =
+          free-list ∙ ap (λ (b : Bool). by3 8 9 14 false (not b) (ltb room (length (entryOf (catalogueOf d) i .name)))) o
+          ∙ ap (λ (e : Entry). by3 8 9 14 false false (ltb room (length (e .name)))) (entry-on d i l o)
+          ∙ ap (λ (n : ℕ). by3 8 9 14 false false (ltb room n)) (length-nameIn (d (entryAt i)))
+
+      pub list-short : room < beAt (d (entryAt i)) 34 2 → verdictOf (listConditions (catalogueOf d) i room) ≡ refusal 14
+      list-short h = full-list ∙ ap (λ (b : Bool). by3 8 9 14 false false b) (lt-ltb room (beAt (d (entryAt i)) 34 2) h)
+
+      pub list-done : beAt (d (entryAt i)) 34 2 ≤ room → verdictOf (listConditions (catalogueOf d) i room) ≡ done
+      list-done h = full-list ∙ ap (λ (b : Bool). by3 8 9 14 false false b) (le-ltb room (beAt (d (entryAt i)) 34 2) h)
+
+      pub listed-name : entryOf (catalogueOf d) i .name ≡ nameIn (d (entryAt i))
+      unfolding entryIn
+      listed-name = ap (λ (e : Entry). e .name) (entry-on d i l o)
+
+-- ---- read
+
+module _ (d : Disk) (name : List ℕ) (offset asked room : ℕ) where
+  pub read-bad-name : badName name ≡ true → verdictOf (readConditions (catalogueOf d) name offset asked room) ≡ refusal 8
+  unfolding verdictOf readConditions
+  read-bad-name h = rw h
+
+  or-true : (b : Bool) → (b || true) ≡ true
+  or-true true = refl
+  or-true false = refl
+
+  pub read-long : longestTransfer < asked → verdictOf (readConditions (catalogueOf d) name offset asked room) ≡ refusal 8
+  unfolding verdictOf readConditions
+  read-long h = rw (lt-ltb longestTransfer asked h, or-true (badName name))
+
+  module _ (good : badName name ≡ false) (most : asked ≤ longestTransfer) where
+    pub read-missing : isAt (fileNamed (catalogueOf d) name) ≡ false → verdictOf (readConditions (catalogueOf d) name offset asked room) ≡ refusal 9
+    unfolding verdictOf readConditions
+    read-missing h = rw (good, le-ltb longestTransfer asked most, h)
+
+    pub size-named : (i : ℕ) → At i ≡ fileNamed (catalogueOf d) name → sizeNamed (catalogueOf d) name ≡ beAt (d (entryAt i)) 2 8
+    unfolding sizeNamed entryIn
+    size-named i e = ap (λ (p : Place). entryOf (catalogueOf d) (indexOf p) .size) (sym e) ∙ ap (λ (x : Entry). x .size) (named-entry d name i e)
+
+    pub read-file : (i : ℕ) → At i ≡ fileNamed (catalogueOf d) name
+        → verdictOf (readConditions (catalogueOf d) name offset asked room) ≡ fileVerdict (beAt (d (entryAt i)) 2 8) offset asked room
+    unfolding verdictOf readConditions fileVerdict
+    read-file i e = rw (good, le-ltb longestTransfer asked most, ← e, size-named i e)

@@ -1,0 +1,133 @@
+use Prim.Native.Nat.{_<_}
+use mathlib.Core.Path.{_≡_, sym, ap, _∙_}
+use native.Mathlib.Omega.{arith}
+use lib.ListN.{length}
+use Rattle.model.specs.declared.Geometry.{Geometry}
+use Rattle.model.specs.Bytes.{beAt}
+use Rattle.model.specs.Search.{tab, isAt}
+use Rattle.model.specs.Geometry.{entryAt}
+use Rattle.model.specs.Disk.{view}
+use Rattle.model.specs.Catalogue.{fileBytes}
+use Rattle.model.specs.Read.{readBy}
+use Rattle.laws.proofs.Bytes.{put-nil}
+use Rattle.laws.proofs.Refusals.{image-length}
+use Rattle.laws.proofs.Judged.{judged-image, judged-sound, judged-opened}
+use Rattle.laws.proofs.Named.{named-at, short-name, size-fits}
+use Rattle.reading.proofs.Verdicts.{read-bad-name, read-long, read-missing, size-named, read-file}
+use borrow.Author.Needs.{needs}
+use Rattle.reading.proofs.read_in.Statement.{statement}
+use Rattle.reading.proofs.read_in.Tie as tie
+
+bad-name-requires : tie.Need-bad-name-requires
+bad-name-requires c κs = search needs
+
+refusal-requires : tie.Need-refusal-requires
+refusal-requires c κs = search needs
+
+not-read-requires : tie.Need-not-read-requires
+not-read-requires c κs = search needs
+
+returns : tie.Need-returns
+unfolding readBy fileBytes tab
+returns c = 
+    let v = read-bad-name (view (c .before .before .before .before .before .before .before .args .img .now)) (c .before .before .before .before .before .before .before .args .name .now) (c .before .before .before .before .before .before .before .args .offset) (c .before .before .before .before .before .before .before .args .asked) (length (c .before .before .before .before .before .before .before .args .out .now)) (sym (c .before .before .before .bad-name .ensures) ∙ c .before .before .if1 .taken) in
+    (rw (v, ← c .before .refusal .ensures) (c .not-read .ensures), rw (c .not-read .ensures) (sym (put-nil _ _)))
+
+refusal-requires-2 : tie.Need-refusal-requires-2
+refusal-requires-2 c κs = search needs
+
+not-read-requires-2 : tie.Need-not-read-requires-2
+not-read-requires-2 c κs = search needs
+
+returns-2 : tie.Need-returns-2
+unfolding readBy fileBytes tab
+returns-2 c = 
+    let v = read-long (view (c .before .before .before .before .before .before .before .before .args .img .now)) (c .before .before .before .before .before .before .before .before .args .name .now) (c .before .before .before .before .before .before .before .before .args .offset) (c .before .before .before .before .before .before .before .before .args .asked) (length (c .before .before .before .before .before .before .before .before .args .out .now)) (c .before .before .if2 .taken) in
+    (rw (v, ← c .before .refusal2 .ensures) (c .not-read2 .ensures), rw (c .not-read2 .ensures) (sym (put-nil _ _)))
+
+geometry-in-requires : tie.Need-geometry-in-requires
+geometry-in-requires c κs = image-length _ _ (judged-image _ _ (c .before .before .before .before .before .before .pre))
+
+file-named-requires : tie.Need-file-named-requires
+file-named-requires c κs = (judged-opened _ _ (c .geometry-in .ensures) (omega arith) (c .before .before .before .before .before .before .before .pre), short-name _ (sym (c .before .before .before .bad-name .ensures) ∙ c .before .before .if1 .left))
+
+enum-known-i : tie.Need-enum-known-i
+enum-known-i c = search needs
+
+sector-requires : tie.Need-sector-requires
+sector-requires c κs = 
+    let o = judged-opened _ _ (c .before .before .before .before .geometry-in .ensures) (omega arith) (c .before .before .before .before .before .before .before .before .before .before .before .pre) in
+    let e = ap (λ (x : Geometry). x .files) (c .before .before .before .before .geometry-in .ensures) in
+    let h = named-at (view (c .before .before .before .before .before .before .before .before .before .before .before .args .img .now)) (c .before .before .before .before .before .before .before .before .before .before .before .args .name .now) (c .before .i .given .0 .0) (sym (sym (c .before .before .before .file-named .ensures) ∙ c .before .i .given .1)) in
+    omega arith
+
+number-requires : tie.Need-number-requires
+number-requires c κs = 
+    let o = judged-opened _ _ (c .before .before .before .before .before .geometry-in .ensures) (omega arith) (c .before .before .before .before .before .before .before .before .before .before .before .before .pre) in
+    let e = ap (λ (x : Geometry). x .files) (c .before .before .before .before .before .geometry-in .ensures) in
+    let h = named-at (view (c .before .before .before .before .before .before .before .before .before .before .before .before .args .img .now)) (c .before .before .before .before .before .before .before .before .before .before .before .before .args .name .now) (c .before .before .i .given .0 .0) (sym (sym (c .before .before .before .before .file-named .ensures) ∙ c .before .before .i .given .1)) in
+    (omega arith, (omega arith, omega arith))
+
+read-file-requires : tie.Need-read-file-requires
+read-file-requires c κs = 
+    let o = judged-opened _ _ (c .before .before .before .before .before .before .before .geometry-in .ensures) (omega arith) (c .before .before .before .before .before .before .before .before .before .before .before .before .before .before .pre) in
+    let h = named-at (view (c .before .before .before .before .before .before .before .before .before .before .before .before .before .before .args .img .now)) (c .before .before .before .before .before .before .before .before .before .before .before .before .before .before .args .name .now) (c .before .before .before .before .i .given .0 .0) (sym (sym (c .before .before .before .before .before .before .file-named .ensures) ∙ c .before .before .before .before .i .given .1)) in
+    let e = ap (λ (x : Geometry). x .files) (c .before .before .before .before .before .before .before .geometry-in .ensures) in
+    let s = size-fits (c .before .before .before .before .before .before .before .before .before .before .before .before .before .before .args .img .now) (c .before .before .before .before .before .before .before .geometry-in .result) o (judged-sound _ _ (c .before .before .before .before .before .before .before .before .before .before .before .before .before .before .pre)) (c .before .before .before .before .i .given .0 .0) (h .0) (h .1) in
+    let z = rw (c .before .before .sector .ensures) at (c .before .number .ensures .0) in
+    (o, (omega arith, omega (arith, z, s), c .before .before .before .before .before .before .before .before .if2 .left))
+
+same-length : tie.Need-same-length
+same-length c = search needs
+
+returns-3 : tie.Need-returns-3
+unfolding readBy
+returns-3 c = 
+    let q = sym (sym (c .before .before .before .before .before .before .before .before .before .file-named .ensures) ∙ c .before .before .before .before .before .before .before .i .given .1) in
+    let g = (sym (c .before .before .before .before .before .before .before .before .before .before .before .before .before .bad-name .ensures) ∙ c .before .before .before .before .before .before .before .before .before .before .before .before .if1 .left) in
+    let m = c .before .before .before .before .before .before .before .before .before .before .before .if2 .left in
+    let z : c .before .before .before .before .number .result ≡ beAt (view (c .before .before .before .before .before .before .before .before .before .before .before .before .before .before .before .before .before .args .img .now) (entryAt (c .before .before .before .before .before .before .before .i .given .0 .0))) 2 8 = rw (c .before .before .before .before .before .sector .ensures) at (c .before .before .before .before .number .ensures .0) in
+    (
+    rw (read-file (view (c .before .before .before .before .before .before .before .before .before .before .before .before .before .before .before .before .before .args .img .now)) (c .before .before .before .before .before .before .before .before .before .before .before .before .before .before .before .before .before .args .name .now) (c .before .before .before .before .before .before .before .before .before .before .before .before .before .before .before .before .before .args .offset) (c .before .before .before .before .before .before .before .before .before .before .before .before .before .before .before .before .before .args .asked) (length (c .before .before .before .before .before .before .before .before .before .before .before .before .before .before .before .before .before .args .out .now)) g m (c .before .before .before .before .before .before .before .i .given .0 .0) q, size-named (view (c .before .before .before .before .before .before .before .before .before .before .before .before .before .before .before .before .before .args .img .now)) (c .before .before .before .before .before .before .before .before .before .before .before .before .before .before .before .before .before .args .name .now) (c .before .before .before .before .before .before .before .before .before .before .before .before .before .before .before .before .before .args .offset) (c .before .before .before .before .before .before .before .before .before .before .before .before .before .before .before .before .before .args .asked) (length (c .before .before .before .before .before .before .before .before .before .before .before .before .before .before .before .before .before .args .out .now)) g m (c .before .before .before .before .before .before .before .i .given .0 .0) q, ← z) (c .before .before .read-file .ensures .0),
+    rw (← q) (c .before .before .read-file .ensures .1)
+    )
+
+enum-told : tie.Need-enum-told
+enum-told c = search needs
+
+refusal-requires-3 : tie.Need-refusal-requires-3
+refusal-requires-3 c κs = search needs
+
+not-read-requires-3 : tie.Need-not-read-requires-3
+not-read-requires-3 c κs = search needs
+
+returns-4 : tie.Need-returns-4
+unfolding readBy fileBytes tab
+returns-4 c = 
+    let n = sym (c .before .before .before .before .file-named .ensures) ∙ c .before .before .enum-told .given .1 in
+    let v = read-missing (view (c .before .before .before .before .before .before .before .before .before .before .before .before .args .img .now)) (c .before .before .before .before .before .before .before .before .before .before .before .before .args .name .now) (c .before .before .before .before .before .before .before .before .before .before .before .before .args .offset) (c .before .before .before .before .before .before .before .before .before .before .before .before .args .asked) (length (c .before .before .before .before .before .before .before .before .before .before .before .before .args .out .now)) (sym (c .before .before .before .before .before .before .before .before .bad-name .ensures) ∙ c .before .before .before .before .before .before .before .if1 .left) (c .before .before .before .before .before .before .if2 .left) (ap isAt n) in
+    (rw (v, ← c .before .refusal3 .ensures) (c .not-read3 .ensures), rw (c .not-read3 .ensures) (sym (put-nil _ _)))
+
+pub read-in-spec : {M : Type 1} → statement M
+read-in-spec =
+    tie.close
+    (tie.spec
+    bad-name-requires
+    refusal-requires
+    not-read-requires
+    returns
+    refusal-requires-2
+    not-read-requires-2
+    returns-2
+    geometry-in-requires
+    file-named-requires
+    enum-known-i
+    sector-requires
+    number-requires
+    read-file-requires
+    same-length
+    returns-3
+    enum-told
+    refusal-requires-3
+    not-read-requires-3
+    returns-4)

@@ -1,0 +1,285 @@
+-- THE COMMIT THEOREM: a well-formed plan's list on an image whose superblock says clean, cut anywhere; recoveries cut as often as
+-- one likes; then one completed. Assumes nothing.
+use Prim.Native.Nat.{ℕ, zero, suc, _+_, _*_, _≤_, _<_}
+use mathlib.Core.Path.{_≡_, refl, sym, ap, _∙_, subst}
+use mathlib.Core.Logic.{_≢_}
+use mathlib.Core.Bool.{Bool, true, false, cond, true≢false, false≢true}
+use mathlib.Core.List.{List, [], _∷_, _++_, append-nil}
+use native.Mathlib.Omega.{arith}
+use lib.ListN.{length, getD}
+use Rattle.model.specs.declared.Geometry.{Geometry}
+use Rattle.model.specs.declared.State.the-variants.{Clean}
+use Rattle.model.specs.Geometry.{superblockAt, extentSectors, tableSectors, reserveExtents, journalAt, dataAt, reserveAt, volumeSectors}
+use Rattle.model.specs.Disk.{Disk, view}
+use Rattle.model.specs.WriteList.{Record, sectorWrite, barrierNumber, stored, Plan, Group, groupsOf, closed}
+use Rattle.model.specs.Superblock.{journalLength, withJournalLength, stateOf, stateOn}
+use Rattle.model.specs.Journal.{journalSectors, journalSector}
+use Rattle.model.specs.Refusals.{isDone}
+use Rattle.model.specs.Recovery.{recoveryVerdict, recoveryListed}
+use Rattle.model.specs.Cut.{Cut, kept, landedOf, landed, markedBy, startMark}
+use Rattle.laws.proofs.Disk.{length-view, same-view}
+use Rattle.safety.proofs.Apply.{over, apply, hits, apply-nil, apply-append, apply-agree, apply-miss, All, all-append, all-tab0, all-at, all-kept, kept-miss, kept-one, joined, stored-append, stored-closed, length-stored, InImage, stored-view}
+use Rattle.safety.proofs.Journal.{length-entriesIn}
+use Rattle.safety.proofs.Superblock.{length-withJournalLength, journalLength-with, state-clean, Volume, volume-with, volume-long, Recovers, when-done, when-some, when-none, recovers-clean}
+use Rattle.safety.proofs.Plan.{UsableGeometry, WellFormed, Metadata, UsableSector, Whole, metadata-lt, volume-is, A, A-is, copyWrites, journalWrites, copyContents, journalContents, journal-few, A-zero, mark, clear, committed, final, Pending, recovers-pending}
+
+-- an image on which a plan is carried out: its superblock says clean
+pub record Ready (g : Geometry) (img : List ℕ) : Type 0 where
+  pub volume : Volume g (length img) (view img superblockAt)
+  pub clean : stateOn (view img) ≡ Clean
+
+-- what landed of group A
+abbrev pub partOf : ℕ → List Bool → Group → Group
+partOf zero m a = kept m a
+partOf (suc k) m a = a
+
+length-journalContents : (g : Geometry) (p : Plan) (j : ℕ) → length (journalContents g p j) ≡ 512
+unfolding journalContents journalSector
+length-journalContents g p j = length-entriesIn _ _ (32 * j) _
+
+module _ (g : Geometry) (img0 : List ℕ) (p : Plan) where
+  abbrev pub groups : List Group
+  groups = groupsOf g (view img0) p
+
+  -- the uncut image
+  abbrev pub uncut : List ℕ
+  uncut = stored (closed (groupsOf g (view img0) p)) img0
+
+  -- an image that is the committed one but for the targets
+  pub record Waits (img : List ℕ) : Type 0 where
+    pub long : length img ≡ length img0
+    pub shows : Pending g (view img0) p (view img)
+
+  pub data Interrupted (img : List ℕ) : Type 0 where
+    waits : Waits img → Interrupted img
+    finished : img ≡ uncut → Interrupted img
+
+module _ (g : Geometry) (img0 : List ℕ) (p : Plan) (geo : UsableGeometry g) (ok : WellFormed g p) (ready : Ready g img0) where
+  abbrev n : ℕ
+  n = length img0
+
+  abbrev d0 : Disk
+  d0 = view img0
+
+  abbrev C : Group
+  C = p .targets
+
+  abbrev mk : Record
+  mk = mark g (view img0) p
+
+  abbrev cl : Record
+  cl = clear g (view img0) p
+
+  -- ---- the records lie in the image
+
+  in-image : (w : Record) → w .sector < volumeSectors g → Whole w → InImage n w
+  in-image w l h =
+      let r : 512 * volumeSectors g ≤ n = volume-long g n (view img0 superblockAt) (ready .volume) in
+      let s : volumeSectors g < barrierNumber = geo .small in
+      record { within = omega arith; number = λ e. omega arith; sector = h }
+
+  super-in-image : (k : ℕ) → InImage n (sectorWrite superblockAt (withJournalLength k (view img0 superblockAt)))
+  super-in-image k = in-image _ (omega arith) (length-withJournalLength k (view img0 superblockAt) ∙ length-view img0 superblockAt)
+
+  all-in-image : (P : Record → Type 0) → ((w : Record) → P w → w .sector < volumeSectors g) → (ws : Group) → All P ws → All Whole ws → All (InImage n) ws
+  all-in-image P f [] h q = tt
+  all-in-image P f (w ∷ ws) h q = (in-image w (f w (h .0)) (q .0), all-in-image P f ws (h .1) (q .1))
+
+  A-in-image : All (InImage n) (A g p)
+  unfolding copyContents
+  A-in-image =
+      let e : volumeSectors g ≡ reserveAt g + reserveExtents g * extentSectors g = volume-is g geo in
+      let few : length (p .targets) ≤ tableSectors g + 2 = ok .few in
+      let holds : tableSectors g + 2 ≤ reserveExtents g * extentSectors g = geo .holds in
+      let sectors : journalSectors (length (p .targets)) ≤ 32 = journal-few g p geo ok in
+      subst (All (InImage n)) (sym (A-is g p))
+      (all-append (InImage n) (p .dataSectors ++ copyWrites g p) (journalWrites g p)
+      (all-append (InImage n) (p .dataSectors) (copyWrites g p)
+      (all-in-image (UsableSector g) (λ w u. omega (arith, u .1)) (p .dataSectors) (ok .usable) (ok .wholeData))
+      (all-tab0 (InImage n) (λ k. sectorWrite (reserveAt g + k) (copyContents g p k)) (length (p .targets))
+      (λ k h. in-image _ (omega arith) (all-at Whole (p .targets) k _ (ok .wholeTargets) h))))
+      (all-tab0 (InImage n) (λ j. sectorWrite (journalAt g + j) (journalContents g p j)) (journalSectors (length (p .targets)))
+      (λ j h. in-image _ (omega arith) (length-journalContents g p j))))
+
+  C-in-image : All (InImage n) C
+  C-in-image = all-in-image (Metadata g) (λ w h. let l : w .sector < dataAt g = metadata-lt g (w .sector) h in omega arith) C (ok .metadata) (ok .wholeTargets)
+
+  pub groups-in-image : All (InImage n) (joined (groups g img0 p))
+  unfolding groupsOf
+  groups-in-image = all-append (InImage n) (A g p) _ A-in-image (super-in-image (length C), all-append (InImage n) C _ C-in-image (super-in-image 0, tt))
+
+  pub part-in-image : (k : ℕ) (m : List Bool) → All (InImage n) (partOf k m (A g p))
+  part-in-image zero m = all-kept (InImage n) m (A g p) A-in-image
+  part-in-image (suc k) m = A-in-image
+
+  replay-in-image : All (InImage n) (joined (C ∷ (cl ∷ []) ∷ []))
+  replay-in-image = all-append (InImage n) C _ C-in-image (super-in-image 0, tt)
+
+  -- ---- disks
+
+  behind : (x : Group) → apply (A g p ++ ((mk ∷ []) ++ x)) d0 ≡ apply x (committed g d0 p)
+  unfolding committed
+  behind x = apply-append (A g p) ((mk ∷ []) ++ x) d0 ∙ apply-append (mk ∷ []) x (apply (A g p) d0)
+
+  final-is : apply (joined (groups g img0 p)) d0 ≡ final g d0 p
+  unfolding groupsOf final
+  final-is = behind (C ++ (cl ∷ [])) ∙ apply-append C (cl ∷ []) (committed g d0 p)
+
+  pub uncut-shows : view (uncut g img0 p) ≡ final g d0 p
+  uncut-shows = ap view (stored-closed (groups g img0 p) img0) ∙ stored-view (joined (groups g img0 p)) img0 n refl groups-in-image ∙ final-is
+
+  pub length-uncut : length (uncut g img0 p) ≡ n
+  length-uncut = length-stored (closed (groups g img0 p)) img0
+
+  finish : (d : Disk) → Pending g d0 p d → apply (C ++ (cl ∷ [])) d ≡ final g d0 p
+  unfolding final Pending
+  finish d h = apply-append C (cl ∷ []) d ∙ ap (apply (cl ∷ [])) (apply-agree C d (committed g d0 p) h)
+
+  still : (m : List Bool) (d : Disk) → Pending g d0 p d → Pending g d0 p (apply (kept m C) d)
+  unfolding Pending
+  still m d h j e = apply-miss (kept m C) d j (kept-miss m C j e) ∙ h j e
+
+  still-all : (d : Disk) → Pending g d0 p d → Pending g d0 p (apply C d)
+  unfolding Pending
+  still-all d h j e = apply-miss C d j e ∙ h j e
+
+  begun : Pending g d0 p (committed g d0 p)
+  unfolding Pending
+  begun j e = refl
+
+  -- ---- images: what lands on one that waits, or on the first
+
+  shows : (ws : Group) (img : List ℕ) → length img ≡ n → All (InImage n) ws → (d : Disk) → apply ws (view img) ≡ d → Pending g d0 p d → Waits g img0 p (stored ws img)
+  shows ws img e l d f h =
+      record { long = length-stored ws img ∙ e; shows = subst (Pending g d0 p) (sym (stored-view ws img n e l ∙ f)) h }
+
+  ends : (ws : Group) (img : List ℕ) → length img ≡ n → All (InImage n) ws → apply ws (view img) ≡ final g d0 p → stored ws img ≡ uncut g img0 p
+  ends ws img e l f =
+      same-view (stored ws img) (uncut g img0 p) (length-stored ws img ∙ e ∙ sym length-uncut) (stored-view ws img n e l ∙ f ∙ sym uncut-shows)
+
+  -- a completed recovery of an image that waits
+  pub completes : (img : List ℕ) → Waits g img0 p img → stored (joined (C ∷ (cl ∷ []) ∷ [])) img ≡ uncut g img0 p
+  completes img w = ends (C ++ (cl ∷ [])) img (w .long) replay-in-image (finish (view img) (w .shows))
+
+  -- a cut one
+  pub recovery-cuts : (k : ℕ) (m : List Bool) (img : List ℕ) → Waits g img0 p img → Interrupted g img0 p (stored (landedOf k m (C ∷ (cl ∷ []) ∷ [])) img)
+  unfolding landedOf
+  recovery-cuts zero m img w = waits (shows (kept m C) img (w .long) (all-kept (InImage n) m C C-in-image) _ refl (still m (view img) (w .shows)))
+  recovery-cuts (suc zero) m img w = subst (λ (x : Group). Interrupted g img0 p (stored (C ++ x) img)) (sym (kept-one m cl)) (by (getD m 0 false))
+    where
+      by : (b : Bool) → Interrupted g img0 p (stored (C ++ cond b (cl ∷ []) []) img)
+      by true = finished (completes img w)
+      by false = waits (rw append-nil (shows C img (w .long) C-in-image _ refl (still-all (view img) (w .shows))))
+  recovery-cuts (suc (suc k)) m img w = finished (completes img w)
+
+  -- the call's own cut, the start mark landed
+  pub cut-marked : (k : ℕ) (m : List Bool) → markedBy k m ≡ true → Interrupted g img0 p (stored (landedOf k m (groups g img0 p)) img0)
+  unfolding landedOf groupsOf
+  cut-marked zero m e = absurd (false≢true e)
+  cut-marked (suc zero) m e =
+      let f : kept m (mk ∷ []) ≡ mk ∷ [] = kept-one m mk ∙ ap (λ (b : Bool). cond b (mk ∷ []) []) e in
+      waits (rw f
+      (shows (A g p ++ (mk ∷ [])) img0 refl (all-append (InImage n) (A g p) (mk ∷ []) A-in-image (super-in-image (length C), tt)) _
+      (behind [] ∙ apply-nil (committed g d0 p)) begun))
+  cut-marked (suc (suc k)) m e =
+      let w : Waits g img0 p (stored (A g p ++ (mk ∷ [])) img0) =
+      shows (A g p ++ (mk ∷ [])) img0 refl (all-append (InImage n) (A g p) (mk ∷ []) A-in-image (super-in-image (length C), tt)) _
+      (behind [] ∙ apply-nil (committed g d0 p)) begun in
+      subst (Interrupted g img0 p) (sym (stored-append (A g p) ((mk ∷ []) ++ landedOf k m (C ∷ (cl ∷ []) ∷ [])) img0 ∙ stored-append (mk ∷ []) (landedOf k m (C ∷ (cl ∷ []) ∷ [])) (stored (A g p) img0) ∙ ap (stored (landedOf k m (C ∷ (cl ∷ []) ∷ []))) (sym (stored-append (A g p) (mk ∷ []) img0))))
+      (recovery-cuts k m (stored (A g p ++ (mk ∷ [])) img0) w)
+
+  -- and not landed: nothing but a part of group A
+  pub cut-unmarked : (k : ℕ) (m : List Bool) → markedBy k m ≡ false → landedOf k m (groups g img0 p) ≡ partOf k m (A g p)
+  unfolding landedOf groupsOf
+  cut-unmarked zero m e = refl
+  cut-unmarked (suc zero) m e =
+      let f : kept m (mk ∷ []) ≡ [] = kept-one m mk ∙ ap (λ (b : Bool). cond b (mk ∷ []) []) e in
+      rw f (append-nil (A g p))
+  cut-unmarked (suc (suc k)) m e = absurd (true≢false e)
+
+  part-zero : (k : ℕ) (m : List Bool) → hits (partOf k m (A g p)) 0 ≡ false
+  part-zero zero m = kept-miss m (A g p) 0 (A-zero g p geo ok)
+  part-zero (suc k) m = A-zero g p geo ok
+
+  -- the image with that part, and the uncut one, are ready again
+  pub ready-part : (k : ℕ) (m : List Bool) → Ready g (stored (partOf k m (A g p)) img0)
+  ready-part k m =
+      let ws = partOf k m (A g p) in
+      let z : view (stored ws img0) superblockAt ≡ view img0 superblockAt =
+      ap (λ (d : Disk). d 0) (stored-view ws img0 n refl (part-in-image k m)) ∙ apply-miss ws d0 0 (part-zero k m) in
+      record {
+        volume = subst (λ (l : ℕ). Volume g l (view (stored ws img0) superblockAt)) (sym (length-stored ws img0)) (subst (Volume g n) (sym z) (ready .volume));
+        clean = ap (λ (s : List ℕ). stateOf (journalLength s)) z ∙ ready .clean;
+      }
+
+  uncut-zero : view (uncut g img0 p) superblockAt ≡ withJournalLength 0 (view img0 superblockAt)
+  unfolding final apply over
+  uncut-zero = ap (λ (d : Disk). d 0) uncut-shows
+
+  pub ready-uncut : Ready g (uncut g img0 p)
+  ready-uncut = record {
+    volume = subst (λ (l : ℕ). Volume g l (view (uncut g img0 p) superblockAt)) (sym length-uncut)
+        (subst (Volume g n) (sym uncut-zero) (volume-with g 0 n (view img0 superblockAt) (ready .volume)));
+    clean = ap (λ (s : List ℕ). stateOf (journalLength s)) uncut-zero
+        ∙ state-clean (journalLength (withJournalLength 0 (view img0 superblockAt))) (journalLength-with 0 (view img0 superblockAt) (length-view img0 superblockAt) (omega arith));
+  }
+
+  pub waits-recovers : (img : List ℕ) → Waits g img0 p img → Recovers (length img) (view img) (C ∷ (cl ∷ []) ∷ [])
+  waits-recovers img w =
+      subst (λ (l : ℕ). Recovers l (view img) (C ∷ (cl ∷ []) ∷ [])) (sym (w .long))
+      (recovers-pending g p geo ok d0 (view img) (w .shows) n (ready .volume) (length-view img0 superblockAt))
+
+pub ready-recovers : (g : Geometry) (img : List ℕ) → Ready g img → Recovers (length img) (view img) []
+ready-recovers g img r = recovers-clean g (length img) (view img) (r .volume) (r .clean)
+
+-- ---- any number of cut recoveries, then one completed
+
+pub data RecoveredTo : List ℕ → List ℕ → Type 0 where
+  completed : {img : List ℕ} (room : ℕ) → isDone (recoveryVerdict (length img) (view img) room) ≡ true
+      → RecoveredTo img (stored (closed (recoveryListed (length img) (view img) room)) img)
+  interrupted : {img out : List ℕ} (room : ℕ) → recoveryListed (length img) (view img) room ≢ [] → (x : Cut)
+      → RecoveredTo (stored (landed x (recoveryListed (length img) (view img) room)) img) out → RecoveredTo img out
+
+pub stored-none : (img : List ℕ) → stored (closed []) img ≡ img
+unfolding stored
+stored-none img = refl
+
+pub ready-recovered : (g : Geometry) {img out : List ℕ} → Ready g img → RecoveredTo img out → out ≡ img
+ready-recovered g {img} r (completed room e) =
+    ap (λ (gs : List Group). stored (closed gs) img) (when-none (length img) (view img) (ready-recovers g img r) room) ∙ stored-none img
+ready-recovered g {img} r (interrupted room ne x m) = absurd (ne (when-none (length img) (view img) (ready-recovers g img r) room))
+
+module _ (g : Geometry) (img0 : List ℕ) (p : Plan) (geo : UsableGeometry g) (ok : WellFormed g p) (ready : Ready g img0) where
+  pub waits-done : (img : List ℕ) → Waits g img0 p img → (room : ℕ) → isDone (recoveryVerdict (length img) (view img) room) ≡ true
+      → stored (closed (recoveryListed (length img) (view img) room)) img ≡ uncut g img0 p
+  waits-done img w room e =
+      ap (λ (gs : List Group). stored (closed gs) img) (when-done (length img) (view img) _ (waits-recovers g img0 p geo ok ready img w) room e)
+      ∙ stored-closed (p .targets ∷ (clear g (view img0) p ∷ []) ∷ []) img ∙ completes g img0 p geo ok ready img w
+
+  pub waits-cut : (img : List ℕ) → Waits g img0 p img → (room : ℕ) → recoveryListed (length img) (view img) room ≢ [] → (x : Cut)
+      → Interrupted g img0 p (stored (landed x (recoveryListed (length img) (view img) room)) img)
+  waits-cut img w room ne x =
+      subst (λ (gs : List Group). Interrupted g img0 p (stored (landed x gs) img))
+      (sym (when-some (length img) (view img) _ (waits-recovers g img0 p geo ok ready img w) room ne)) (recovery-cuts g img0 p geo ok ready (x .before) (x .mask) img w)
+
+  finished-recovered : {img out : List ℕ} → img ≡ uncut g img0 p → RecoveredTo img out → out ≡ uncut g img0 p
+  finished-recovered e m = ready-recovered g (subst (Ready g) (sym e) (ready-uncut g img0 p geo ok ready)) m ∙ e
+
+  interrupted-recovered : {img out : List ℕ} → RecoveredTo img out → Interrupted g img0 p img → out ≡ uncut g img0 p
+  interrupted-recovered {img} (completed room e) (waits w) = waits-done img w room e
+  interrupted-recovered {img} (completed room e) (finished q) = finished-recovered q (completed room e)
+  interrupted-recovered {img} (interrupted room ne x m) (waits w) = interrupted-recovered m (waits-cut img w room ne x)
+  interrupted-recovered {img} (interrupted room ne x m) (finished q) = finished-recovered q (interrupted room ne x m)
+
+  -- THE COMMIT THEOREM: with the start mark landed the image is in the end the uncut one, else the old one with the landed part
+  -- of group A
+  pub commit : (x : Cut) {out : List ℕ} → RecoveredTo (stored (landed x (groups g img0 p)) img0) out
+      → out ≡ cond (startMark x) (uncut g img0 p) (stored (partOf (x .before) (x .mask) (A g p)) img0)
+  commit x {out} m = go (startMark x) refl
+    where
+      go : (b : Bool) → startMark x ≡ b → out ≡ cond b (uncut g img0 p) (stored (partOf (x .before) (x .mask) (A g p)) img0)
+      go true e = interrupted-recovered m (cut-marked g img0 p geo ok ready (x .before) (x .mask) e)
+      go false e =
+          let f = cut-unmarked g img0 p geo ok ready (x .before) (x .mask) e in
+          ready-recovered g (subst (λ (ws : Group). Ready g (stored ws img0)) (sym f) (ready-part g img0 p geo ok ready (x .before) (x .mask))) m
+          ∙ ap (λ (ws : Group). stored ws img0) f

@@ -1,0 +1,212 @@
+-- What the ledger says of the file that a create, delete, resize or write names, and that an image says of a file what the ledger says.
+-- Assumes nothing.
+use Prim.Native.Nat.{ℕ, _+_, _-_, _≤_, _<_, max}
+use mathlib.Core.Path.{_≡_, refl, sym, ap, _∙_}
+use mathlib.Core.Logic.{_≢_}
+use mathlib.Core.Bool.{Bool, true, false, cond, _&&_, true≢false, false≢true}
+use mathlib.Core.List.{List, []}
+use mathlib.Core.Option.{Option, none, some as just}
+use native.Mathlib.Omega.{arith}
+use lib.Dec.{eqb, leb, ltb}
+use lib.ListN.{length, getD, List·getD-eq-default}
+use lib.Seq.{ext-getD}
+use borrow.Author.Tests.{leb-true, ltb-true, ltb-false, eqb-true, eqb-false, eq-eqb, ne-eqb}
+use Rattle.model.specs.declared.Place.{Place}
+use Rattle.model.specs.declared.Place.the-variants.{At, Nowhere}
+use Rattle.model.specs.Bytes.{run, put}
+use Rattle.model.specs.Search.{first, some, indexOf, same}
+use Rattle.model.specs.Disk.{view}
+use Rattle.model.specs.Entry.{Entry, newEntry, updatedEntry}
+use Rattle.model.specs.Catalogue.{Catalogue, catalogueOf, hasName, fileNamed, freeEntry, entryOf, entryOr, fileByte, fileBytes}
+use Rattle.model.specs.Faults.{among}
+use Rattle.model.specs.Resize.{zeros}
+use Rattle.model.specs.Ledger.{Ledger, File, fileOr, entryOfFile, catalogue, create, delete, resize, write, slotNamed, fileOf, withFile, withRootUpdated, written, afterWrite, shrunk, afterCall}
+use Rattle.model.specs.Demand3.{Says}
+use Rattle.laws.proofs.Booleans.{and-left}
+use Rattle.laws.proofs.Bytes.{length-run, getD-run, run-all, length-put, getD-put}
+use Rattle.laws.proofs.Search.{length-tab, Hit, first-none}
+use Rattle.safety.specs.Naming.{Contents, contentsAt, fileOn, contentsIn, fileIn}
+use Rattle.safety.proofs.Searches.{place-none}
+use Rattle.safety.proofs.Rep.{catalogue-is, NoFaults}
+use Rattle.safety.proofs.Replaced.{names-apart}
+use Rattle.safety.proofs.Read.{file-there}
+use Rattle.safety.proofs.TakenFile.{first-only}
+use Rattle.safety.proofs.Naming.{same-refl, same-true, named-hit, named-by, Found, Fresh}
+
+-- ---- what is said of the file that the call names
+
+-- a file into which bytes were put at an offset
+abbrev pub writtenInto : File → ℕ → List ℕ → ℕ → Contents
+writtenInto f offset bytes time =
+    let size = max (f .entry .size) (offset + length bytes) in
+    record { entry = updatedEntry size time (f .entry); bytes = put (run (f .bytes) 0 size) offset bytes }
+
+module _ (L : Ledger) (m : List ℕ) where
+  -- a slot that alone has the name
+  said-at : (M : Ledger) (i : ℕ) (f : File) → M .slots i ≡ just f → fileNamed (catalogue M) m ≡ At i → fileIn M m ≡ just (record { entry = f .entry; bytes = f .bytes })
+  unfolding fileIn
+  said-at M i f e q = ap (contentsIn M) q ∙ ap (λ (o : Option File). just (record { entry = fileOr o .entry; bytes = fileOr o .bytes })) e
+
+  slot-here : (i : ℕ) (f : Option File) → cond (eqb i i) f (L .slots i) ≡ f
+  slot-here i f = ap (λ (b : Bool). cond b f (L .slots i)) (eq-eqb i i refl)
+
+  pub renewed-said : Found L m → (f : File) → f .entry .name ≡ fileOf L m .entry .name → fileIn (withFile L (slotNamed L m) f) m ≡ just (record { entry = f .entry; bytes = f .bytes })
+  unfolding fileOf
+  renewed-said h f e =
+      let i = slotNamed L m in
+      said-at (withFile L i f) i f (slot-here i (just f))
+      (named-by L (L .root) i (just f) m (ap (λ (x : List ℕ). same x m) e ∙ by-file (L .slots i) (h .has)) ∙ h .at)
+    where
+      by-file : (o : Option File) → hasName m (entryOfFile o) ≡ true → same (fileOr o .entry .name) m ≡ hasName m (entryOfFile o)
+      by-file none q = absurd (false≢true q)
+      by-file (just x) q = refl
+
+  pub found-said : Found L m → fileIn L m ≡ just (record { entry = fileOf L m .entry; bytes = fileOf L m .bytes })
+  unfolding fileOf
+  found-said h = said-at L (slotNamed L m) (fileOr (L .slots (slotNamed L m))) (file-there (L .slots (slotNamed L m)) m (h .has)) (h .at)
+
+  pub created-said : Fresh L m → (id mode time room : ℕ) → fileIn (afterCall (create m id mode time room) L) m ≡ just (record { entry = newEntry m id mode time; bytes = [] })
+  unfolding afterCall fileNamed catalogue newEntry
+  created-said h id mode time room =
+      said-at (withRootUpdated L time i (just f)) i f (slot-here i (just f))
+      (first-only (λ k. hasName m (entryOfFile (cond (eqb k i) (just f) (L .slots k)))) (L .geometry .files) i (h .within)
+      (ap (λ (o : Option File). hasName m (entryOfFile o)) (slot-here i (just f)) ∙ same-refl m) (λ k l. go k l (eqb k i) refl))
+    where
+      i : ℕ
+      i = indexOf (freeEntry (catalogue L))
+
+      f : File
+      f = record { entry = newEntry m id mode time; bytes = []; extents = [] }
+
+      go : (k : ℕ) → k < L .geometry .files → (b : Bool) → eqb k i ≡ b → hasName m (entryOfFile (cond b (just f) (L .slots k))) ≡ true → k ≡ i
+      go k l true e q = eqb-true k i e
+      go k l false e q = absurd (true≢false (sym q ∙ place-none (λ x. hasName m (entryOfFile (L .slots x))) (L .geometry .files) (h .unused) k l))
+
+  -- where no two files have one name, none has the name after a delete
+  pub deleted-said : NoFaults (catalogue L) → Found L m → (time room : ℕ) → fileIn (afterCall (delete m time room) L) m ≡ none
+  unfolding afterCall fileIn fileNamed catalogue
+  deleted-said nf h time room =
+      ap (contentsIn (withRootUpdated L time i none))
+      (first-none (λ k. hasName m (entryOfFile (cond (eqb k i) none (L .slots k)))) (L .geometry .files) (λ k l. go k l (eqb k i) refl))
+    where
+      i : ℕ
+      i = slotNamed L m
+
+      apart : (o : Option Entry) (k : ℕ) → hasName m o ≡ true → among o (λ e. hasName (e .name) (entryOfFile (L .slots k))) ≡ false → hasName m (entryOfFile (L .slots k)) ≡ false
+      apart none k q r = absurd (false≢true q)
+      apart (just e) k q r = ap (λ (x : List ℕ). hasName x (entryOfFile (L .slots k))) (sym (same-true (e .name) m q)) ∙ r
+
+      go : (k : ℕ) → k < L .geometry .files → (b : Bool) → eqb k i ≡ b → hasName m (entryOfFile (cond b none (L .slots k))) ≡ false
+      go k l true q = refl
+      go k l false q = apart (entryOfFile (L .slots i)) k (h .has) (names-apart (catalogue L) nf i k (h .within) l (eqb-false k i q))
+
+  written-file : Found L m → (offset : ℕ) (bytes : List ℕ) (time : ℕ)
+      → fileIn (withFile L (slotNamed L m) (written L (slotNamed L m) offset bytes time)) m ≡ just (writtenInto (fileOf L m) offset bytes time)
+  unfolding written fileOf updatedEntry
+  written-file h offset bytes time = renewed-said h (written L (slotNamed L m) offset bytes time) refl
+
+  pub written-said : Found L m → (offset : ℕ) (bytes : List ℕ) (time room : ℕ) → 0 < length bytes
+      → fileIn (afterCall (write m offset bytes time room) L) m ≡ just (writtenInto (fileOf L m) offset bytes time)
+  unfolding afterCall afterWrite
+  written-said h offset bytes time room some =
+      ap (λ (b : Bool). fileIn (cond b L (withFile L (slotNamed L m) (written L (slotNamed L m) offset bytes time))) m) (ne-eqb (length bytes) 0 (λ e. omega arith))
+      ∙ written-file h offset bytes time
+
+-- zeros written at the end of a file's bytes are what lies past them
+zeros-at-end : (b : List ℕ) (o s : ℕ) → length b ≡ o → o ≤ s → put (run b 0 s) o (zeros (s - o)) ≡ run b 0 s
+zeros-at-end b o s e h =
+    ext-getD 0 (put (run b 0 s) o (zeros (s - o))) (run b 0 s) (length-put (run b 0 s) o (zeros (s - o)))
+    (λ k l. let q : k < length (run b 0 s) = rw (length-put (run b 0 s) o (zeros (s - o))) at l in
+    getD-put (run b 0 s) o (zeros (s - o)) k q ∙ go k q (leb o k && ltb k (o + length (zeros (s - o)))) refl)
+  where
+    go : (k : ℕ) → k < length (run b 0 s) → (t : Bool) → (leb o k && ltb k (o + length (zeros (s - o)))) ≡ t
+        → cond t (getD (zeros (s - o)) (k - o) 0) (getD (run b 0 s) k 0) ≡ getD (run b 0 s) k 0
+    go k l false q = refl
+    go k l true q =
+        let n = length-run b 0 s in
+        let z = length-run [] 0 (s - o) in
+        let a : o ≤ k = leb-true o k (and-left _ _ q) in
+        let u : k < s = omega arith in
+        getD-run [] 0 (s - o) (k - o) (omega arith) ∙ sym (getD-run b 0 s k u ∙ List·getD-eq-default b 0 (omega arith))
+
+module _ (L : Ledger) (m : List ℕ) (h : Found L m) (sized : length (fileOf L m .bytes) ≡ fileOf L m .entry .size) (size time room : ℕ) where
+  abbrev old : File
+  old = fileOf L m
+
+  abbrev i : ℕ
+  i = slotNamed L m
+
+  -- its entry, unless the size stays, and its first bytes, with zeros behind them where it grows
+  abbrev resizedEntry : Bool → Entry
+  resizedEntry b = cond b (fileOf L m .entry) (updatedEntry size time (fileOf L m .entry))
+
+  abbrev resized : Bool → Option Contents
+  resized b = just (record { entry = resizedEntry b; bytes = run (fileOf L m .bytes) 0 size })
+
+  shrunk-said : size < old .entry .size → fileIn (withFile L i (shrunk L i size time)) m ≡ resized (eqb size (old .entry .size))
+  unfolding shrunk fileOf updatedEntry
+  shrunk-said l = renewed-said L m h (shrunk L i size time) refl ∙ ap resized (sym (ne-eqb size (old .entry .size) (λ e. omega arith)))
+
+  -- zeros at the end
+  abbrev end : List ℕ
+  end = zeros (size - fileOf L m .entry .size)
+
+  grown-file : old .entry .size ≤ size → writtenInto old (old .entry .size) end time ≡ record { entry = updatedEntry size time (old .entry); bytes = run (old .bytes) 0 size }
+  grown-file l =
+      let z = length-run [] 0 (size - old .entry .size) in
+      let q : max (old .entry .size) (old .entry .size + length end) ≡ size = omega arith in
+      (λ k. record { entry = updatedEntry (q k) time (old .entry); bytes = put (run (old .bytes) 0 (q k)) (old .entry .size) end })
+      ∙ ap (λ (x : List ℕ). record { entry = updatedEntry size time (old .entry); bytes = x }) (zeros-at-end (old .bytes) (old .entry .size) size sized l)
+
+  grown-said : old .entry .size ≤ size → (b : Bool) → eqb (length end) 0 ≡ b
+      → fileIn (cond b L (withFile L i (written L i (old .entry .size) end time))) m ≡ resized (eqb size (old .entry .size))
+  grown-said l true e =
+      let z = length-run [] 0 (size - old .entry .size) in
+      let n : length end ≡ 0 = eqb-true _ 0 e in
+      let q : size ≡ old .entry .size = omega arith in
+      found-said L m h ∙ ap (λ (x : List ℕ). just (record { entry = old .entry; bytes = x })) (sym (run-all (old .bytes) size (sized ∙ sym q)))
+      ∙ ap resized (sym (eq-eqb size (old .entry .size) q))
+  grown-said l false e =
+      let z = length-run [] 0 (size - old .entry .size) in
+      let ne : length end ≢ 0 = eqb-false _ 0 e in
+      written-file L m h (old .entry .size) end time ∙ ap just (grown-file l) ∙ ap resized (sym (ne-eqb size (old .entry .size) (λ x. omega arith)))
+
+  pub resized-said : fileIn (afterCall (resize m size time room) L) m
+      ≡ just (record { entry = cond (eqb size (fileOf L m .entry .size)) (fileOf L m .entry) (updatedEntry size time (fileOf L m .entry)); bytes = run (fileOf L m .bytes) 0 size })
+  unfolding afterCall afterWrite
+  resized-said = go (ltb size (old .entry .size)) refl
+    where
+      go : (b : Bool) → ltb size (old .entry .size) ≡ b
+          → fileIn (cond b (withFile L i (shrunk L i size time)) (afterWrite L i (old .entry .size) (zeros (size - old .entry .size)) time)) m ≡ resized (eqb size (old .entry .size))
+      go true e = shrunk-said (ltb-true size (old .entry .size) e)
+      go false e = grown-said (ltb-false size (old .entry .size) e) (eqb (length (zeros (size - old .entry .size))) 0) refl
+
+-- ---- AN IMAGE SAYS OF A FILE WHAT THE LEDGER SAYS
+
+entry-or : (o : Option Entry) (e : Entry) → o ≡ just e → entryOr o ≡ e
+entry-or o e q = ap entryOr q
+
+entry-of : (L : Ledger) (img : List ℕ) → Says L img → (k : ℕ) (f : File) → L .slots k ≡ just f → entryOf (catalogueOf (view img)) k ≡ f .entry
+unfolding entryOf catalogue
+entry-of L img s k f e = entry-or (catalogueOf (view img) .entries k) (f .entry) (s .directory k ∙ ap entryOfFile e)
+
+pub said : (L : Ledger) (img : List ℕ) → Says L img → (n : List ℕ) → fileOn img n ≡ fileIn L n
+unfolding fileOn fileIn
+said L img s n = ap (λ (c : Catalogue). contentsAt (view img) (fileNamed c n)) (catalogue-is L img s) ∙ go (fileNamed (catalogue L) n) (named-hit L n)
+  where
+    at-slot : (k : ℕ) (f : File) → L .slots k ≡ just f → contentsAt (view img) (At k) ≡ just (record { entry = f .entry; bytes = f .bytes })
+    at-slot k f e =
+        let q : entryOf (catalogueOf (view img)) k ≡ f .entry = entry-of L img s k f e in
+        ap (λ (x : Entry). just (record { entry = x; bytes = fileBytes (catalogueOf (view img)) (view img) k 0 (x .size) })) q
+        ∙ ap (λ (b : List ℕ). just (record { entry = f .entry; bytes = b })) (s .bytes k f e)
+
+    go : (r : Place) → Hit (λ k. hasName n (entryOfFile (L .slots k))) (L .geometry .files - 0) 0 r → contentsAt (view img) r ≡ contentsIn L r
+    go Nowhere h = refl
+    go (At k) h = at-slot k (fileOr (L .slots k)) (file-there (L .slots k) n (h .2))
+
+-- a file has as many bytes as its size says
+pub said-length : (L : Ledger) (img : List ℕ) → Says L img → (m : List ℕ) → Found L m → length (fileOf L m .bytes) ≡ fileOf L m .entry .size
+unfolding fileOf fileBytes
+said-length L img s m h =
+    let i = slotNamed L m in
+    ap length (sym (s .bytes i (fileOr (L .slots i)) (file-there (L .slots i) m (h .has)))) ∙ length-tab (fileByte (catalogueOf (view img)) (view img) i) 0 (fileOr (L .slots i) .entry .size)

@@ -1,0 +1,98 @@
+-- What a plan's list, or the part of it that landed without the start mark, leaves in each sector outside journal and reserve.
+-- Assumes nothing.
+use Prim.Native.Nat.{ℕ, zero, suc, _+_, _*_, _≤_, _<_}
+use mathlib.Core.Path.{_≡_, refl, sym, ap, _∙_}
+use mathlib.Core.Logic.{_≢_}
+use mathlib.Core.Bool.{Bool, true, false}
+use mathlib.Core.List.{List, [], _∷_, _++_, append-assoc}
+use native.Mathlib.Omega.{arith}
+use lib.ListN.{length, drop, length-append}
+use Rattle.model.specs.declared.Geometry.{Geometry}
+use Rattle.model.specs.Geometry.{superblockAt, journalAt, reserveAt, volumeSectors}
+use Rattle.model.specs.Disk.{Disk, view}
+use Rattle.model.specs.WriteList.{Record, sectorWrite, barrier, stored, Plan, Group, groupsOf, closedAfter, closed, listLength, recordSize, recordCount}
+use Rattle.model.specs.Superblock.{withJournalLength}
+use Rattle.model.specs.Journal.{journalSectors}
+use Rattle.model.specs.Cut.{kept}
+use Rattle.laws.proofs.Search.{length-tab}
+use Rattle.safety.proofs.Apply.{over, apply, hits, over-append, over-miss, over-skip, over-none, kept-miss, kept-nil, hits-append, stored-view}
+use Rattle.safety.proofs.Plan.{UsableGeometry, WellFormed, A, A-is, copyWrites, journalWrites, journal-miss, copies-miss, mark, clear, committed, final}
+use Rattle.safety.proofs.Commit.{Ready, partOf, part-in-image, uncut, uncut-shows}
+
+kept-append : (m : List Bool) (a b : Group) → kept m (a ++ b) ≡ kept m a ++ kept (drop (length a) m) b
+unfolding kept
+kept-append m [] b = ap (λ l. l ++ kept m b) (sym (kept-nil m))
+kept-append [] (w ∷ a) b = refl
+kept-append (true ∷ m) (w ∷ a) b = ap (λ l. w ∷ l) (kept-append m a b)
+kept-append (false ∷ m) (w ∷ a) b = kept-append m a b
+
+pub record Outside (g : Geometry) (j : ℕ) : Type 0 where
+  pub journal : journalAt g ≤ j → j < journalAt g + 32 → ⊥
+  pub reserve : reserveAt g ≤ j → j < volumeSectors g → ⊥
+
+module _ (g : Geometry) (p : Plan) (geo : UsableGeometry g) (ok : WellFormed g p) where
+  abbrev staged : Group
+  staged = copyWrites g p ++ journalWrites g p
+
+  staged-miss : (j : ℕ) → Outside g j → hits (copyWrites g p ++ journalWrites g p) j ≡ false
+  staged-miss j o = hits-append (copyWrites g p) (journalWrites g p) j (copies-miss g p geo ok j (o .reserve)) (journal-miss g p geo ok j (o .journal))
+
+  A-parts : A g p ≡ p .dataSectors ++ (copyWrites g p ++ journalWrites g p)
+  A-parts = A-is g p ∙ append-assoc (p .dataSectors) (copyWrites g p) (journalWrites g p)
+
+  over-part : (k : ℕ) (m : List Bool) (j : ℕ) (x : List ℕ) → Outside g j → over (partOf k m (A g p)) j x ≡ over (partOf k m (p .dataSectors)) j x
+  over-part zero m j x o =
+      ap (λ (l : Group). over (kept m l) j x) A-parts
+      ∙ ap (λ (l : Group). over l j x) (kept-append m (p .dataSectors) (copyWrites g p ++ journalWrites g p))
+      ∙ over-append (kept m (p .dataSectors)) (kept (drop (length (p .dataSectors)) m) (copyWrites g p ++ journalWrites g p)) j x
+      ∙ over-miss (kept (drop (length (p .dataSectors)) m) (copyWrites g p ++ journalWrites g p)) j _ (kept-miss _ (copyWrites g p ++ journalWrites g p) j (staged-miss j o))
+  over-part (suc k) m j x o =
+      ap (λ (l : Group). over l j x) A-parts ∙ over-append (p .dataSectors) (copyWrites g p ++ journalWrites g p) j x ∙ over-miss (copyWrites g p ++ journalWrites g p) j _ (staged-miss j o)
+
+  module _ (img : List ℕ) (ready : Ready g img) where
+    pub part-at : (k : ℕ) (m : List Bool) (j : ℕ) → Outside g j → view (stored (partOf k m (A g p)) img) j ≡ over (partOf k m (p .dataSectors)) j (view img j)
+    unfolding apply
+    part-at k m j o =
+        ap (λ (d : Disk). d j) (stored-view (partOf k m (A g p)) img (length img) refl (part-in-image g img p geo ok ready k m)) ∙ over-part k m j (view img j) o
+
+    pub done-at : (j : ℕ) → Outside g j → j ≢ 0 → view (uncut g img p) j ≡ over (p .targets) j (over (p .dataSectors) j (view img j))
+    unfolding final committed apply
+    done-at j o ne =
+        ap (λ (d : Disk). d j) (uncut-shows g img p geo ok ready)
+        ∙ over-skip (clear g (view img) p) [] j _ ne ∙ over-none j _
+        ∙ ap (over (p .targets) j) (over-skip (mark g (view img) p) [] j _ ne ∙ over-none j _ ∙ over-part 1 [] j (view img j) o)
+
+    pub done-zero : view (uncut g img p) superblockAt ≡ withJournalLength 0 (view img superblockAt)
+    unfolding final apply over
+    done-zero = ap (λ (d : Disk). d 0) (uncut-shows g img p geo ok ready)
+
+-- ---- list lengths by the groups
+
+length-after : (acc : List Record) (gs : List Group) → length (closedAfter acc gs) ≡ length acc + length (closedAfter [] gs)
+length-after acc [] = omega arith
+length-after acc (x ∷ gs) =
+    let a = length-after (acc ++ x ++ (barrier ∷ [])) gs in
+    let b = length-after ([] ++ x ++ (barrier ∷ [])) gs in
+    let e : length (acc ++ x ++ (barrier ∷ [])) ≡ length acc + length x + 1 = simp length-append (omega arith) in
+    let f : length ([] ++ x ++ (barrier ∷ [])) ≡ length x + 1 = simp length-append (omega arith) in
+    omega arith
+
+pub closed-cons : (x : Group) (gs : List Group) → length (closed (x ∷ gs)) ≡ length x + 1 + length (closed gs)
+closed-cons x gs =
+    let f : length ([] ++ x ++ (barrier ∷ [])) ≡ length x + 1 = simp length-append (omega arith) in
+    length-after ([] ++ x ++ (barrier ∷ [])) gs ∙ ap (λ n. n + length (closed gs)) f
+
+pub length-A : (g : Geometry) (p : Plan) → length (A g p) ≡ length (p .dataSectors) + length (p .targets) + journalSectors (length (p .targets))
+length-A g p = ap length (A-is g p) ∙ simp (length-append, length-tab)
+
+pub length-groups : (g : Geometry) (d : Disk) (p : Plan) → listLength (groupsOf g d p) ≡ recordCount (length (p .dataSectors)) (length (p .targets)) * recordSize
+unfolding groupsOf
+length-groups g d p =
+    let n = length (p .targets) in
+    let b = sectorWrite superblockAt (withJournalLength n (d superblockAt)) ∷ [] in
+    let z = sectorWrite superblockAt (withJournalLength 0 (d superblockAt)) ∷ [] in
+    let e1 = closed-cons (A g p) (b ∷ p .targets ∷ z ∷ []) in
+    let e2 = closed-cons b (p .targets ∷ z ∷ []) in
+    let e3 = closed-cons (p .targets) (z ∷ []) in
+    let a = length-A g p in
+    ap (λ k. k * recordSize) (e1 ∙ (let q : length (A g p) + 1 + length (closed (b ∷ p .targets ∷ z ∷ [])) ≡ recordCount (length (p .dataSectors)) n = omega arith in q))

@@ -1,0 +1,317 @@
+-- What commits need of a geometry and of a plan, where a plan's records go, and that recovery reads a waiting plan back from the
+-- journal. Assumes nothing.
+use Prim.Native.Nat.{ℕ, zero, suc, _+_, _*_, _-_, _/_, _%_, _^_, _≤_, _<_}
+use mathlib.Core.Path.{_≡_, refl, sym, ap, ap₂, _∙_}
+use mathlib.Core.Logic.{_≢_}
+use mathlib.Core.Bool.{true, false, _&&_, _||_, not, true≢false}
+use mathlib.Core.List.{List, [], _∷_, _++_}
+use native.Mathlib.Omega.{arith}
+use native.Mathlib.Decide.{decLt}
+use native.Mathlib.Nat.{add-mul, zero-add, sub-zero, not-suc-le-zero}
+use lib.Dec.{eqb, leb, ltb}
+use lib.ListN.{length, getD, length-map}
+use borrow.Author.Tests.{ne-eqb}
+use Rattle.model.specs.declared.Geometry.{Geometry}
+use Rattle.model.specs.declared.State.the-variants.{Waiting}
+use Rattle.model.specs.Bytes.{beAt}
+use Rattle.model.specs.Search.{tab, scan, some}
+use Rattle.model.specs.Geometry.{superblockAt, extentSectors, tableSectors, reserveExtents, journalAt, tableAt, dataAt, reserveAt, volumeSectors}
+use Rattle.model.specs.Disk.{Disk}
+use Rattle.model.specs.WriteList.{barrierNumber, sectorsOf, Record, sectorWrite, barrier, Plan, Group, staging, copies, journalOf, groupA}
+use Rattle.model.specs.Superblock.{journalLength, withJournalLength, stateOf, stateOn}
+use Rattle.model.specs.Journal.{sourceAt, targetAt, journalSectors, journalSector}
+use Rattle.model.specs.Recovery.{isData, isMetadata, goodEntry, replayedSector, replayed, badJournal, replayGroups}
+use Rattle.laws.proofs.Booleans.{range-yes, range-no, and-yes, or-left, or-right}
+use Rattle.laws.proofs.Search.{every-yes, some-no, getD-tab0, tab-ext, flat-ext}
+use Rattle.safety.proofs.Apply.{over, apply, hits, over-append, over-miss, over-skip, over-none, All, all-map, all-at, hits-append, all-miss, tab-miss, tab-at}
+use Rattle.safety.proofs.Journal.{packed-source, packed-target, Rising, rising-lt, picked, flat-picked, made, made-picked}
+use Rattle.safety.proofs.Superblock.{journalLength-with, with-with, state-waiting, Volume, volume-with, recovers-by, Recovers}
+
+-- ---- areas
+
+pub metadata-directory : (g : Geometry) (j : ℕ) → 1 ≤ j → j < journalAt g → isMetadata g j ≡ true
+unfolding isMetadata
+metadata-directory g j h k = or-left _ _ (range-yes 1 (journalAt g) j h k)
+
+pub metadata-table : (g : Geometry) (j : ℕ) → tableAt g ≤ j → j < dataAt g → isMetadata g j ≡ true
+unfolding isMetadata
+metadata-table g j h k = or-right (leb 1 j && ltb j (journalAt g)) _ (range-yes (tableAt g) (dataAt g) j h k)
+
+pub metadata-no : (g : Geometry) (j : ℕ) → (1 ≤ j → j < journalAt g → ⊥) → (tableAt g ≤ j → j < dataAt g → ⊥) → isMetadata g j ≡ false
+unfolding isMetadata
+metadata-no g j h k = ap₂ (λ a b. a || b) (range-no 1 (journalAt g) j h) (range-no (tableAt g) (dataAt g) j k)
+
+pub metadata-lt : (g : Geometry) (t : ℕ) → isMetadata g t ≡ true → t < dataAt g
+metadata-lt g t h = go (decLt t (dataAt g))
+  where
+    go : Dec (t < dataAt g) → t < dataAt g
+    go (yes l) = l
+    go (no q) = absurd (true≢false (sym h ∙ metadata-no g t (λ a b. q (omega arith)) (λ a b. q b)))
+
+-- ---- what commits need of a geometry and of a plan
+
+-- the reserve lies in the volume and holds a copy of each of the most targets, their count is a waiting one's, and sector numbers fit
+-- a record's 8 bytes
+pub record UsableGeometry (g : Geometry) : Type 0 where
+  pub within : reserveExtents g ≤ g .extents
+  pub holds : tableSectors g + 2 ≤ reserveExtents g * extentSectors g
+  pub few : tableSectors g + 2 ≤ 1024
+  pub small : volumeSectors g < barrierNumber
+
+abbrev pub Metadata : Geometry → Record → Type 0
+Metadata g w = isMetadata g (w .sector) ≡ true
+
+abbrev pub UsableSector : Geometry → Record → Type 0
+UsableSector g w = (dataAt g ≤ w .sector) × (w .sector < reserveAt g)
+
+abbrev pub Whole : Record → Type 0
+Whole w = length (w .contents) ≡ 512
+
+-- at least one target and no more than the table's sectors, entry and root; targets in rising order in root, directory and table,
+-- data sectors in usable extents; all of 512 bytes
+pub record WellFormed (g : Geometry) (p : Plan) : Type 0 where
+  pub nonempty : 0 < length (p .targets)
+  pub few : length (p .targets) ≤ tableSectors g + 2
+  pub metadata : All (Metadata g) (p .targets)
+  pub rising : Rising 0 (p .targets)
+  pub usable : All (UsableSector g) (p .dataSectors)
+  pub wholeData : All Whole (p .dataSectors)
+  pub wholeTargets : All Whole (p .targets)
+
+pub volume-is : (g : Geometry) → UsableGeometry g → volumeSectors g ≡ reserveAt g + reserveExtents g * extentSectors g
+volume-is g geo =
+    let r : reserveExtents g ≤ g .extents = geo .within in
+    let e : g .extents ≡ (g .extents - reserveExtents g) + reserveExtents g = omega arith in
+    let f : g .extents * extentSectors g ≡ ((g .extents - reserveExtents g) + reserveExtents g) * extentSectors g = ap (λ x. x * extentSectors g) e in
+    omega (arith, add-mul (g .extents - reserveExtents g) (reserveExtents g) (extentSectors g))
+
+-- ---- the groups
+
+-- the sector numbers of records
+sector-at : (ws : Group) (k : ℕ) → k < length ws → getD (sectorsOf ws) k 0 ≡ (getD ws k barrier) .sector
+sector-at [] k h = absurd (not-suc-le-zero h)
+sector-at (w ∷ ws) zero h = refl
+sector-at (w ∷ ws) (suc k) h = sector-at ws k (omega arith)
+
+module _ (g : Geometry) (p : Plan) where
+  abbrev pub A : Group
+  A = groupA g (staging g (length (p .targets))) p
+
+  stage-at : (k : ℕ) → k < length (p .targets) → getD (staging g (length (p .targets))) k 0 ≡ reserveAt g + k
+  unfolding staging
+  stage-at k h = getD-tab0 (λ i. reserveAt g + i) (length (p .targets)) k 0 h
+
+  -- the contents of target k's copy and of journal sector j
+  unfoldable pub copyContents : ℕ → List ℕ
+  copyContents k = (getD (p .targets) k barrier) .contents
+
+  unfoldable pub journalContents : ℕ → List ℕ
+  journalContents j = journalSector (λ k. getD (staging g (length (p .targets))) k 0) (λ k. getD (sectorsOf (p .targets)) k 0) (length (p .targets)) j
+
+  abbrev pub copyWrites : Group
+  copyWrites = tab (λ k. sectorWrite (reserveAt g + k) (copyContents k)) 0 (length (p .targets))
+
+  abbrev pub journalWrites : Group
+  journalWrites = tab (λ j. sectorWrite (journalAt g + j) (journalContents j)) 0 (journalSectors (length (p .targets)))
+
+module _ (g : Geometry) (p : Plan) where
+  copies-are : copies (staging g (length (p .targets))) (p .targets) ≡ copyWrites g p
+  unfolding copies copyContents
+  copies-are =
+      tab-ext (λ k. sectorWrite (getD (staging g (length (p .targets))) k 0) (copyContents g p k)) (λ k. sectorWrite (reserveAt g + k) (copyContents g p k)) 0 0
+      (length (p .targets)) (λ k h. rw zero-add (ap (λ s. sectorWrite s (copyContents g p k)) (stage-at g p k h)))
+
+  journal-is : journalOf g (staging g (length (p .targets))) (sectorsOf (p .targets)) ≡ journalWrites g p
+  unfolding journalOf journalContents
+  journal-is =
+      ap (λ n. tab (λ j. sectorWrite (journalAt g + j) (journalSector (λ k. getD (staging g (length (p .targets))) k 0) (λ k. getD (sectorsOf (p .targets)) k 0) n j)) 0 (journalSectors n))
+      (length-map (p .targets) (λ (r : Record). r .sector))
+
+  pub A-is : A g p ≡ p .dataSectors ++ copyWrites g p ++ journalWrites g p
+  unfolding groupA
+  A-is = ap₂ (λ (c j : Group). p .dataSectors ++ c ++ j) copies-are journal-is
+
+  pub over-A : (j : ℕ) (x : List ℕ) → over (A g p) j x ≡ over (journalWrites g p) j (over (copyWrites g p) j (over (p .dataSectors) j x))
+  over-A j x =
+      ap (λ (a : Group). over a j x) A-is ∙ over-append (p .dataSectors ++ copyWrites g p) (journalWrites g p) j x
+      ∙ ap (over (journalWrites g p) j) (over-append (p .dataSectors) (copyWrites g p) j x)
+
+-- ---- the committed disk: group A landed, and the start mark
+
+module _ (g : Geometry) (d0 : Disk) (p : Plan) where
+  abbrev pub mark : Record
+  mark = sectorWrite superblockAt (withJournalLength (length (p .targets)) (d0 superblockAt))
+
+  abbrev pub clear : Record
+  clear = sectorWrite superblockAt (withJournalLength 0 (d0 superblockAt))
+
+  unfoldable pub committed : Disk
+  committed = apply (mark ∷ []) (apply (A g p) d0)
+
+  unfoldable pub final : Disk
+  unfolding committed
+  final = apply (clear ∷ []) (apply (p .targets) committed)
+
+  -- "the invariant while waiting speaks only of the sectors that group C misses"
+  unfoldable pub Pending : Disk → Type 0
+  unfolding committed
+  Pending d = (j : ℕ) → hits (p .targets) j ≡ false → d j ≡ committed j
+
+module _ (g : Geometry) (p : Plan) (geo : UsableGeometry g) (ok : WellFormed g p) where
+  pub targets-miss : (j : ℕ) → isMetadata g j ≡ false → hits (p .targets) j ≡ false
+  targets-miss j e =
+      all-miss j (p .targets) (all-map (Metadata g) (λ w. j ≢ w .sector) (λ w h q. true≢false (sym h ∙ ap (isMetadata g) (sym q) ∙ e)) (p .targets) (ok .metadata))
+
+  targets-zero : hits (p .targets) 0 ≡ false
+  targets-zero = targets-miss 0 (metadata-no g 0 (λ a b. omega arith) (λ a b. omega arith))
+
+  targets-journal : (i : ℕ) → i < 32 → hits (p .targets) (journalAt g + i) ≡ false
+  targets-journal i h = targets-miss (journalAt g + i) (metadata-no g (journalAt g + i) (λ a b. omega arith) (λ a b. omega arith))
+
+  targets-reserve : (k : ℕ) → hits (p .targets) (reserveAt g + k) ≡ false
+  targets-reserve k = targets-miss (reserveAt g + k) (metadata-no g (reserveAt g + k) (λ a b. omega arith) (λ a b. omega arith))
+
+  pub data-miss : (j : ℕ) → (dataAt g ≤ j → j < reserveAt g → ⊥) → hits (p .dataSectors) j ≡ false
+  data-miss j h =
+      all-miss j (p .dataSectors)
+      (all-map (UsableSector g) (λ w. j ≢ w .sector) (λ w u q. h (omega (arith, u .0)) (omega (arith, u .1))) (p .dataSectors) (ok .usable))
+
+  pub journal-few : journalSectors (length (p .targets)) ≤ 32
+  journal-few =
+      let h : length (p .targets) ≤ tableSectors g + 2 = ok .few in
+      let k : tableSectors g + 2 ≤ 1024 = geo .few in
+      omega arith
+
+  pub journal-miss : (j : ℕ) → (journalAt g ≤ j → j < journalAt g + 32 → ⊥) → hits (journalWrites g p) j ≡ false
+  journal-miss j h =
+      let few : journalSectors (length (p .targets)) ≤ 32 = journal-few in
+      tab-miss (journalAt g) (journalContents g p) (journalSectors (length (p .targets))) j (λ a b. h a (omega arith))
+
+  pub copies-miss : (j : ℕ) → (reserveAt g ≤ j → j < volumeSectors g → ⊥) → hits (copyWrites g p) j ≡ false
+  copies-miss j h =
+      let few : length (p .targets) ≤ tableSectors g + 2 = ok .few in
+      let holds : tableSectors g + 2 ≤ reserveExtents g * extentSectors g = geo .holds in
+      let e : volumeSectors g ≡ reserveAt g + reserveExtents g * extentSectors g = volume-is g geo in
+      tab-miss (reserveAt g) (copyContents g p) (length (p .targets)) j (λ a b. h a (omega arith))
+
+  -- outside journal, data area and reserve group A writes nothing
+  pub A-miss : (j : ℕ) → (journalAt g ≤ j → j < journalAt g + 32 → ⊥) → (dataAt g ≤ j → j < volumeSectors g → ⊥) → hits (A g p) j ≡ false
+  A-miss j h k =
+      let e : volumeSectors g ≡ reserveAt g + reserveExtents g * extentSectors g = volume-is g geo in
+      ap (λ (a : Group). hits a j) (A-is g p)
+      ∙ hits-append (p .dataSectors ++ copyWrites g p) (journalWrites g p) j
+      (hits-append (p .dataSectors) (copyWrites g p) j (data-miss j (λ a b. k a (omega arith))) (copies-miss j (λ a b. k (omega arith) b)))
+      (journal-miss j h)
+
+  pub A-zero : hits (A g p) 0 ≡ false
+  A-zero = A-miss 0 (λ a b. omega arith) (λ a b. omega arith)
+
+  module _ (d0 : Disk) where
+    committed-zero : committed g d0 p 0 ≡ withJournalLength (length (p .targets)) (d0 superblockAt)
+    unfolding committed apply over
+    committed-zero = refl
+
+    committed-other : (j : ℕ) → j ≢ 0 → committed g d0 p j ≡ over (journalWrites g p) j (over (copyWrites g p) j (over (p .dataSectors) j (d0 j)))
+    unfolding committed apply
+    committed-other j ne = over-skip (mark g d0 p) [] j _ ne ∙ over-none j _ ∙ over-A g p j (d0 j)
+
+    committed-copy : (k : ℕ) → k < length (p .targets) → committed g d0 p (reserveAt g + k) ≡ copyContents g p k
+    committed-copy k h =
+        committed-other (reserveAt g + k) (λ e. omega arith)
+        ∙ over-miss (journalWrites g p) _ _ (journal-miss (reserveAt g + k) (λ a b. omega arith))
+        ∙ tab-at (reserveAt g) (copyContents g p) (length (p .targets)) k _ h
+
+    committed-journal : (i : ℕ) → i < journalSectors (length (p .targets)) → committed g d0 p (journalAt g + i) ≡ journalContents g p i
+    committed-journal i h = committed-other (journalAt g + i) (λ e. omega arith) ∙ tab-at (journalAt g) (journalContents g p) (journalSectors (length (p .targets))) i _ h
+
+    module _ (d : Disk) (w : Pending g d0 p d) where
+      pub pending-zero : d 0 ≡ withJournalLength (length (p .targets)) (d0 superblockAt)
+      unfolding Pending
+      pending-zero = w 0 targets-zero ∙ committed-zero
+
+      pending-journal : (i : ℕ) → i < journalSectors (length (p .targets)) → d (journalAt g + i) ≡ journalContents g p i
+      unfolding Pending
+      pending-journal i h =
+          let few : journalSectors (length (p .targets)) ≤ 32 = journal-few in
+          w (journalAt g + i) (targets-journal i (omega arith)) ∙ committed-journal i h
+
+      pending-copy : (k : ℕ) → k < length (p .targets) → d (reserveAt g + k) ≡ copyContents g p k
+      unfolding Pending
+      pending-copy k h = w (reserveAt g + k) (targets-reserve k) ∙ committed-copy k h
+
+      reserve-lt : (k : ℕ) → k < length (p .targets) → reserveAt g + k < volumeSectors g
+      reserve-lt k h =
+          let few : length (p .targets) ≤ tableSectors g + 2 = ok .few in
+          let holds : tableSectors g + 2 ≤ reserveExtents g * extentSectors g = geo .holds in
+          omega (arith, volume-is g geo)
+
+      source-is : (k : ℕ) → k < length (p .targets) → sourceAt g d k ≡ reserveAt g + k
+      unfolding sourceAt journalContents
+      source-is k h =
+          let s : getD (staging g (length (p .targets))) k 0 ≡ reserveAt g + k = stage-at g p k h in
+          let l : reserveAt g + k < volumeSectors g = reserve-lt k h in
+          let b : getD (staging g (length (p .targets))) k 0 < 256 ^ 8 = omega (arith, geo .small) in
+          ap (λ x. beAt x (16 * (k % 32)) 8) (pending-journal (k / 32) (omega arith))
+          ∙ packed-source (λ i. getD (staging g (length (p .targets))) i 0) (λ i. getD (sectorsOf (p .targets)) i 0) (length (p .targets)) k h b
+          ∙ s
+
+      target-is : (k : ℕ) → k < length (p .targets) → targetAt g d k ≡ (getD (p .targets) k barrier) .sector
+      unfolding targetAt journalContents
+      target-is k h =
+          let t : (getD (p .targets) k barrier) .sector < dataAt g = metadata-lt g _ (all-at (Metadata g) (p .targets) k barrier (ok .metadata) h) in
+          let e : getD (sectorsOf (p .targets)) k 0 ≡ (getD (p .targets) k barrier) .sector = sector-at (p .targets) k h in
+          let b : getD (sectorsOf (p .targets)) k 0 < 256 ^ 8 = omega (arith, geo .small) in
+          ap (λ x. beAt x (16 * (k % 32) + 8) 8) (pending-journal (k / 32) (omega arith))
+          ∙ packed-target (λ i. getD (staging g (length (p .targets))) i 0) (λ i. getD (sectorsOf (p .targets)) i 0) (length (p .targets)) k h b
+          ∙ e
+
+      from-source : (k : ℕ) → k < length (p .targets) → d (sourceAt g d k) ≡ (getD (p .targets) k barrier) .contents
+      unfolding copyContents
+      from-source k h = ap d (source-is k h) ∙ pending-copy k h
+
+      entry-is : (t : ℕ) → replayedSector g d (length (p .targets)) t ≡ picked (p .targets) t
+      unfolding replayedSector
+      entry-is t =
+          ap (λ m. made d (sourceAt g d) t (scan (λ k. eqb (targetAt g d k) t) m 0)) (sub-zero (length (p .targets)))
+          ∙ made-picked d (sourceAt g d) (targetAt g d) t (p .targets) 0
+          (λ k h. ap (targetAt g d) (zero-add k) ∙ target-is k h) (λ k h. ap (λ x. d (sourceAt g d x)) (zero-add k) ∙ from-source k h)
+
+      -- group C, read back
+      replayed-is : replayed g d (length (p .targets)) ≡ p .targets
+      unfolding replayed
+      replayed-is =
+          flat-ext (replayedSector g d (length (p .targets))) (picked (p .targets)) 0 (dataAt g) (λ t a b. entry-is t)
+          ∙ flat-picked (dataAt g) 0 (p .targets) (ok .rising)
+          (all-map (Metadata g) (λ x. x .sector < 0 + dataAt g) (λ x h. let l : x .sector < dataAt g = metadata-lt g (x .sector) h in omega arith) (p .targets) (ok .metadata))
+
+      good : (k : ℕ) → k < length (p .targets) → goodEntry g d k ≡ true
+      unfolding goodEntry isData
+      good k h =
+          let l : reserveAt g + k < volumeSectors g = reserve-lt k h in
+          let once : some (λ j. eqb (targetAt g d j) (targetAt g d k)) k ≡ false =
+          some-no (λ j. eqb (targetAt g d j) (targetAt g d k)) k
+          (λ j q.
+          let jn : j < length (p .targets) = omega arith in
+          let r : (getD (p .targets) j barrier) .sector < (getD (p .targets) k barrier) .sector = rising-lt (p .targets) 0 j k barrier (ok .rising) q h in
+          let ej = target-is j jn in
+          let ek = target-is k h in
+          ne-eqb (targetAt g d j) (targetAt g d k) (λ z. omega arith)) in
+          and-yes _ (not (some (λ j. eqb (targetAt g d j) (targetAt g d k)) k))
+          (and-yes _ (isMetadata g (targetAt g d k))
+          (ap (λ s. leb (dataAt g) s && ltb s (volumeSectors g)) (source-is k h) ∙ range-yes (dataAt g) (volumeSectors g) (reserveAt g + k) (omega arith) l)
+          (ap (isMetadata g) (target-is k h) ∙ all-at (Metadata g) (p .targets) k barrier (ok .metadata) h))
+          (ap not once)
+
+      -- recovery reads the waiting plan back, from any disk that is committed but for the targets
+      pub recovers-pending : (len : ℕ) → Volume g len (d0 superblockAt) → length (d0 superblockAt) ≡ 512 → Recovers len d (p .targets ∷ (clear g d0 p ∷ []) ∷ [])
+      recovers-pending len v sec =
+          let n = length (p .targets) in
+          let few : n ≤ tableSectors g + 2 = ok .few in
+          let most : tableSectors g + 2 ≤ 1024 = geo .few in
+          let len-is : journalLength (d superblockAt) ≡ n = ap journalLength pending-zero ∙ journalLength-with n (d0 superblockAt) sec (omega arith) in
+          let st : stateOn d ≡ Waiting n = ap stateOf len-is ∙ state-waiting n (ok .nonempty) (omega arith) in
+          let vol : Volume g len (d superblockAt) = rw pending-zero (volume-with g n len (d0 superblockAt) v) in
+          let bad : badJournal g d (Waiting n) ≡ false = ap not (every-yes (goodEntry g d) n good) in
+          let gs : replayGroups g d (Waiting n) ≡ p .targets ∷ (clear g d0 p ∷ []) ∷ [] =
+          ap₂ (λ (c : Group) (s : List ℕ). c ∷ (sectorWrite superblockAt s ∷ []) ∷ []) replayed-is (ap (withJournalLength 0) pending-zero ∙ with-with 0 n (d0 superblockAt)) in
+          recovers-by g len d (Waiting n) _ vol st refl bad gs

@@ -1,0 +1,146 @@
+-- THE INVARIANT of a run: what an image and the ledger have in common between two calls. It follows that a sound volume opens, and
+-- what summary, check, find and list answer. Assumes nothing.
+use Prim.Native.Nat.{ℕ, _<_}
+use mathlib.Core.Path.{_≡_, refl, sym, ap, _∙_, fun-ext}
+use mathlib.Core.Bool.{Bool, true, false}
+use mathlib.Core.List.{List}
+use lib.ListN.{length}
+use mathlib.Core.Option.{some as just}
+use Rattle.model.specs.declared.Soundness.the-variants.{Sound}
+use Rattle.model.specs.declared.Place.the-variants.{At}
+use Rattle.model.specs.declared.Verdict.{Verdict}
+use Rattle.model.specs.Search.{first, isAt}
+use Rattle.model.specs.Geometry.{rootAt, extentsFor}
+use Rattle.model.specs.Disk.{Disk, view}
+use Rattle.model.specs.Root.{rootIn}
+use Rattle.model.specs.Catalogue.{Catalogue, catalogueOf, fileByte, fileBytes}
+use Rattle.model.specs.Faults.{fault21, fault22, fault23, fault24, fault25, fault26, firstFault, orElse}
+use Rattle.model.specs.Refusals.{verdictOf, andThen, given, done, refusal, stateNumber, faultVerdict, soundVerdict, judged, imageVerdict}
+use Rattle.model.specs.Summary.{noSummary, summaryAnswer, checkAnswer}
+use Rattle.model.specs.Find.{nameConditions, foundBy, findAnswer}
+use Rattle.model.specs.Listing.{listConditions, listVerdict, listedBy, copiedBy, listAnswer, listCopies}
+use Rattle.model.specs.Ledger.{Ledger, File, fileOr, placeAmong, holderOf, catalogue, summary, check, find, list, summarized, checked, found, listed, answer}
+use Rattle.model.specs.Run.{volumeAnswer}
+use Rattle.model.specs.Demand3.{Says}
+use Rattle.model.specs.Opened.{Bounded}
+use Rattle.laws.proofs.Search.{first-none, length-tab}
+use Rattle.safety.proofs.Superblock.{volume-accepted}
+use Rattle.safety.proofs.Plan.{UsableGeometry}
+use Rattle.safety.proofs.Commit.{Ready}
+use Rattle.safety.proofs.Bounds.{usable-geometry}
+
+-- ---- the invariant
+
+-- no fault of 22 to 26, which are read off the catalogue
+pub record NoFaults (c : Catalogue) : Type 0 where
+  pub f22 : (i : ℕ) → i < c .geometry .files → fault22 c i ≡ false
+  pub f23 : (i : ℕ) → i < c .geometry .files → fault23 c i ≡ false
+  pub f24 : (i : ℕ) → i < c .geometry .files → fault24 c i ≡ false
+  pub f25 : (e : ℕ) → e < c .geometry .extents → fault25 c e ≡ false
+  pub f26 : (i : ℕ) → i < c .geometry .files → fault26 c i ≡ false
+
+-- slot k has extent e; no other slot has it then
+unfoldable pub holds : Ledger → ℕ → ℕ → Bool
+holds L k e = isAt (placeAmong e (fileOr (L .slots k) .extents))
+
+abbrev pub Disjoint : Ledger → Type 0
+Disjoint L = (k e : ℕ) → k < L .geometry .files → holds L k e ≡ true → holderOf L e ≡ At k
+
+-- a file has as many extents as its size needs
+abbrev pub Sized : Ledger → Type 0
+Sized L = (i : ℕ) (f : File) → L .slots i ≡ just f → length (f .extents) ≡ extentsFor (L .geometry) (f .entry .size)
+
+-- the image says what the ledger says, on a clean volume that plans can be carried out on, and the ledger has no fault
+pub record Rep (L : Ledger) (img : List ℕ) : Type 0 where
+  pub says : Says L img
+  pub ready : Ready (L .geometry) img
+  pub bounded : Bounded (L .geometry)
+  pub faultless : NoFaults (catalogue L)
+  pub disjoint : Disjoint L
+  pub sized : Sized L
+
+-- what is left to say of a ready image
+pub says-of : (L : Ledger) (img : List ℕ) → Ready (L .geometry) img → rootIn (view img rootAt) ≡ L .root
+    → ((i : ℕ) → i < L .geometry .files → fault21 (view img) i ≡ false)
+    → ((i : ℕ) → catalogueOf (view img) .entries i ≡ catalogue L .entries i)
+    → ((e : ℕ) → catalogueOf (view img) .table e ≡ catalogue L .table e)
+    → ((i : ℕ) (f : File) → L .slots i ≡ just f → fileBytes (catalogueOf (view img)) (view img) i 0 (f .entry .size) ≡ f .bytes)
+    → Says L img
+says-of L img ready root marks directory table bytes = record {
+  volume = ready .volume .marked;
+  geometry = ready .volume .geometry;
+  clean = ready .clean;
+  root = root;
+  marks = marks;
+  directory = directory;
+  table = table;
+  bytes = bytes;
+}
+
+-- ---- a sound volume opens
+
+pub catalogue-is : (L : Ledger) (img : List ℕ) → Says L img → catalogueOf (view img) ≡ catalogue L
+unfolding catalogueOf catalogue
+catalogue-is L img s =
+    λ i. record { geometry = s .geometry i; root = s .root i; entries = fun-ext (s .directory) i; table = fun-ext (s .table) i }
+
+-- "check gives 0": the ledger's catalogue decides
+pub sound-of : (d : Disk) (c : Catalogue) → catalogueOf d ≡ c → ((i : ℕ) → i < c .geometry .files → fault21 d i ≡ false) → NoFaults c → firstFault d ≡ Sound
+unfolding firstFault
+sound-of d c e m h =
+    ap (λ (x : Catalogue). orElse 21 (first (fault21 d) (x .geometry .files)) (orElse 22 (first (fault22 x) (x .geometry .files)) (orElse 23 (first (fault23 x) (x .geometry .files))
+    (orElse 24 (first (fault24 x) (x .geometry .files)) (orElse 25 (first (fault25 x) (x .geometry .extents)) (orElse 26 (first (fault26 x) (x .geometry .files)) Sound)))))) e
+    ∙ (λ i. orElse 21 (first-none (fault21 d) (c .geometry .files) m i) (orElse 22 (first-none (fault22 c) (c .geometry .files) (h .f22) i)
+    (orElse 23 (first-none (fault23 c) (c .geometry .files) (h .f23) i) (orElse 24 (first-none (fault24 c) (c .geometry .files) (h .f24) i)
+    (orElse 25 (first-none (fault25 c) (c .geometry .extents) (h .f25) i) (orElse 26 (first-none (fault26 c) (c .geometry .files) (h .f26) i) Sound))))))
+
+pub catalogue-geometry : (L : Ledger) → catalogue L .geometry ≡ L .geometry
+unfolding catalogue
+catalogue-geometry L = refl
+
+module _ (L : Ledger) (img : List ℕ) (rep : Rep L img) where
+  pub cat-is : catalogueOf (view img) ≡ catalogue L
+  cat-is = catalogue-is L img (rep .says)
+
+  pub disk-geometry : catalogueOf (view img) .geometry ≡ L .geometry
+  disk-geometry = ap (λ (c : Catalogue). c .geometry) cat-is ∙ catalogue-geometry L
+
+  pub rep-geometry : UsableGeometry (L .geometry)
+  rep-geometry = usable-geometry (L .geometry) (rep .bounded)
+
+  -- a file has as many bytes as its size says
+  pub bytes-length : (i : ℕ) (f : File) → L .slots i ≡ just f → length (f .bytes) ≡ f .entry .size
+  unfolding fileBytes
+  bytes-length i f e = ap length (sym (rep .says .bytes i f e)) ∙ length-tab (fileByte (catalogueOf (view img)) (view img) i) 0 (f .entry .size)
+
+  no-fault : firstFault (view img) ≡ Sound
+  unfolding catalogue
+  no-fault = sound-of (view img) (catalogue L) cat-is (rep .says .marks) (rep .faultless)
+
+  accepted : imageVerdict (length img) (view img) ≡ done
+  accepted = volume-accepted (L .geometry) (length img) (view img) (rep .ready .volume)
+
+  -- A SOUND VOLUME OPENS: the refusals 1 to 7 pass
+  pub opens : judged (length img) (view img) ≡ done
+  unfolding judged soundVerdict
+  opens = λ i. andThen (accepted i) (andThen (refusal (stateNumber (rep .ready .clean i))) (faultVerdict (no-fault i)))
+
+  -- ---- the calls that read no file's bytes
+
+  pub summary-same : volumeAnswer summary img ≡ answer summary L
+  unfolding volumeAnswer answer summaryAnswer
+  summary-same =
+      ap summarized (λ i. given (accepted i) (record { number = 0; summary = record { geometry = rep .ready .volume .geometry i; state = rep .ready .clean i } }) noSummary)
+
+  pub check-same : volumeAnswer check img ≡ answer check L
+  unfolding volumeAnswer answer checkAnswer
+  check-same = ap (λ (v : Verdict). checked (record { verdict = v })) opens
+
+  pub find-same : (name : List ℕ) → volumeAnswer (find name) img ≡ answer (find name) L
+  unfolding volumeAnswer answer findAnswer
+  find-same name = ap found (λ i. foundBy (andThen (opens i) (verdictOf (nameConditions (cat-is i) name))) (cat-is i) name)
+
+  pub list-same : (k room : ℕ) → volumeAnswer (list k room) img ≡ answer (list k room) L
+  unfolding volumeAnswer answer listAnswer listCopies listVerdict
+  list-same k room =
+      λ i. let v = andThen (opens i) (verdictOf (listConditions (cat-is i) k room)) in listed (listedBy v (cat-is i) k) (copiedBy v (cat-is i) k)

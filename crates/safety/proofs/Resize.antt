@@ -1,0 +1,206 @@
+-- What resize owes: the ledger's answer, and its effect. A shrinking one has a plan of its own, a growing one is a write of zeros at the
+-- end. Assumes nothing.
+use Prim.Native.Nat.{ℕ, _+_, _*_, _-_, _/_, _^_, _≤_, _<_}
+use mathlib.Core.Path.{_≡_, refl, sym, ap, _∙_, subst, fun-ext}
+use mathlib.Core.Bool.{Bool, true, false, cond, _&&_}
+use mathlib.Core.List.{List, []}
+use mathlib.Core.Option.{Option, none, some as just}
+use native.Mathlib.Omega.{arith}
+use lib.Dec.{eqb, leb, ltb}
+use lib.ListN.{length, getD}
+use lib.Seq.{ext-getD}
+use borrow.Author.Tests.{lt-leb, lt-ltb, le-ltb, ltb-true, ltb-false, eqb-true, not-false}
+use Rattle.model.specs.Search.{tab, isAt, indexOf}
+use Rattle.model.specs.Geometry.{extentsFor}
+use Rattle.model.specs.Disk.{view}
+use Rattle.model.specs.Entry.{badName}
+use Rattle.model.specs.Catalogue.{Catalogue, hasName, fileNamed, entryOf, sectorsBeyond}
+use Rattle.model.specs.Refusals.{Conditions}
+use Rattle.model.specs.WriteList.{Plan, groupsFor, listLength, recordSize, recordCount, stored}
+use Rattle.model.specs.Read.{longestTransfer, sizeNamed}
+use Rattle.model.specs.Write.{noRoom, sizeAfter, writePlanned, writeCount}
+use Rattle.model.specs.Resize.{zeros, shrinkPlan, resizePlanned, resizeCount, resizeConditions, resizeDecision, resizeAnswer}
+use Rattle.model.specs.Ledger.{Ledger, File, fileOr, entryOfFile, catalogue, resize, changed, answer, afterCall, afterCut, slotNamed, fileOf, withFile, written, afterWrite, partlyWritten, shrunk}
+use Rattle.model.specs.Run.{volumeAnswer, volumePlan}
+use Rattle.laws.proofs.Bytes.{length-run}
+use Rattle.laws.proofs.Search.{length-tab, getD-tab0}
+use Rattle.safety.proofs.Searches.{place-found, or-right-no}
+use Rattle.safety.proofs.Plan.{A}
+use Rattle.safety.proofs.Commit.{partOf, uncut}
+use Rattle.safety.proofs.Rep.{Rep, bytes-length}
+use Rattle.safety.proofs.Changing.{Passed, Refusing, answer-changing, Carries, Carried, effect-changing}
+use Rattle.safety.proofs.Read.{file-there, size-is}
+use Rattle.safety.proofs.Write.{partlyWrittenFile, writing, write-length, Writes, writes-carried}
+use Rattle.safety.proofs.Shrink.{shrink-length, shrink-fits, shrink-done, shrink-partly}
+use Rattle.safety.proofs.Induction.{Effect}
+
+-- ---- a write at the end that was cut before its start mark changes no byte of the file
+
+partly-at-end : (f : File) (offset : ℕ) (bytes : List ℕ) (mask : List Bool) → length (f .bytes) ≡ offset → partlyWritten f offset bytes mask ≡ f .bytes
+unfolding partlyWritten
+partly-at-end f offset bytes mask e =
+    ext-getD 0 (tab (λ k. byte k) 0 (length (f .bytes))) (f .bytes) (length-tab (λ k. byte k) 0 (length (f .bytes)))
+    (λ k l. let q : k < length (f .bytes) = rw (length-tab (λ k. byte k) 0 (length (f .bytes))) at l in
+    getD-tab0 (λ k. byte k) (length (f .bytes)) k 0 q
+    ∙ ap (λ (b : Bool). cond (b && ltb k (offset + length bytes) && getD mask (k / 512 - offset / 512) false) (getD bytes (k - offset) 0) (getD (f .bytes) k 0)) (lt-leb offset k (omega arith)))
+  where
+    byte : ℕ → ℕ
+    byte k = cond (leb offset k && ltb k (offset + length bytes) && getD mask (k / 512 - offset / 512) false) (getD bytes (k - offset) 0) (getD (f .bytes) k 0)
+
+same-slot : (L : Ledger) (i : ℕ) (f : File) → L .slots i ≡ just f → withFile L i f ≡ L
+same-slot L i f e = λ k. record { geometry = L .geometry; root = L .root; slots = fun-ext (λ j. go j (eqb j i) refl) k }
+  where
+    go : (j : ℕ) (b : Bool) → eqb j i ≡ b → cond b (just f) (L .slots j) ≡ L .slots j
+    go j true q = sym e ∙ ap (L .slots) (sym (eqb-true j i q))
+    go j false q = refl
+
+module _ (L : Ledger) (img : List ℕ) (rep : Rep L img) (name : List ℕ) (z time room : ℕ) where
+  abbrev c : Catalogue
+  c = catalogue L
+
+  abbrev i : ℕ
+  i = indexOf (fileNamed (catalogue L) name)
+
+  abbrev old : File
+  old = fileOr (L .slots (indexOf (fileNamed (catalogue L) name)))
+
+  -- the bytes that a growing resize writes at the end
+  abbrev end : List ℕ
+  end = zeros (z - old .entry .size)
+
+  abbrev conditions : Catalogue → Conditions
+  conditions x = resizeConditions x name z
+
+  abbrev plan : Catalogue → Option Plan
+  plan x = resizePlanned x (view img) (indexOf (fileNamed x name)) z time
+
+  size : listLength (groupsFor (view img) (resizePlanned (catalogue L) (view img) i z time)) ≡ resizeCount (catalogue L) i z * recordSize
+  unfolding resizePlanned resizeCount
+  size = go (ltb z (entryOf (catalogue L) i .size))
+    where
+      s : ℕ
+      s = entryOf (catalogue L) i .size
+
+      go : (b : Bool) → listLength (groupsFor (view img) (cond b (just (shrinkPlan (catalogue L) (view img) i z time)) (writePlanned (catalogue L) i (view img) s (zeros (z - s)) time)))
+          ≡ cond b (recordCount 0 (1 + sectorsBeyond (catalogue L) i (extentsFor (catalogue L .geometry) z))) (writeCount (catalogue L) i s (z - s)) * recordSize
+      go true = shrink-length L img i z time
+      go false = write-length L img i s (zeros (z - s)) time ∙ ap (λ m. writeCount (catalogue L) i s m * recordSize) (length-run [] 0 (z - s))
+
+  pub resize-same : volumeAnswer (resize name z time room) img ≡ answer (resize name z time room) L
+  unfolding volumeAnswer answer resizeAnswer resizeDecision slotNamed
+  resize-same = ap changed (answer-changing L img rep conditions plan room (resizeCount (catalogue L) i z) size)
+
+  refusing : Refusing (resizeConditions (catalogue L) name z)
+  unfolding resizeConditions
+  refusing = ((λ e. omega arith), ((λ e. omega arith), ((λ e. omega arith), tt)))
+
+  size-of : entryOf (catalogue L) i .size ≡ old .entry .size
+  unfolding entryOf catalogue
+  size-of = size-is (L .slots i)
+
+  module _ (ht : time < 2 ^ 32) (passed : Passed (resizeConditions (catalogue L) name z)) where
+    -- ---- what the conditions say
+
+    named : isAt (fileNamed (catalogue L) name) ≡ true
+    unfolding resizeConditions
+    named = not-false (isAt (fileNamed c name)) (passed .1 .0)
+
+    found : (i < L .geometry .files) × (hasName name (entryOfFile (L .slots i)) ≡ true)
+    unfolding fileNamed catalogue
+    found = place-found (λ k. hasName name (entryOfFile (L .slots k))) (L .geometry .files) named
+
+    there : L .slots i ≡ just old
+    there = file-there (L .slots i) name (found .1)
+
+    roomy : noRoom (catalogue L) i z ≡ false
+    unfolding resizeConditions
+    roomy = passed .1 .1 .0
+
+    grown-most : z ≤ old .entry .size + longestTransfer
+    unfolding resizeConditions sizeNamed
+    grown-most =
+        let e = size-of in
+        let q : ltb (entryOf (catalogue L) i .size + longestTransfer) z ≡ false =
+        sym (ap (λ (b : Bool). b && ltb (entryOf (catalogue L) i .size + longestTransfer) z) named) ∙ or-right-no (badName name) _ (passed .0) in
+        let l : z ≤ entryOf (catalogue L) i .size + longestTransfer = ltb-false _ z q in
+        omega arith
+
+    -- ---- shrinking
+
+    shrinks : z < old .entry .size → Carries L img (resize name z time room) (shrinkPlan (catalogue L) (view img) i z time)
+    unfolding afterCall afterCut slotNamed fileOf shrinkPlan
+    shrinks less = record {
+      fits = shrink-fits L img i z time rep there (found .0) less ht;
+      done = subst (λ (b : Bool). Rep (cond b (withFile L i (shrunk L i z time)) (afterWrite L i (old .entry .size) end time)) (uncut (L .geometry) img (shrinkPlan (catalogue L) (view img) i z time)))
+          (sym (lt-ltb z (old .entry .size) less)) (shrink-done L img i z time rep there (found .0) less ht);
+      partly = λ k m. shrink-partly L img i z time rep there (found .0) less ht k m;
+    }
+
+    -- ---- growing
+
+    module _ (more : old .entry .size ≤ z) where
+      -- the write of zeros at the end
+      abbrev q : Plan
+      q = writing L img i (old .entry .size) end time
+
+      abbrev new : Ledger
+      new = withFile L i (written L i (old .entry .size) end time)
+
+      end-length : length end ≡ z - old .entry .size
+      end-length = length-run [] 0 (z - old .entry .size)
+
+      size-after : sizeAfter (catalogue L) i (old .entry .size) (length end) ≡ z
+      size-after =
+          let e = size-of in
+          let l = end-length in
+          omega arith
+
+      after-is : (b : Bool) → eqb (length end) 0 ≡ b → afterCall (resize name z time room) L ≡ cond b L new
+      unfolding afterCall slotNamed fileOf afterWrite
+      after-is b e =
+          ap (λ (t : Bool). cond t (withFile L i (shrunk L i z time)) (afterWrite L i (old .entry .size) end time)) (le-ltb z (old .entry .size) more)
+          ∙ ap (λ (t : Bool). cond t L new) e
+
+      -- none of the landed data sectors holds a byte of the file
+      kept-file : (mask : List Bool) → withFile L i (partlyWrittenFile old (old .entry .size) end mask) ≡ L
+      kept-file mask =
+          same-slot L i (partlyWrittenFile old (old .entry .size) end mask)
+          (there ∙ ap (λ (b : List ℕ). just (record { entry = old .entry; bytes = b; extents = old .extents }))
+          (sym (partly-at-end old (old .entry .size) end mask (bytes-length L img rep i old there))))
+
+      grow : Writes L img i (old .entry .size) end time → eqb (length end) 0 ≡ false → Carries L img (resize name z time room) q
+      unfolding afterCut
+      grow w e = record {
+        fits = w .fits;
+        done = subst (λ (X : Ledger). Rep X (uncut (L .geometry) img q)) (sym (after-is false e)) (w .done);
+        partly = λ k m. subst (λ (X : Ledger). Rep X (stored (partOf k m (A (L .geometry) q)) img)) (kept-file _) (w .partly k m);
+      }
+
+      grows-or-stays : Carried L img (resize name z time room) (writePlanned (catalogue L) i (view img) (old .entry .size) end time)
+      unfolding writePlanned
+      grows-or-stays = go (eqb (length end) 0) refl
+        where
+          go : (b : Bool) → eqb (length end) 0 ≡ b → Carried L img (resize name z time room) (cond b none (just q))
+          go true e = subst (λ (X : Ledger). Rep X img) (sym (after-is true e)) rep
+          go false e =
+              let l = end-length in
+              let m = grown-most in
+              grow (writes-carried L img i (old .entry .size) end time rep there (omega arith) (omega arith) (ap (noRoom (catalogue L) i) size-after ∙ roomy) ht) e
+
+    carried : Carried L img (resize name z time room) (resizePlanned (catalogue L) (view img) i z time)
+    unfolding resizePlanned
+    carried =
+        subst (λ (s : ℕ). Carried L img (resize name z time room) (cond (ltb z s) (just (shrinkPlan (catalogue L) (view img) i z time)) (writePlanned (catalogue L) i (view img) s (zeros (z - s)) time)))
+        (sym size-of) (go (ltb z (old .entry .size)) refl)
+      where
+        go : (b : Bool) → ltb z (old .entry .size) ≡ b
+            → Carried L img (resize name z time room) (cond b (just (shrinkPlan (catalogue L) (view img) i z time)) (writePlanned (catalogue L) i (view img) (old .entry .size) end time))
+        go true e = shrinks (ltb-true z (old .entry .size) e)
+        go false e = grows-or-stays (ltb-false z (old .entry .size) e)
+
+  -- what resize does
+  pub resize-effect : time < 2 ^ 32 → Effect Rep (resize name z time room) L img
+  unfolding volumePlan resizeDecision answer slotNamed
+  resize-effect ht =
+      effect-changing L img rep conditions plan room (resizeCount (catalogue L) i z) size (resize name z time room) refl refl refusing
+      (λ passed. carried ht passed)

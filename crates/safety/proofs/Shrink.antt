@@ -1,0 +1,256 @@
+-- A shrinking resize of file i to size z: the plan is well-formed, and carried out, whole or in part, it leaves an image that represents
+-- the ledger in which slot i keeps its first bytes and extents, or the ledger as it was. Assumes nothing.
+use Prim.Native.Nat.{ℕ, suc, _+_, _*_, _/_, _%_, _^_, _≤_, _<_, min}
+use mathlib.Core.Path.{_≡_, refl, sym, ap, ap₂, _∙_, subst, fun-ext}
+use mathlib.Core.Logic.{_≢_}
+use mathlib.Core.Bool.{Bool, true, false, cond, not, _&&_}
+use mathlib.Core.List.{List, _∷_}
+use mathlib.Core.Option.{Option, none, some as just, Option·some-injective}
+use native.Mathlib.Omega.{arith}
+use native.Mathlib.Nat.{zero-add}
+use lib.Dec.{eqb, leb}
+use lib.ListN.{length, getD, take, length-take}
+use borrow.Author.Tests.{lt-leb, eqb-true}
+use Rattle.model.specs.declared.Geometry.{Geometry}
+use Rattle.model.specs.Bytes.{run}
+use Rattle.model.specs.Search.{tab, first, count, indexOf}
+use Rattle.model.specs.Geometry.{extentSectors, extentBytes, usable, rootAt, entryAt, tableAt, dataAt, tableSectors, extentsFor}
+use Rattle.model.specs.Disk.{Disk, view}
+use Rattle.model.specs.Root.{rootIn}
+use Rattle.model.specs.Entry.{updatedEntry, updatedEntrySector}
+use Rattle.model.specs.Catalogue.{Catalogue, Owner, catalogueOf, isPart, isBeyond, extentOf, sectorOf, fileByte, fileBytes, sectorsBeyond}
+use Rattle.model.specs.Faults.{among, exact}
+use Rattle.model.specs.WriteList.{Plan, Record, Group, sectorWrite, stored, groupsFor, listLength, recordSize, recordCount}
+use Rattle.model.specs.Resize.{shrinkPlan}
+use Rattle.model.specs.Ledger.{Ledger, File, fileOr, catalogue, withFile, shrunk}
+use Rattle.laws.proofs.Disk.{length-view}
+use Rattle.laws.proofs.Booleans.{and-left, and-yes}
+use Rattle.laws.proofs.Search.{every-yes, every-at, tab-ext, count-ext}
+use Rattle.safety.proofs.Apply.{over, over-here, over-skip, over-none, over-miss}
+use Rattle.safety.proofs.Plan.{UsableGeometry, WellFormed, A, metadata-directory}
+use Rattle.safety.proofs.Commit.{Ready, partOf, uncut, ready-uncut}
+use Rattle.safety.proofs.Frame.{Outside, done-at, length-groups}
+use Rattle.safety.proofs.Rep.{Rep, rep-geometry, cat-is, catalogue-geometry}
+use Rattle.safety.proofs.Preserved.{out-front, out-data, bytes-keep-at, part-keeps}
+use Rattle.safety.proofs.Fields.{length-updatedEntrySector}
+use Rattle.safety.proofs.Replaced.{among-and, replaced, Admissible}
+use Rattle.safety.proofs.Rewritten.{Rewrites, all-kept, rep-replaced}
+use Rattle.safety.proofs.Extents.{exactly, extents-mono, sector-held}
+use Rattle.safety.proofs.KeptFile.{entry-of, size-small, usable-owned, entry-updated, mark-updated, admissible-kept}
+use Rattle.safety.proofs.Read.{bytes-from}
+use Rattle.safety.proofs.FreedFile.{table-freed, disjoint-freed, others-freed}
+use Rattle.safety.proofs.FreedTable.{freed, length-freed, freed-few, freed-metadata, freed-whole, freed-rising, freed-miss, table-after}
+
+-- ---- extents of offset n or more freed
+
+-- those of a lower offset stay the file's
+pub part-freed : (i n o : ℕ) (t : Option Owner) → o < n → isPart i o (cond (isBeyond i n t) none t) ≡ isPart i o t
+part-freed i n o none l = refl
+part-freed i n o (just w) l = go (eqb (w .file) i) refl (eqb (w .offset) o) refl
+  where
+    go : (a : Bool) → eqb (w .file) i ≡ a → (b : Bool) → eqb (w .offset) o ≡ b → isPart i o (cond (a && leb n (w .offset)) none (just w)) ≡ (a && b)
+    go false p b q = ap₂ (λ x y. x && y) p q
+    go true p true q =
+        let e : w .offset ≡ o = eqb-true (w .offset) o q in
+        ap (λ (b : Bool). isPart i o (cond b none (just w))) (lt-leb n (w .offset) (omega arith)) ∙ ap₂ (λ x y. x && y) p q
+    go true p false q = choose (leb n (w .offset))
+      where
+        choose : (b : Bool) → isPart i o (cond b none (just w)) ≡ false
+        choose true = refl
+        choose false = ap₂ (λ x y. x && y) p q
+
+beyond-freed : (i n : ℕ) (t : Option Owner) → isBeyond i n (cond (isBeyond i n t) none t) ≡ false
+beyond-freed i n t = go (isBeyond i n t) refl
+  where
+    go : (b : Bool) → isBeyond i n t ≡ b → isBeyond i n (cond b none t) ≡ false
+    go true e = refl
+    go false e = e
+
+among-freed : (b : Bool) (t : Option Owner) (p : Owner → Bool) → among t p ≡ false → among (cond b none t) p ≡ false
+among-freed true t p h = refl
+among-freed false t p h = h
+
+-- where n bytes of file i stand depends on the geometry and on which extents of the offsets read are its
+pub bytes-of-read : (c c′ : Catalogue) (d : Disk) (i n : ℕ) → c′ .geometry ≡ c .geometry
+    → ((k e : ℕ) → k < n → isPart i (k / 512 / extentSectors (c .geometry)) (c′ .table e) ≡ isPart i (k / 512 / extentSectors (c .geometry)) (c .table e))
+    → fileBytes c′ d i 0 n ≡ fileBytes c d i 0 n
+unfolding fileBytes fileByte sectorOf extentOf
+bytes-of-read c c′ d i n eg et =
+    ap (λ (g : Geometry). tab (λ k.
+    getD (d (dataAt g + indexOf (first (λ e. isPart i (k / 512 / extentSectors g) (c′ .table e)) (usable g)) * extentSectors g + k / 512 % extentSectors g)) (k % 512) 0) 0 n) eg
+    ∙ tab-ext _ _ 0 0 n (λ k l. rw zero-add
+    (ap (λ (t : ℕ → Bool). let g = c .geometry in
+    getD (d (dataAt g + indexOf (first t (usable g)) * extentSectors g + k / 512 % extentSectors g)) (k % 512) 0) (fun-ext (λ e. et k e l))))
+
+-- ---- the plan
+
+module _ (L : Ledger) (img : List ℕ) (i z time : ℕ) where
+  abbrev p : Plan
+  p = shrinkPlan (catalogue L) (view img) i z time
+
+  abbrev n : ℕ
+  n = extentsFor (L .geometry) z
+
+  abbrev w1 : Record
+  w1 = sectorWrite (entryAt i) (updatedEntrySector z time (view img (entryAt i)))
+
+  abbrev table-writes : Group
+  table-writes = freed L img i (extentsFor (L .geometry) z)
+
+  -- the list's length
+  pub shrink-length : listLength (groupsFor (view img) (just p)) ≡ recordCount 0 (1 + sectorsBeyond (catalogue L) i (extentsFor (catalogue L .geometry) z)) * recordSize
+  unfolding groupsFor shrinkPlan catalogue
+  shrink-length =
+      length-groups _ (view img) p
+      ∙ ap (λ m. recordCount 0 m * recordSize)
+      (let e : length table-writes ≡ sectorsBeyond (catalogue L) i n = length-freed L img i n in let q : suc (length table-writes) ≡ 1 + sectorsBeyond (catalogue L) i n = omega arith in q)
+
+  module _ (rep : Rep L img) (there : L .slots i ≡ just (fileOr (L .slots i))) (within : i < L .geometry .files) (less : z < fileOr (L .slots i) .entry .size) (ht : time < 2 ^ 32) where
+    abbrev c : Catalogue
+    c = catalogue L
+
+    abbrev old : File
+    old = fileOr (L .slots i)
+
+    abbrev new : File
+    new = shrunk L i z time
+
+    geo : UsableGeometry (L .geometry)
+    geo = rep-geometry L img rep
+
+    fewer : n ≤ extentsFor (L .geometry) (old .entry .size)
+    fewer = extents-mono (L .geometry) (rep .bounded) z (old .entry .size) (omega arith)
+
+    pub shrink-fits : WellFormed (L .geometry) p
+    unfolding shrinkPlan catalogue
+    shrink-fits =
+        let m : length table-writes ≤ tableSectors (L .geometry) = freed-few L img i n in
+        record {
+          nonempty = omega arith;
+          few = omega arith;
+          metadata = (metadata-directory (L .geometry) (entryAt i) (omega arith) (omega arith), freed-metadata L img i n);
+          rising = (omega arith, freed-rising L img i n (suc (entryAt i)) (omega arith));
+          usable = tt;
+          wholeData = tt;
+          wholeTargets = (length-updatedEntrySector z time (view img (entryAt i)) ∙ length-view img (entryAt i), freed-whole L img i n);
+        }
+
+    -- ---- the sectors of the new image
+
+    abbrev out : List ℕ
+    out = uncut (L .geometry) img p
+
+    shows : (j : ℕ) → Outside (L .geometry) j → j ≢ 0 → view out j ≡ over (w1 ∷ table-writes) j (view img j)
+    unfolding shrinkPlan catalogue
+    shows j o ne =
+        done-at (L .geometry) p geo shrink-fits img (rep .ready) j o ne ∙ ap (over (w1 ∷ table-writes) j) (over-none j (view img j))
+
+    at-entry : view out (entryAt i) ≡ updatedEntrySector z time (view img (entryAt i))
+    at-entry =
+        shows (entryAt i) (out-front (L .geometry) geo (entryAt i) (omega arith)) (λ e. omega arith)
+        ∙ over-here w1 table-writes _ ∙ over-miss table-writes (entryAt i) _ (freed-miss L img i n (entryAt i) (λ a b. omega arith))
+
+    at-other : (j : ℕ) → Outside (L .geometry) j → j ≢ 0 → j ≢ entryAt i → (tableAt (L .geometry) ≤ j → j < dataAt (L .geometry) → ⊥) → view out j ≡ view img j
+    at-other j o n0 ni nt = shows j o n0 ∙ over-skip w1 table-writes j _ ni ∙ over-miss table-writes j _ (freed-miss L img i n j nt)
+
+    at-table : (t : ℕ) → t < tableSectors (L .geometry) → view out (tableAt (L .geometry) + t) ≡ over table-writes (tableAt (L .geometry) + t) (view img (tableAt (L .geometry) + t))
+    at-table t l =
+        shows (tableAt (L .geometry) + t) (record { journal = λ x y. omega arith; reserve = λ x y. omega arith }) (λ e. omega arith)
+        ∙ over-skip w1 table-writes (tableAt (L .geometry) + t) _ (λ e. omega arith)
+
+    at-data : (k s : ℕ) → view out (sectorOf (catalogue L) k s) ≡ view img (sectorOf (catalogue L) k s)
+    at-data = all-kept L img out rep (λ j u v. at-other j (out-data (L .geometry) geo j u v) (λ y. omega arith) (λ y. omega arith) (λ x y. omega arith))
+
+    -- ---- what it says
+
+    ready : Ready (L .geometry) out
+    ready = ready-uncut (L .geometry) img p geo shrink-fits (rep .ready)
+
+    size-most : z ≤ usable (L .geometry) * extentBytes (L .geometry)
+    size-most = let s : old .entry .size ≤ usable (L .geometry) * extentBytes (L .geometry) = size-small L img rep i old there in omega arith
+
+    -- ---- the table
+
+    firsts : new .extents ≡ take n (old .extents)
+    unfolding shrunk
+    firsts = refl
+
+    abbrev c′ : Catalogue
+    c′ = catalogue (replaced L (L .root) i (just (shrunk L i z time)))
+
+    table-new : (e : ℕ) → c′ .table e ≡ cond (isBeyond i n (c .table e)) none (c .table e)
+    table-new e = table-freed L (L .root) i n (just new) firsts (rep .disjoint) e
+
+    exact-old : exact c i (extentsFor (L .geometry) (old .entry .size)) ≡ true
+    unfolding catalogue
+    exact-old = exactly c (rep .faultless) i (old .entry) within (entry-of L img rep i old there)
+
+    exact-new : exact c′ i n ≡ true
+    unfolding exact catalogue
+    exact-new =
+        and-yes _ _
+        (every-yes _ n (λ o l.
+        ap (λ m. eqb m 1) (count-ext (λ e. isPart i o (c′ .table e)) (λ e. isPart i o (c .table e)) (L .geometry .extents) (λ e q. ap (isPart i o) (table-new e) ∙ part-freed i n o (c .table e) l))
+        ∙ every-at (λ o. eqb (count (λ e. isPart i o (c .table e)) (L .geometry .extents)) 1) (extentsFor (L .geometry) (old .entry .size)) (and-left _ _ exact-old) o (omega (arith, fewer))))
+        (every-yes _ (L .geometry .extents) (λ e l. ap not (ap (isBeyond i n) (table-new e) ∙ beyond-freed i n (c .table e))))
+
+    owned-new : (e : ℕ) → e < L .geometry .extents → among (c′ .table e) (λ w. eqb (w .file) i && leb (usable (L .geometry)) e) ≡ false
+    owned-new e l =
+        ap (λ (o : Option Owner). among o (λ w. eqb (w .file) i && leb (usable (L .geometry)) e)) (table-new e)
+        ∙ among-freed (isBeyond i n (c .table e)) (c .table e) (λ w. eqb (w .file) i && leb (usable (L .geometry)) e)
+        (among-and (c .table e) (λ w. eqb (w .file) i) (λ w. leb (usable (L .geometry)) e) (usable-owned L img rep e l))
+
+    admissible : Admissible L (L .root) i (just (shrunk L i z time))
+    unfolding shrunk updatedEntry
+    admissible =
+        admissible-kept L img rep i old there (shrunk L i z time) refl refl size-most (others-freed L (L .root) i n (just new) firsts (rep .disjoint)) owned-new exact-new
+
+    -- ---- the bytes
+
+    bytes-new : fileBytes (catalogueOf (view out)) (view out) i 0 z ≡ run (old .bytes) 0 z
+    unfolding catalogueOf catalogue
+    bytes-new =
+        bytes-of-read c (catalogueOf (view out)) (view out) i z (ready .volume .geometry ∙ sym (catalogue-geometry L))
+        (λ k e l. ap (isPart i _) (table-after L img i n rep out (ready .volume .geometry) at-table e)
+        ∙ part-freed i n _ (c .table e) (sector-held (L .geometry) (rep .bounded) z (k / 512) (omega arith)))
+        ∙ bytes-keep-at c (view img) (view out) i 0 z (λ k l. at-data i _)
+        ∙ sym (bytes-from c (view img) i (old .entry .size) 0 z (omega arith))
+        ∙ ap (λ (x : Catalogue). run (fileBytes x (view img) i 0 (old .entry .size)) 0 z) (sym (cat-is L img rep))
+        ∙ ap (λ (b : List ℕ). run b 0 z) (rep .says .bytes i old there)
+
+    bytes-are : (x : File) → just (shrunk L i z time) ≡ just x → fileBytes (catalogueOf (view out)) (view out) i 0 (x .entry .size) ≡ x .bytes
+    unfolding shrunk updatedEntry
+    bytes-are x e = subst (λ (y : File). fileBytes (catalogueOf (view out)) (view out) i 0 (y .entry .size) ≡ y .bytes) (Option·some-injective _ _ e) bytes-new
+
+    sized-new : (x : File) → just (shrunk L i z time) ≡ just x → length (x .extents) ≡ extentsFor (L .geometry) (x .entry .size)
+    unfolding shrunk updatedEntry
+    sized-new x e =
+        subst (λ (y : File). length (y .extents) ≡ extentsFor (L .geometry) (y .entry .size)) (Option·some-injective _ _ e)
+        (length-take n (old .extents) ∙ (let h : min n (length (old .extents)) ≡ n = omega (arith, rep .sized i old there, fewer) in h))
+
+    -- ---- the ledger in which slot i shrank
+
+    rewrites : Rewrites L img (L .root) i (just (shrunk L i z time)) out
+    unfolding shrunk
+    rewrites = record {
+      ready = ready;
+      new-root = ap rootIn (at-other rootAt (out-front (L .geometry) geo 1 (omega arith)) (λ e. omega arith) (λ e. omega arith) (λ x y. omega arith)) ∙ rep .says .root;
+      mark = mark-updated L img rep i old there z time out (ready .volume .geometry) at-entry;
+      entry = entry-updated L img rep i old there z time out (ready .volume .geometry) at-entry size-most ht;
+      entries = λ k q ne.
+          at-other (entryAt k) (out-front (L .geometry) geo (entryAt k) (omega arith)) (λ y. omega arith) (λ y. ne (omega arith)) (λ x y. omega arith);
+      table = λ e. table-after L img i n rep out (ready .volume .geometry) at-table e ∙ sym (table-new e);
+      bytes = bytes-are;
+      kept = λ k x ne e b q. at-data k _;
+      admissible = admissible;
+      disjoint = disjoint-freed L (L .root) i n (just new) firsts (rep .disjoint);
+      sized = sized-new;
+    }
+
+    pub shrink-done : Rep (withFile L i (shrunk L i z time)) (uncut (L .geometry) img p)
+    shrink-done = rep-replaced L img rep (L .root) i (just (shrunk L i z time)) out rewrites
+
+    -- a cut before the start mark
+    pub shrink-partly : (k : ℕ) (m : List Bool) → Rep L (stored (partOf k m (A (L .geometry) p)) img)
+    unfolding shrinkPlan
+    shrink-partly k m = part-keeps L img p rep shrink-fits refl k m

@@ -1,0 +1,171 @@
+-- What write owes: a write of bytes into a file at an offset is carried out, whole or in part, as the ledger says; so the call has the
+-- ledger's answer and its effect. Assumes nothing.
+use Prim.Native.Nat.{ℕ, _*_, _/_, _^_, _≤_, _<_}
+use mathlib.Core.Path.{_≡_, refl, sym, ap, ap₂, _∙_, subst}
+use mathlib.Core.Bool.{Bool, true, false, cond}
+use mathlib.Core.List.{List, [], _∷_}
+use mathlib.Core.Option.{Option, none, some as just}
+use native.Mathlib.Omega.{arith}
+use lib.Dec.{eqb}
+use lib.ListN.{length}
+use borrow.Author.Tests.{ltb-false, not-false}
+use Rattle.model.specs.Search.{tab, isAt, indexOf}
+use Rattle.model.specs.Geometry.{entryAt}
+use Rattle.model.specs.Disk.{view}
+use Rattle.model.specs.Entry.{badName, updatedEntrySector}
+use Rattle.model.specs.Table.{tableSectorOf, takenIn}
+use Rattle.model.specs.Catalogue.{Catalogue, hasName, fileNamed, freeExtent, entryOf}
+use Rattle.model.specs.Refusals.{Conditions}
+use Rattle.model.specs.WriteList.{Plan, sectorWrite, groupsFor, listLength, recordSize, recordCount, stored}
+use Rattle.model.specs.Read.{longestTransfer, sizeNamed}
+use Rattle.model.specs.Write.{touchedSectors, heldExtents, grows, noRoom, sizeAfter, dataSector, writePlan, writePlanned, writeCount, writeConditions, writeDecision, writeAnswer}
+use Rattle.model.specs.Cut.{dataBy}
+use Rattle.model.specs.Ledger.{Ledger, File, fileOr, entryOfFile, catalogue, write, changed, answer, afterCall, afterCut, slotNamed, fileOf, withFile, written, afterWrite, partlyWritten}
+use Rattle.model.specs.Run.{volumeAnswer, volumePlan}
+use Rattle.laws.proofs.Search.{length-tab}
+use Rattle.safety.proofs.Searches.{place-found, or-right-no}
+use Rattle.safety.proofs.Plan.{WellFormed, A}
+use Rattle.safety.proofs.Commit.{partOf, uncut}
+use Rattle.safety.proofs.Frame.{length-groups}
+use Rattle.safety.proofs.Rep.{Rep}
+use Rattle.safety.proofs.Changing.{Passed, Refusing, answer-changing, Carries, Carried, effect-changing}
+use Rattle.safety.proofs.Read.{file-there, size-is}
+use Rattle.safety.proofs.WriteLedger.{Writable}
+use Rattle.safety.proofs.WriteDone.{fits, done}
+use Rattle.safety.proofs.WriteCut.{partly}
+use Rattle.safety.proofs.Induction.{Effect}
+
+-- ---- a write's plan
+
+-- a file of which a write was cut before its start mark
+abbrev pub partlyWrittenFile : File → ℕ → List ℕ → List Bool → File
+partlyWrittenFile f offset bytes mask = record { entry = f .entry; bytes = partlyWritten f offset bytes mask; extents = f .extents }
+
+module _ (L : Ledger) (img : List ℕ) (i offset : ℕ) (bytes : List ℕ) (time : ℕ) where
+  abbrev pub writing : Plan
+  writing = writePlan (catalogue L) i (view img) offset bytes time
+
+  abbrev after : ℕ
+  after = sizeAfter (catalogue L) i offset (length bytes)
+
+  abbrev x : ℕ
+  x = indexOf (freeExtent (catalogue L))
+
+  abbrev t : ℕ
+  t = tableSectorOf (catalogue L .geometry) x
+
+  targets-length : (b : Bool) → length (sectorWrite (entryAt i) (updatedEntrySector after time (view img (entryAt i)))
+      ∷ cond b (sectorWrite t (takenIn x i (heldExtents (catalogue L) i) (view img t)) ∷ []) []) ≡ cond b 2 1
+  targets-length true = refl
+  targets-length false = refl
+
+  -- the length of its list
+  pub write-length : listLength (groupsFor (view img) (writePlanned (catalogue L) i (view img) offset bytes time)) ≡ writeCount (catalogue L) i offset (length bytes) * recordSize
+  unfolding groupsFor writePlanned writePlan writeCount
+  write-length = go (eqb (length bytes) 0)
+    where
+      go : (b : Bool) → listLength (groupsFor (view img) (cond b none (just writing)))
+          ≡ cond b 0 (recordCount (touchedSectors offset (length bytes)) (cond (grows (catalogue L) i after) 2 1)) * recordSize
+      go true = refl
+      go false =
+          length-groups _ (view img) writing
+          ∙ ap₂ (λ k m. recordCount k m * recordSize) (length-tab (dataSector (catalogue L) i (view img) offset bytes) (offset / 512) (touchedSectors offset (length bytes)))
+          (targets-length (grows (catalogue L) i after))
+
+  -- what it does, carried out whole, or cut before its start mark: then "data sectors that landed hold their new bytes up to the old size"
+  pub record Writes : Type 0 where
+    pub fits : WellFormed (L .geometry) writing
+    pub done : Rep (withFile L i (written L i offset bytes time)) (uncut (L .geometry) img writing)
+    pub partly : (k : ℕ) (m : List Bool)
+        → Rep (withFile L i (partlyWrittenFile (fileOr (L .slots i)) offset bytes (tab (dataBy k m) 0 (length (writing .dataSectors))))) (stored (partOf k m (A (L .geometry) writing)) img)
+
+  -- EVERY WRITE of up to 65,536 bytes at an offset up to the size, for which there is room, does so
+  pub writes-carried : Rep L img → L .slots i ≡ just (fileOr (L .slots i)) → offset ≤ fileOr (L .slots i) .entry .size → length bytes ≤ longestTransfer
+      → noRoom (catalogue L) i (sizeAfter (catalogue L) i offset (length bytes)) ≡ false → time < 2 ^ 32 → Writes
+  writes-carried rep has start short room ht =
+      let f = fileOr (L .slots i) in
+      let w : Writable L i f offset bytes = record { has = has; start = start; short = short; room = room } in
+      record {
+        fits = fits L img rep i f offset bytes w time;
+        done = done L img rep i f offset bytes w time ht;
+        partly = λ k m. partly L img rep i f offset bytes w time k m;
+      }
+
+-- ---- the call
+
+module _ (L : Ledger) (img : List ℕ) (rep : Rep L img) (name : List ℕ) (offset : ℕ) (bytes : List ℕ) (time room : ℕ) where
+  abbrev c : Catalogue
+  c = catalogue L
+
+  abbrev i : ℕ
+  i = indexOf (fileNamed (catalogue L) name)
+
+  abbrev f : File
+  f = fileOr (L .slots (indexOf (fileNamed (catalogue L) name)))
+
+  abbrev conditions : Catalogue → Conditions
+  conditions v = writeConditions v name offset (length bytes)
+
+  abbrev plan : Catalogue → Option Plan
+  plan v = writePlanned v (indexOf (fileNamed v name)) (view img) offset bytes time
+
+  pub write-same : volumeAnswer (write name offset bytes time room) img ≡ answer (write name offset bytes time room) L
+  unfolding volumeAnswer answer writeAnswer writeDecision slotNamed
+  write-same = ap changed (answer-changing L img rep conditions plan room (writeCount (catalogue L) i offset (length bytes)) (write-length L img i offset bytes time))
+
+  refusing : Refusing (writeConditions (catalogue L) name offset (length bytes))
+  unfolding writeConditions
+  refusing = ((λ e. omega arith), ((λ e. omega arith), ((λ e. omega arith), ((λ e. omega arith), tt))))
+
+  module _ (ht : time < 2 ^ 32) (passed : Passed (writeConditions (catalogue L) name offset (length bytes))) where
+    -- ---- what the conditions say
+
+    there : L .slots i ≡ just f
+    unfolding writeConditions fileNamed catalogue
+    there = file-there (L .slots i) name (place-found (λ k. hasName name (entryOfFile (L .slots k))) (L .geometry .files) (not-false (isAt (fileNamed c name)) (passed .1 .0)) .1)
+
+    short : length bytes ≤ longestTransfer
+    unfolding writeConditions
+    short = ltb-false longestTransfer (length bytes) (or-right-no (badName name) _ (passed .0))
+
+    start : offset ≤ f .entry .size
+    unfolding writeConditions sizeNamed entryOf catalogue
+    start =
+        let e : entryOf (catalogue L) i .size ≡ f .entry .size = size-is (L .slots i) in
+        let l : offset ≤ entryOf (catalogue L) i .size = ltb-false (entryOf (catalogue L) i .size) offset (passed .1 .1 .0) in
+        omega arith
+
+    roomy : noRoom (catalogue L) i (sizeAfter (catalogue L) i offset (length bytes)) ≡ false
+    unfolding writeConditions
+    roomy = passed .1 .1 .1 .0
+
+    -- ---- the plan, or none for no bytes
+
+    after-is : (b : Bool) → eqb (length bytes) 0 ≡ b → afterCall (write name offset bytes time room) L ≡ cond b L (withFile L i (written L i offset bytes time))
+    unfolding afterCall slotNamed afterWrite
+    after-is b e = ap (λ (t : Bool). cond t L (withFile L i (written L i offset bytes time))) e
+
+    carries : eqb (length bytes) 0 ≡ false → Carries L img (write name offset bytes time room) (writing L img i offset bytes time)
+    unfolding afterCut slotNamed fileOf
+    carries e =
+        let w = writes-carried L img i offset bytes time rep there start short roomy ht in
+        record {
+          fits = w .fits;
+          done = subst (λ (X : Ledger). Rep X (uncut (L .geometry) img (writing L img i offset bytes time))) (sym (after-is false e)) (w .done);
+          partly = w .partly;
+        }
+
+    carried : Carried L img (write name offset bytes time room) (writePlanned (catalogue L) i (view img) offset bytes time)
+    unfolding writePlanned
+    carried = go (eqb (length bytes) 0) refl
+      where
+        go : (b : Bool) → eqb (length bytes) 0 ≡ b → Carried L img (write name offset bytes time room) (cond b none (just (writing L img i offset bytes time)))
+        go true e = subst (λ (X : Ledger). Rep X img) (sym (after-is true e)) rep
+        go false e = carries e
+
+  -- what write does
+  pub write-effect : time < 2 ^ 32 → Effect Rep (write name offset bytes time room) L img
+  unfolding volumePlan writeDecision answer slotNamed
+  write-effect ht =
+      effect-changing L img rep conditions plan room (writeCount (catalogue L) i offset (length bytes)) (write-length L img i offset bytes time) (write name offset bytes time room) refl refl refusing
+      (λ passed. carried ht passed)

@@ -1,0 +1,33 @@
+-- A list of bytes as it is carried out: its groups are what its barriers close, and a cut of it is a cut of these groups. And a
+-- format whose records are asked for and carried out one after the other.
+use Prim.Native.Nat.{ℕ, zero, suc}
+use mathlib.Core.Bool.{cond}
+use mathlib.Core.List.{List, [], _∷_}
+use lib.Dec.{eqb}
+use lib.ListN.{length}
+use Rattle.model.specs.Bytes.{run}
+use Rattle.model.specs.WriteList.{Record, Group, barrierNumber, stored}
+use Rattle.model.specs.CarryOut.{recordsIn, carryImage}
+use Rattle.model.specs.Cut.{Cut, landed}
+use Rattle.model.specs.Format.{Format, formatAnswer, formatOutput}
+
+-- a record put in front of the first group
+abbrev pub withRecord : Record → List Group → List Group
+withRecord r [] = (r ∷ []) ∷ []
+withRecord r (g ∷ gs) = (r ∷ g) ∷ gs
+
+-- "each closed by a barrier": cut after each record of the barrier's number, which no group keeps; records behind the last barrier
+-- are a group of their own
+unfoldable pub groupsIn : List Record → List Group
+groupsIn [] = []
+groupsIn (r ∷ rs) = let rest = groupsIn rs in cond (eqb (r .sector) barrierNumber) ([] ∷ rest) (withRecord r rest)
+
+-- the image on which a cut of a list's bytes landed
+unfoldable pub cutImage : Cut → List ℕ → List ℕ → List ℕ
+cutImage x list img = stored (landed x (groupsIn (recordsIn list))) img
+
+-- the image on which a format's first n records were carried out, each as soon as it was asked for with the buffer outs gives
+unfoldable pub formatCarried : Format → (ℕ → List ℕ) → ℕ → List ℕ → List ℕ
+formatCarried a outs zero img = img
+formatCarried a outs (suc n) img =
+    carryImage (formatCarried a outs n img) (run (formatOutput a n (outs n)) 0 (formatAnswer a n (length (outs n)) .length))

@@ -1,0 +1,64 @@
+-- Which file a call names to change it, and what an image, or the ledger, says of the file of a name.
+use Prim.Native.Nat.{ℕ}
+use mathlib.Core.Logic.{_≢_}
+use mathlib.Core.Bool.{cond}
+use mathlib.Core.List.{List, [], _∷_}
+use mathlib.Core.Option.{Option, none, some as just}
+use lib.Dec.{eqb}
+use Rattle.model.specs.declared.Place.{Place}
+use Rattle.model.specs.declared.Place.the-variants.{At, Nowhere}
+use Rattle.model.specs.Search.{indexOf}
+use Rattle.model.specs.Geometry.{FileNumber}
+use Rattle.model.specs.Disk.{Disk, view}
+use Rattle.model.specs.Entry.{Entry, newEntry}
+use Rattle.model.specs.Catalogue.{catalogueOf, fileNamed, freeEntry, entryOf, fileBytes}
+use Rattle.model.specs.Ledger.{Ledger, fileOr, catalogue, Call, summary, check, find, list, read, create, delete, resize, write, Feed, callOf}
+
+-- the name of the file that a call is to change; summary, check, find, list and read change none
+abbrev pub names : Call → Option (List ℕ)
+names summary = none
+names check = none
+names (find name) = none
+names (list i room) = none
+names (read name offset count room) = none
+names (create name id mode time room) = just name
+names (delete name time room) = just name
+names (resize name size time room) = just name
+names (write name offset bytes time room) = just name
+
+-- none of these calls, whole or cut, is to change the file of that name
+abbrev pub NoneNames : List ℕ → List Feed → Type 0
+NoneNames name [] = Unit {0}
+NoneNames name (f ∷ fs) = (names (callOf f) ≢ just name) × NoneNames name fs
+
+-- what is said of a file: its entry and its bytes
+pub record Contents : Type 0 where
+  pub entry : Entry
+  pub bytes : List ℕ
+
+abbrev pub contentsAt : Disk → Place → Option Contents
+contentsAt d Nowhere = none
+contentsAt d (At i) =
+    let c = catalogueOf d in
+    just (record { entry = entryOf c i; bytes = fileBytes c d i 0 (entryOf c i .size) })
+
+-- what an image says of the file of a name: nothing, or its entry in the directory and, by the table, its bytes in the data area
+unfoldable pub fileOn : List ℕ → List ℕ → Option Contents
+fileOn img name = contentsAt (view img) (fileNamed (catalogueOf (view img)) name)
+
+abbrev pub contentsIn : Ledger → Place → Option Contents
+contentsIn L Nowhere = none
+contentsIn L (At i) = let f = fileOr (L .slots i) in just (record { entry = f .entry; bytes = f .bytes })
+
+-- what the ledger says of it
+unfoldable pub fileIn : Ledger → List ℕ → Option Contents
+fileIn L name = contentsIn L (fileNamed (catalogue L) name)
+
+-- the directory that an image shows: each slot free, or its entry's fields
+abbrev pub directoryOn : List ℕ → FileNumber → Option Entry
+directoryOn img = catalogueOf (view img) .entries
+
+-- a directory with the new entry of a create in its lowest free slot
+abbrev pub withNewEntry : List ℕ → List ℕ → ℕ → ℕ → ℕ → FileNumber → Option Entry
+withNewEntry img name id mode time i =
+    cond (eqb i (indexOf (freeEntry (catalogueOf (view img))))) (just (newEntry name id mode time)) (directoryOn img i)

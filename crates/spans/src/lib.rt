@@ -1,0 +1,140 @@
+// A file's bytes over its extents: a span is cut at the next extent edge and the rest again, until nothing is left.
+// Reading copies a span out; writing emits its data sectors in file order.
+use model::Extent;
+use model::FileIndex;
+use model::Geometry;
+use model::Sector;
+ghost use mathlib.Core.Path.{_≡_};
+ghost use mathlib.Core.Bool.{cond};
+ghost use mathlib.Core.List.{[], _∷_};
+ghost use Prim.Native.Nat.{_+_, _*_, _-_, _≤_, _<_, _^_, min, max};
+ghost use lib.Dec.{ltb};
+ghost use lib.ListN.{length};
+ghost use Rattle.model.specs.Bytes.{put};
+ghost use Rattle.model.specs.Search.{tab, indexOf};
+ghost use Rattle.model.specs.Disk.{view};
+ghost use Rattle.model.specs.Table.{freeFile};
+ghost use Rattle.model.specs.Catalogue.{catalogueOf, fileBytes, extentOf, freeExtent};
+ghost use Rattle.model.specs.WriteList.{sectorWrite, Emitted};
+ghost use Rattle.model.specs.Write.{spliced, heldExtents, dataSector};
+ghost use Rattle.model.specs.Opened.{Opened};
+ghost use Rattle.spans.specs.Touched.{Touched, Lent};
+
+fn least(a: u64, b: u64) -> u64
+    ensures { λ r. ⌜ r ≡ min a b ⌝ }
+{
+    if a <= b {
+        return a;
+    }
+    b
+}
+
+fn most(a: u64, b: u64) -> u64
+    ensures { λ r. ⌜ r ≡ max a b ⌝ }
+{
+    if a <= b {
+        return b;
+    }
+    a
+}
+
+// ---- reading
+
+// Copies those of the n bytes of file i from `offset` on that lie in one extent to `out` at `at`; the answer is how many.
+fn read_piece(img: &[u8], g: Geometry, i: FileIndex, offset: u64, out: &mut [u8], at: usize, n: usize) -> usize
+    requires { ⌜ Opened (now img) g ⌝ }
+    requires { ⌜ (i .0 < freeFile) × (0 < n) × (offset + n < 2 ^ 63) ⌝ }
+    requires { ⌜ at + n ≤ length (now out) ⌝ }
+    ensures { λ r. ⌜ (0 < r) × (r ≤ n) ⌝ }
+    ensures { λ r. ⌜ now (out .exit) ≡ put (now (out .entry)) at (fileBytes (catalogueOf (view (now (img .entry)))) (view (now (img .entry))) (i .0) offset r) ⌝ }
+{
+    let e = 512 * (g.extent_sectors as u64);
+    let start = g.extent_at(table::extent_of(img, g, i, offset / e));
+    let within = offset % e;
+    let m = least(e - within, n as u64) as usize;
+    fields::copy_run(img, (512 * start.0 + within) as usize, out, at, m);
+    m
+}
+
+// Copies the n bytes of file i from `offset` on to `out` at `at`.
+pub fn read_span(img: &[u8], g: Geometry, i: FileIndex, offset: u64, out: &mut [u8], at: usize, n: usize)
+    requires { ⌜ Opened (now img) g ⌝ }
+    requires { ⌜ (i .0 < freeFile) × (offset + n < 2 ^ 63) ⌝ }
+    requires { ⌜ at + n ≤ length (now out) ⌝ }
+    ensures { λ _. ⌜ now (out .exit) ≡ put (now (out .entry)) at (fileBytes (catalogueOf (view (now (img .entry)))) (view (now (img .entry))) (i .0) offset n) ⌝ }
+{
+    if n == 0 {
+        return;
+    }
+    let m = read_piece(img, g, i, offset, out, at, n);
+    read_span(img, g, i, offset + m as u64, out, at + m, n - m)
+}
+
+// ---- writing
+
+// File sector s of the span, which stands at `place`: what the span doesn't cover keeps its old bytes.
+fn put_data_sector(list: &mut [u8], k: usize, img: &[u8], place: Sector, offset: u64, bytes: &[u8], s: u64) -> usize
+    requires { ⌜ (k + 1) * 520 ≤ length (now list) ⌝ }
+    requires { ⌜ 512 * place .0 + 512 ≤ length (now img) ⌝ }
+    requires { ⌜ Touched offset (length (now bytes)) s 1 ⌝ }
+    ensures { λ r. ⌜ Emitted (now (list .entry)) k (sectorWrite (place .0) (spliced offset (now (bytes .entry)) s (view (now (img .entry)) (place .0))) ∷ []) (now (list .exit)) r ⌝ }
+{
+    let base = 512 * s;
+    let from = most(offset, base);
+    let to = least(offset + bytes.len() as u64, base + 512);
+    if to - from == 512 {
+        return lists::put_from(list, k, place, bytes, (from - offset) as usize);
+    }
+    let mut a = fields::sector(img, place);
+    fields::copy_run(bytes, (from - offset) as usize, &mut a, (from - base) as usize, (to - from) as usize);
+    lists::put_sector(list, k, place, a)
+}
+
+// The n sectors of the span from file sector s on, where they stand one after the other from `start` on.
+fn put_piece(list: &mut [u8], k: usize, img: &[u8], start: Sector, offset: u64, bytes: &[u8], s: u64, n: u64) -> usize
+    requires { ⌜ (k + n) * 520 ≤ length (now list) ⌝ }
+    requires { ⌜ 512 * (start .0 + n) ≤ length (now img) ⌝ }
+    requires { ⌜ Touched offset (length (now bytes)) s n ⌝ }
+    ensures { λ r. ⌜ r ≡ k + n ⌝ }
+    ensures { λ r. ⌜ Emitted (now (list .entry)) k (tab (λ x. sectorWrite (start .0 + (x - s)) (spliced offset (now (bytes .entry)) x (view (now (img .entry)) (start .0 + (x - s))))) s n) (now (list .exit)) r ⌝ }
+{
+    let mut at = k;
+    let mut j: u64 = 0;
+    while j < n {
+        at = put_data_sector(list, at, img, Sector(start.0 + j), offset, bytes, s + j);
+        j += 1;
+    }
+    at
+}
+
+// The extent of offset o: one of the `held` that file i has, or behind them the next, which is taken.
+fn extent_for(img: &[u8], g: Geometry, i: FileIndex, held: u64, next: Extent, o: u64) -> Extent
+    requires { ⌜ Opened (now img) g ⌝ }
+    requires { ⌜ i .0 < freeFile ⌝ }
+    ensures { λ r. ⌜ r .0 ≡ cond (ltb o held) (extentOf (catalogueOf (view (now (img .entry)))) (i .0) o) (next .0) ⌝ }
+{
+    if o < held {
+        return table::extent_of(img, g, i, o);
+    }
+    next
+}
+
+// The n data sectors of the span from file sector s on, in file order.
+pub fn put_data(list: &mut [u8], k: usize, img: &[u8], g: Geometry, i: FileIndex, held: u64, next: Extent, offset: u64, bytes: &[u8], s: u64, n: u64) -> usize
+    requires { ⌜ Opened (now img) g ⌝ }
+    requires { ⌜ Lent (now img) (i .0) held (next .0) ⌝ }
+    requires { ⌜ (k + n) * 520 ≤ length (now list) ⌝ }
+    requires { ⌜ Touched offset (length (now bytes)) s n ⌝ }
+    ensures { λ r. ⌜ r ≡ k + n ⌝ }
+    ensures { λ r. ⌜ Emitted (now (list .entry)) k (tab (dataSector (catalogueOf (view (now (img .entry)))) (i .0) (view (now (img .entry))) offset (now (bytes .entry))) s n) (now (list .exit)) r ⌝ }
+{
+    if n == 0 {
+        return k;
+    }
+    let size = g.extent_sectors as u64;
+    let within = s % size;
+    let m = least(size - within, n);
+    let start = g.extent_at(extent_for(img, g, i, held, next, s / size));
+    let j = put_piece(list, k, img, Sector(start.0 + within), offset, bytes, s, m);
+    put_data(list, j, img, g, i, held, next, offset, bytes, s + m, n - m)
+}

@@ -1,0 +1,98 @@
+-- What a disk's catalogue says of an extent, in the terms that the code tests; a quotient rounded up. Assumes nothing.
+use Prim.Native.Nat.{ℕ, _+_, _-_, _*_, _/_, _%_, _≤_, _<_}
+use mathlib.Core.Path.{_≡_, refl, sym, ap, _∙_}
+use mathlib.Core.Bool.{Bool, true, false, cond, not, _&&_, _||_}
+use mathlib.Core.List.{List}
+use mathlib.Core.Option.{none, some as just}
+use native.Mathlib.Numerals.{add-one}
+use native.Mathlib.Nat.{div-add-mod', div-lt-iff-lt-mul, mul-le-mul-left, suc-mul, mod-lt}
+use native.Mathlib.Omega.{arith}
+use lib.Arith.{digits-div}
+use lib.Dec.{eqb, leb, ltb}
+use borrow.Author.Tests.{le-ltb, eqb-true, ne-eqb}
+use Rattle.model.specs.declared.Geometry.{Geometry}
+use Rattle.model.specs.Bytes.{put}
+use Rattle.model.specs.Search.{first, count, indexOf}
+use Rattle.model.specs.Geometry.{usable, entryAt, tableSectors}
+use Rattle.model.specs.Disk.{Disk}
+use Rattle.model.specs.Superblock.{geometryIn}
+use Rattle.model.specs.Entry.{isOccupied}
+use Rattle.model.specs.Table.{freeFile, tableFile, tableOffset, tableEntryBytes, freedIn}
+use Rattle.model.specs.Catalogue.{Owner, catalogueOf, isFree, isPart, isBeyond, freeExtent, extentOf, holdsBeyond, sectorsBeyond}
+use Rattle.model.specs.Faults.{fault25}
+use Rattle.laws.proofs.Search.{first-ext}
+use Rattle.laws.proofs.Catalogue.{table-on, part-is, fault25-is}
+
+vacant : (b : Bool) (w : Owner) → isFree (cond (not b) (just w) none) ≡ b
+vacant true w = refl
+vacant false w = refl
+
+pub or-true : (b : Bool) → (b || true) ≡ true
+or-true true = refl
+or-true false = refl
+
+beyond-of : (d : Disk) (i o e : ℕ) → i < freeFile → e < geometryIn (d 0) .extents
+    → isBeyond i o (catalogueOf d .table e) ≡ (eqb (tableFile (geometryIn (d 0)) d e) i && leb o (tableOffset (geometryIn (d 0)) d e))
+beyond-of d i o e few l = ap (isBeyond i o) (table-on d e l) ∙ go (eqb (tableFile (geometryIn (d 0)) d e) freeFile) refl
+  where
+    f : ℕ
+    f = tableFile (geometryIn (d 0)) d e
+
+    w : Owner
+    w = record { file = tableFile (geometryIn (d 0)) d e; offset = tableOffset (geometryIn (d 0)) d e }
+
+    go : (b : Bool) → eqb f freeFile ≡ b → isBeyond i o (cond (not b) (just w) none) ≡ (eqb f i && leb o (w .offset))
+    go true q = let z : f ≡ freeFile = eqb-true f freeFile q in sym (rw (ne-eqb f i (λ y. omega arith)))
+    go false q = refl
+
+module _ (d : Disk) (g : Geometry) (is : g ≡ geometryIn (d 0)) where
+  pub free-extent-is : freeExtent (catalogueOf d) ≡ first (λ e. eqb (tableFile g d e) freeFile) (usable g)
+  unfolding freeExtent catalogueOf
+  free-extent-is =
+      rw is
+      (first-ext (λ e. isFree (catalogueOf d .table e)) (λ e. eqb (tableFile (geometryIn (d 0)) d e) freeFile) (usable (geometryIn (d 0)))
+      (λ e l. ap isFree (table-on d e (omega arith)) ∙ vacant (eqb (tableFile (geometryIn (d 0)) d e) freeFile) _))
+
+  pub extent-of-is : (i o : ℕ) → extentOf (catalogueOf d) i o ≡ indexOf (first (λ e. isPart i o (catalogueOf d .table e)) (usable g))
+  unfolding extentOf catalogueOf
+  extent-of-is i o = rw is
+
+  pub part-on : (i o e : ℕ) → i < freeFile → e < g .extents → isPart i o (catalogueOf d .table e) ≡ (eqb (tableFile g d e) i && eqb (tableOffset g d e) o)
+  part-on i o e few l = rw is (part-is d i few o e (rw is at l))
+
+  pub fault25-on : (e : ℕ) → e < g .extents
+      → fault25 (catalogueOf d) e ≡ (not (eqb (tableFile g d e) freeFile) && (not (ltb (tableFile g d e) (g .files) && isOccupied (d (entryAt (tableFile g d e)))) || leb (usable g) e))
+  fault25-on e l = rw is (fault25-is d e (rw is at l))
+
+  pub beyond-on : (i o e : ℕ) → i < freeFile → e < g .extents → isBeyond i o (catalogueOf d .table e) ≡ (eqb (tableFile g d e) i && leb o (tableOffset g d e))
+  beyond-on i o e few l = rw is (beyond-of d i o e few (rw is at l))
+
+  pub beyond-past : (i o e : ℕ) → g .extents ≤ e → isBeyond i o (catalogueOf d .table e) ≡ false
+  unfolding catalogueOf
+  beyond-past i o e h = rw (le-ltb e (geometryIn (d 0) .extents) (rw is at h))
+
+  pub sectors-beyond-is : (i o : ℕ) → sectorsBeyond (catalogueOf d) i o ≡ count (holdsBeyond (catalogueOf d) i o) (tableSectors g)
+  unfolding sectorsBeyond catalogueOf
+  sectors-beyond-is i o = rw is
+
+pub freed-more : (p : ℕ → Bool) (s : List ℕ) (k : ℕ)
+    → freedIn p s (k + 1) ≡ cond (p k) (put (freedIn p s k) (4 * k) (tableEntryBytes freeFile 65535)) (freedIn p s k)
+unfolding freedIn
+freed-more p s k = rw add-one
+
+-- z / e rounded up, as a quotient and what is left
+module _ (z e : ℕ) (pos : 0 < e) where
+  pub round-whole : z % e ≡ 0 → z / e ≡ (z + (e - 1)) / e
+  round-whole h =
+      let s : z + (e - 1) ≡ z / e * e + (e - 1) = omega (arith, div-add-mod' z e) in
+      sym (ap (λ x. x / e) s ∙ digits-div (z / e) {m = e} {r = e - 1} (omega arith))
+
+  pub round-part : (z % e ≡ 0 → ⊥) → z / e + 1 ≡ (z + (e - 1)) / e
+  round-part h =
+      let s : z + (e - 1) ≡ (z / e + 1) * e + (z % e - 1) = omega (arith, div-add-mod' z e, suc-mul (z / e) e, h) in
+      sym (ap (λ x. x / e) s ∙ digits-div (z / e + 1) {m = e} {r = z % e - 1} (omega (arith, mod-lt z {m = e} pos)))
+
+pub few-extents : (z e : ℕ) → 65536 ≤ e → z < 18446744073709551616 → z / e < 281474976710656
+few-extents z e big h =
+    let p : 281474976710656 * 65536 ≤ 281474976710656 * e = mul-le-mul-left 281474976710656 big in
+    div-lt-iff-lt-mul {k = e} (omega arith) .1 (omega arith)

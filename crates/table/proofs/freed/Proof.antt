@@ -1,0 +1,83 @@
+-- `table::freed` meets its contract. The loop's invariant: the entries passed are freed where they are to be.
+use Prim.Native.Nat.{_+_, _-_, _*_, _≤_}
+use mathlib.Core.Path.{_≡_, refl}
+use native.Mathlib.Omega.{arith}
+use lib.ListN.{length}
+use Rattle.model.specs.Disk.{view}
+use Rattle.model.specs.Table.{freedIn}
+use Rattle.model.specs.Catalogue.{catalogueOf, isBeyond}
+use Rattle.table.proofs.Laws.{freed-more}
+use borrow.Author.Needs.{needs}
+use Rattle.table.proofs.freed.Statement.{statement}
+use Rattle.table.proofs.freed.Tie as tie
+
+abbrev Inv-loop : tie.InvT-loop
+Inv-loop img g i o t a₀ k₀ a k =
+    (k ≤ 128) × (a ≡ freedIn (λ j. isBeyond (i .0) o (catalogueOf (view img) .table (128 * t + j))) a₀ k) × (length a ≡ 512)
+
+abbrev μ-loop : tie.MeasureT-loop
+μ-loop img g i o t a₀ k₀ a k = 128 - k
+
+add-t10 : tie.Need-add-t10 Inv-loop μ-loop
+add-t10 c = search needs
+
+add-t11 : tie.Need-add-t11 Inv-loop μ-loop
+add-t11 c = search needs
+
+sector-requires : tie.Need-sector-requires Inv-loop μ-loop
+sector-requires c κs = search needs
+
+loop-holds : tie.Need-loop-holds Inv-loop μ-loop
+unfolding freedIn
+loop-holds c = (omega arith, refl, search needs)
+
+mul-t14 : tie.Need-mul-t14 Inv-loop μ-loop
+mul-t14 c = search needs
+
+add-t16 : tie.Need-add-t16 Inv-loop μ-loop
+add-t16 c = search needs
+
+is-beyond-requires : tie.Need-is-beyond-requires Inv-loop μ-loop
+is-beyond-requires c κs = search needs
+
+slice-aggregate-free-one : tie.Need-slice-aggregate-free-one Inv-loop μ-loop
+slice-aggregate-free-one c = search needs
+
+free-one-requires : tie.Need-free-one-requires Inv-loop μ-loop
+free-one-requires c κs = search needs
+
+add-k : tie.Need-add-k Inv-loop μ-loop
+add-k c = search needs
+
+loop-less : tie.Need-loop-less Inv-loop μ-loop
+loop-less c = search needs
+
+loop-again : tie.Need-loop-again Inv-loop μ-loop
+loop-again c =
+    let l = c .before .before .before .before .before .loop in
+    (omega arith, rw (freed-more, ← c .before .before .before .is-beyond .ensures, ← l .inv .1) (c .before .free-one .ensures), search needs)
+
+returns : tie.Need-returns Inv-loop μ-loop
+returns c =
+    let e : c .before .loop .k ≡ 128 = omega arith in
+    rw (← c .before .before .sector .ensures) (rw e at (c .before .loop .inv .1))
+
+pub freed-spec : {M : Type 1} → statement M
+freed-spec =
+    tie.close
+    (tie.spec
+    Inv-loop
+    μ-loop
+    add-t10
+    add-t11
+    sector-requires
+    loop-holds
+    mul-t14
+    add-t16
+    is-beyond-requires
+    slice-aggregate-free-one
+    free-one-requires
+    add-k
+    loop-less
+    loop-again
+    returns)

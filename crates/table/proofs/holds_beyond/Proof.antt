@@ -1,0 +1,75 @@
+-- `table::holds_beyond` meets its contract. The loop's invariant: none of the entries passed is one.
+use Prim.Native.Nat.{ℕ, _+_, _-_, _*_, _≤_}
+use mathlib.Core.Path.{_≡_, refl, sym, _∙_}
+use mathlib.Core.Bool.{Bool, false}
+use mathlib.Core.List.{List}
+use native.Mathlib.Omega.{arith}
+use Rattle.model.specs.Search.{some}
+use Rattle.model.specs.Disk.{view}
+use Rattle.model.specs.Catalogue.{catalogueOf, isBeyond, holdsBeyond}
+use Rattle.laws.proofs.Search.{some-more, some-true}
+use borrow.Author.Needs.{needs}
+use Rattle.table.proofs.holds_beyond.Statement.{statement}
+use Rattle.table.proofs.holds_beyond.Tie as tie
+
+abbrev hit : List ℕ → ℕ → ℕ → ℕ → ℕ → Bool
+hit img i o t k = isBeyond i o (catalogueOf (view img) .table (128 * t + k))
+
+abbrev Inv-loop : tie.InvT-loop
+Inv-loop img g i o t k₀ k = (k ≤ 128) × (some (hit img (i .0) o t) k ≡ false)
+
+abbrev μ-loop : tie.MeasureT-loop
+μ-loop img g i o t k₀ k = 128 - k
+
+loop-holds : tie.Need-loop-holds Inv-loop μ-loop
+unfolding some
+loop-holds c = (omega arith, refl)
+
+mul-t9 : tie.Need-mul-t9 Inv-loop μ-loop
+mul-t9 c = search needs
+
+add-t10 : tie.Need-add-t10 Inv-loop μ-loop
+add-t10 c = search needs
+
+is-beyond-requires : tie.Need-is-beyond-requires Inv-loop μ-loop
+is-beyond-requires c κs = search needs
+
+returns : tie.Need-returns Inv-loop μ-loop
+unfolding holdsBeyond
+returns c =
+    let a = c .before .before .before .before .before .args in
+    sym (some-true (hit (a .img .now) (a .i .0) (a .o) (a .t)) (c .before .before .before .loop .k) 128 (omega arith) (sym (c .before .is-beyond .ensures) ∙ c .if1 .taken))
+
+add-k : tie.Need-add-k Inv-loop μ-loop
+add-k c = search needs
+
+loop-less : tie.Need-loop-less Inv-loop μ-loop
+loop-less c = search needs
+
+loop-again : tie.Need-loop-again Inv-loop μ-loop
+loop-again c =
+    let l = c .before .before .before .loop in
+    let a = c .before .before .before .before .before .args in
+    (omega arith, rw (some-more (hit (a .img .now) (a .i .0) (a .o) (a .t)) (l .k), ← c .before .is-beyond .ensures, c .if1 .left) (l .inv .1))
+
+returns-2 : tie.Need-returns-2 Inv-loop μ-loop
+unfolding holdsBeyond
+returns-2 c =
+    let e : c .before .loop .k ≡ 128 = omega arith in
+    sym (rw e at (c .before .loop .inv .1))
+
+pub holds-beyond-spec : {M : Type 1} → statement M
+holds-beyond-spec =
+    tie.close
+    (tie.spec
+    Inv-loop
+    μ-loop
+    loop-holds
+    mul-t9
+    add-t10
+    is-beyond-requires
+    returns
+    add-k
+    loop-less
+    loop-again
+    returns-2)

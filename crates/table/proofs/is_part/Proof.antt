@@ -1,0 +1,28 @@
+-- `table::is_part` meets its contract. Both numbers of the entry are compared.
+use borrow.Author.Tests.{eq-eqb, ne-eqb}
+use Rattle.model.specs.Disk.{view}
+use Rattle.table.proofs.Laws.{part-on}
+use borrow.Author.Needs.{needs}
+use Rattle.table.proofs.is_part.Statement.{statement}
+use Rattle.table.proofs.is_part.Tie as tie
+
+table-file-requires : tie.Need-table-file-requires
+table-file-requires c κs = search needs
+
+table-offset-requires : tie.Need-table-offset-requires
+table-offset-requires c κs = search needs
+
+returns : tie.Need-returns
+returns c =
+    let s = c .before .before .before .before .before in
+    let a = s .args in
+    rw (part-on (view (a .img .now)) (a .g) (s .pre .0 .is) (a .i .0) (a .o) (a .e .0) (s .pre .1 .0) (s .pre .1 .1), ← c .before .before .before .table-file .ensures .0, eq-eqb _ _ (c .before .if1 .taken), ← c .table-offset .ensures .0)
+
+returns-2 : tie.Need-returns-2
+returns-2 c =
+    let s = c .before .before .before .before in
+    let a = s .args in
+    rw (part-on (view (a .img .now)) (a .g) (s .pre .0 .is) (a .i .0) (a .o) (a .e .0) (s .pre .1 .0) (s .pre .1 .1), ← c .before .before .table-file .ensures .0, ne-eqb _ _ (c .if1 .left))
+
+pub is-part-spec : {M : Type 1} → statement M
+is-part-spec = tie.close (tie.spec table-file-requires table-offset-requires returns returns-2)

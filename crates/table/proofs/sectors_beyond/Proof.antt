@@ -1,0 +1,78 @@
+-- `table::sectors_beyond` meets its contract. The loop's invariant: how many of the sectors passed hold one.
+use Prim.Native.Nat.{ℕ, _-_, _≤_}
+use mathlib.Core.Path.{_≡_, refl}
+use mathlib.Core.Bool.{Bool}
+use mathlib.Core.List.{List}
+use native.Mathlib.Omega.{arith}
+use Rattle.model.specs.Search.{count}
+use Rattle.model.specs.Disk.{view}
+use Rattle.model.specs.Catalogue.{catalogueOf, holdsBeyond}
+use Rattle.laws.proofs.Search.{count-more}
+use Rattle.table.proofs.Laws.{sectors-beyond-is}
+use borrow.Author.Needs.{needs}
+use Rattle.table.proofs.sectors_beyond.Statement.{statement}
+use Rattle.table.proofs.sectors_beyond.Tie as tie
+
+abbrev hit : List ℕ → ℕ → ℕ → ℕ → Bool
+hit img i o = holdsBeyond (catalogueOf (view img)) i o
+
+abbrev Inv-loop : tie.InvT-loop
+Inv-loop img g i o n found₀ t₀ found t = (t ≤ n) × (found ≤ t) × (found ≡ count (hit img (i .0) o) t)
+
+abbrev μ-loop : tie.MeasureT-loop
+μ-loop img g i o n found₀ t₀ found t = n - t
+
+table-sectors-requires : tie.Need-table-sectors-requires Inv-loop μ-loop
+table-sectors-requires c κs = search needs
+
+loop-holds : tie.Need-loop-holds Inv-loop μ-loop
+unfolding count
+loop-holds c = (omega arith, omega arith, refl)
+
+holds-beyond-requires : tie.Need-holds-beyond-requires Inv-loop μ-loop
+holds-beyond-requires c κs = search needs
+
+one-if-requires : tie.Need-one-if-requires Inv-loop μ-loop
+one-if-requires c κs = search needs
+
+add-found : tie.Need-add-found Inv-loop μ-loop
+add-found c = search needs
+
+add-t : tie.Need-add-t Inv-loop μ-loop
+add-t c = search needs
+
+loop-less : tie.Need-loop-less Inv-loop μ-loop
+loop-less c = search needs
+
+loop-again : tie.Need-loop-again Inv-loop μ-loop
+loop-again c =
+    let l = c .before .before .before .loop in
+    let a = c .before .before .before .before .before .before .args in (
+      omega arith,
+      omega arith,
+      rw (count-more (hit (a .img .now) (a .i .0) (a .o)) (l .t), ← c .before .holds-beyond .ensures, ← c .one-if .ensures .0, ← l .inv .2) (omega arith),
+    )
+
+returns : tie.Need-returns Inv-loop μ-loop
+returns c =
+    let l = c .before .loop in
+    let s = c .before .before .before .before in
+    let a = s .args in
+    let e : l .t ≡ c .before .before .table-sectors .result = omega arith in
+    (rw (sectors-beyond-is (view (a .img .now)) (a .g) (s .pre .0 .is) (a .i .0) (a .o), ← c .before .before .table-sectors .ensures) (rw e at (l .inv .2)), omega arith)
+
+pub sectors-beyond-spec : {M : Type 1} → statement M
+sectors-beyond-spec =
+    tie.close
+    (tie.spec
+    Inv-loop
+    μ-loop
+    table-sectors-requires
+    loop-holds
+    holds-beyond-requires
+    one-if-requires
+    add-found
+    add-t
+    loop-less
+    loop-again
+    returns)

@@ -1,0 +1,233 @@
+// The allocation table: its entries, the searches of it, fault 25, and its sectors with a file's extents freed.
+use model::Extent;
+use model::FileIndex;
+use model::Geometry;
+use model::Place;
+use model::Sector;
+ghost use mathlib.Core.Path.{_≡_};
+ghost use mathlib.Core.Bool.{cond};
+ghost use Prim.Native.Nat.{_+_, _*_, _≤_, _<_};
+ghost use lib.ListN.{length};
+ghost use Rattle.model.specs.Bytes.{put};
+ghost use Rattle.model.specs.Search.{first};
+ghost use Rattle.model.specs.Geometry.{tableAt, tableSectors, entryAt, extentsFor, usable};
+ghost use Rattle.model.specs.Disk.{view};
+ghost use Rattle.model.specs.Opened.{Bounded, Opened};
+ghost use Rattle.model.specs.Entry.{isOccupied};
+ghost use Rattle.model.specs.Table.{tableFile, tableOffset, tableEntryBytes, freeFile, freedIn};
+ghost use Rattle.model.specs.Catalogue.{catalogueOf, freeExtent, extentOf, isPart, isBeyond, holdsBeyond, sectorsBeyond};
+ghost use Rattle.model.specs.Faults.{fault25};
+
+// The file that extent e's entry names; 65535 where it is free.
+pub fn table_file(img: &[u8], g: Geometry, e: Extent) -> u64
+    requires { ⌜ Opened (now img) g ⌝ }
+    requires { ⌜ e .0 < g .extents ⌝ }
+    ensures { λ r. ⌜ r ≡ tableFile g (view (now (img .entry))) (e .0) ⌝ }
+    ensures { λ r. ⌜ r < 65536 ⌝ }
+{
+    let at = (4 * (e.0 % 128)) as usize;
+    fields::number(img, g.table_sector_of(e), at, 2)
+}
+
+// The offset, counted in extents, that extent e's entry says.
+pub fn table_offset(img: &[u8], g: Geometry, e: Extent) -> u64
+    requires { ⌜ Opened (now img) g ⌝ }
+    requires { ⌜ e .0 < g .extents ⌝ }
+    ensures { λ r. ⌜ r ≡ tableOffset g (view (now (img .entry))) (e .0) ⌝ }
+    ensures { λ r. ⌜ r < 65536 ⌝ }
+{
+    let at = (4 * (e.0 % 128) + 2) as usize;
+    fields::number(img, g.table_sector_of(e), at, 2)
+}
+
+// The lowest usable free extent.
+pub fn free_extent(img: &[u8], g: Geometry) -> Place
+    requires { ⌜ Opened (now img) g ⌝ }
+    ensures { λ r. ⌜ r ≡ freeExtent (catalogueOf (view (now (img .entry)))) ⌝ }
+{
+    let n = g.usable() as usize;
+    let mut e: usize = 0;
+    while e < n {
+        if table_file(img, g, Extent(e as u64)) == 65535 {
+            return Place::At(e);
+        }
+        e += 1;
+    }
+    Place::Nowhere
+}
+
+// Extent e is file i's, of offset o.
+fn is_part(img: &[u8], g: Geometry, i: FileIndex, o: u64, e: Extent) -> bool
+    requires { ⌜ Opened (now img) g ⌝ }
+    requires { ⌜ (i .0 < freeFile) × (e .0 < g .extents) ⌝ }
+    ensures { λ r. ⌜ r ≡ isPart (i .0) o (catalogueOf (view (now (img .entry))) .table (e .0)) ⌝ }
+{
+    if table_file(img, g, e) == i.0 {
+        return table_offset(img, g, e) == o;
+    }
+    false
+}
+
+// File i's extent of offset o; extent 0 where it has none.
+pub fn extent_of(img: &[u8], g: Geometry, i: FileIndex, o: u64) -> Extent
+    requires { ⌜ Opened (now img) g ⌝ }
+    requires { ⌜ i .0 < freeFile ⌝ }
+    ensures { λ r. ⌜ r .0 ≡ extentOf (catalogueOf (view (now (img .entry)))) (i .0) o ⌝ }
+    ensures { λ r. ⌜ r .0 < g .extents ⌝ }
+{
+    let n = g.usable();
+    let mut e: u64 = 0;
+    while e < n {
+        if is_part(img, g, i, o, Extent(e)) {
+            return Extent(e);
+        }
+        e += 1;
+    }
+    Extent(0)
+}
+
+// Extent e is file i's, of offset o or more. Past the last extent stands table padding, which is no file's.
+fn is_beyond(img: &[u8], g: Geometry, i: FileIndex, o: u64, e: Extent) -> bool
+    requires { ⌜ Opened (now img) g ⌝ }
+    requires { ⌜ i .0 < freeFile ⌝ }
+    ensures { λ r. ⌜ r ≡ isBeyond (i .0) o (catalogueOf (view (now (img .entry))) .table (e .0)) ⌝ }
+{
+    if e.0 < g.extents {
+        if table_file(img, g, e) == i.0 {
+            return o <= table_offset(img, g, e);
+        }
+        return false;
+    }
+    false
+}
+
+// Table sector t holds an extent of file i of offset o or more.
+pub fn holds_beyond(img: &[u8], g: Geometry, i: FileIndex, o: u64, t: u64) -> bool
+    requires { ⌜ Opened (now img) g ⌝ }
+    requires { ⌜ (i .0 < freeFile) × (t < tableSectors g) ⌝ }
+    ensures { λ r. ⌜ r ≡ holdsBeyond (catalogueOf (view (now (img .entry)))) (i .0) o t ⌝ }
+{
+    let mut k: u64 = 0;
+    while k < 128 {
+        if is_beyond(img, g, i, o, Extent(128 * t + k)) {
+            return true;
+        }
+        k += 1;
+    }
+    false
+}
+
+fn one_if(b: bool) -> u64
+    ensures { λ r. ⌜ (r ≡ cond b 1 0) × (r ≤ 1) ⌝ }
+{
+    if b {
+        return 1;
+    }
+    0
+}
+
+// How many table sectors hold one.
+pub fn sectors_beyond(img: &[u8], g: Geometry, i: FileIndex, o: u64) -> u64
+    requires { ⌜ Opened (now img) g ⌝ }
+    requires { ⌜ i .0 < freeFile ⌝ }
+    ensures { λ r. ⌜ r ≡ sectorsBeyond (catalogueOf (view (now (img .entry)))) (i .0) o ⌝ }
+    ensures { λ r. ⌜ r ≤ tableSectors g ⌝ }
+{
+    let n = g.table_sectors();
+    let mut found: u64 = 0;
+    let mut t: u64 = 0;
+    while t < n {
+        found += one_if(holds_beyond(img, g, i, o, t));
+        t += 1;
+    }
+    found
+}
+
+// Entry k of a table sector becomes 65535, 65535, if it is hit.
+fn free_one(s: &mut [u8], k: usize, hit: bool)
+    requires { ⌜ 4 * k + 4 ≤ length (now s) ⌝ }
+    ensures { λ _. ⌜ now (s .exit) ≡ cond hit (put (now (s .entry)) (4 * k) (tableEntryBytes freeFile 65535)) (now (s .entry)) ⌝ }
+{
+    if hit {
+        fields::put_be(s, 4 * k, 2, 65535);
+        fields::put_be(s, 4 * k + 2, 2, 65535);
+        return;
+    }
+}
+
+// Table sector t, with file i's entries of offset o or more freed.
+pub fn freed(img: &[u8], g: Geometry, i: FileIndex, o: u64, t: u64) -> [u8; 512]
+    requires { ⌜ Opened (now img) g ⌝ }
+    requires { ⌜ (i .0 < freeFile) × (t < tableSectors g) ⌝ }
+    ensures { λ r. ⌜ r ≡ freedIn (λ k. isBeyond (i .0) o (catalogueOf (view (now (img .entry))) .table (128 * t + k))) (view (now (img .entry)) (tableAt g + t)) 128 ⌝ }
+{
+    let mut a = fields::sector(img, Sector(34 + g.files + t));
+    let mut k: usize = 0;
+    while k < 128 {
+        let hit = is_beyond(img, g, i, o, Extent(128 * t + (k as u64)));
+        free_one(&mut a, k, hit);
+        k += 1;
+    }
+    a
+}
+
+// Entry i's mark says occupied.
+pub fn is_occupied(img: &[u8], g: Geometry, i: FileIndex) -> bool
+    requires { ⌜ Opened (now img) g ⌝ }
+    requires { ⌜ i .0 < g .files ⌝ }
+    ensures { λ r. ⌜ r ≡ isOccupied (view (now (img .entry)) (entryAt (i .0))) ⌝ }
+{
+    fields::number(img, i.sector(), 0, 2) == 65535
+}
+
+// Extent e's entry names no occupied file and isn't free, or is the reserve's and isn't free; u extents are usable.
+fn is_misplaced(img: &[u8], g: Geometry, u: u64, e: Extent) -> bool
+    requires { ⌜ Opened (now img) g ⌝ }
+    requires { ⌜ (u ≡ usable g) × (e .0 < g .extents) ⌝ }
+    ensures { λ r. ⌜ r ≡ fault25 (catalogueOf (view (now (img .entry)))) (e .0) ⌝ }
+{
+    let f = table_file(img, g, e);
+    if f == 65535 {
+        return false;
+    }
+    if e.0 < u {
+        if f < g.files {
+            if is_occupied(img, g, FileIndex(f)) {
+                return false;
+            }
+            return true;
+        }
+        return true;
+    }
+    true
+}
+
+// The lowest extent of fault 25.
+pub fn fault25(img: &[u8], g: Geometry) -> Place
+    requires { ⌜ Opened (now img) g ⌝ }
+    ensures { λ r. ⌜ r ≡ first (fault25 (catalogueOf (view (now (img .entry))))) (g .extents) ⌝ }
+{
+    let u = g.usable();
+    let n = g.extents as usize;
+    let mut e: usize = 0;
+    while e < n {
+        if is_misplaced(img, g, u, Extent(e as u64)) {
+            return Place::At(e);
+        }
+        e += 1;
+    }
+    Place::Nowhere
+}
+
+// How many extents a size needs: z / E rounded up. In this order no sum can overflow, whatever an entry says.
+pub fn extents_for(g: Geometry, z: u64) -> u64
+    requires { ⌜ Bounded g ⌝ }
+    ensures { λ r. ⌜ r ≡ extentsFor g z ⌝ }
+    ensures { λ r. ⌜ r ≤ 281474976710656 ⌝ }
+{
+    let e = 512 * (g.extent_sectors as u64);
+    if z % e == 0 {
+        return z / e;
+    }
+    z / e + 1
+}

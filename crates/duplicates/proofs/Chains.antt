@@ -1,0 +1,140 @@
+-- Laws of chained hashing, for any buckets: chains as indexes join them, and a walk down one chain in place of a search of all
+-- indexes. Assumes nothing.
+use Prim.Native.Nat.{ℕ, zero, suc, _+_, _-_, _≤_, _<_}
+use mathlib.Core.Path.{_≡_, refl, sym, ap, _∙_}
+use mathlib.Core.Logic.{_≢_, ⊎-elim}
+use mathlib.Core.Bool.{Bool, true, false, cond, true≢false}
+use mathlib.Core.List.{List}
+use native.Mathlib.Nat.{eq-or-lt-of-le}
+use native.Mathlib.Numerals.{add-one}
+use native.Mathlib.Omega.{arith}
+use lib.Dec.{eqb}
+use lib.ListN.{length, getD, set, replicate, length-set, length-replicate, getD-replicate}
+use lib.Seq.{getD-set-same, getD-set-other}
+use borrow.Author.Tests.{eqb-true, eqb-false}
+use Rattle.model.specs.Search.{some}
+use Rattle.laws.proofs.Search.{some-more, some-true}
+use Rattle.duplicates.specs.Chains.{lastBelow, Chain, Chains}
+
+-- ---- the last index of a bucket
+
+module _ (q : ℕ → Bool) where
+  lastBelow-le : (n : ℕ) → lastBelow q n ≤ n
+  unfolding lastBelow
+  lastBelow-le zero = omega arith
+  lastBelow-le (suc n) = go (q n) (lastBelow-le n)
+    where
+      go : (b : Bool) → lastBelow q n ≤ n → cond b (suc n) (lastBelow q n) ≤ suc n
+      go true h = omega arith
+      go false h = omega arith
+
+  lastBelow-at : (n j : ℕ) → lastBelow q n ≡ j + 1 → q j ≡ true
+  unfolding lastBelow
+  lastBelow-at zero j e = absurd (omega arith)
+  lastBelow-at (suc n) j e = go (q n) refl (lastBelow-at n j) e
+    where
+      go : (b : Bool) → q n ≡ b → (lastBelow q n ≡ j + 1 → q j ≡ true) → cond b (suc n) (lastBelow q n) ≡ j + 1 → q j ≡ true
+      go true t h f = let z : j ≡ n = omega arith in rw z t
+      go false t h f = h f
+
+  lastBelow-yes : (n : ℕ) → q n ≡ true → lastBelow q (n + 1) ≡ n + 1
+  unfolding lastBelow
+  lastBelow-yes n e = rw (add-one n, e)
+
+  lastBelow-no : (n : ℕ) → q n ≡ false → lastBelow q (n + 1) ≡ lastBelow q n
+  unfolding lastBelow
+  lastBelow-no n e = rw (add-one n, e)
+
+-- ---- an array of zeros holds empty chains
+
+pub chains-none : (member : ℕ → ℕ → Bool) (head next : List ℕ) → ((b : ℕ) → b < length head → getD head b 0 ≡ 0) → Chains member 0 head next
+unfolding lastBelow
+chains-none member head next h = record { chain = λ b l. record { last = h b l; before = λ j k. absurd (omega arith) } }
+
+pub zeros-at : (n b : ℕ) → b < length (replicate {A = ℕ} n 0) → getD (replicate {A = ℕ} n 0) b 0 ≡ 0
+zeros-at n b l = getD-replicate n b 0 0 (omega (arith, length-replicate {A = ℕ} n 0))
+
+-- ---- one index more: it is in no bucket, or joins one
+
+-- an index below i + 1 is below i, or i itself
+up-to {ℓ} : {P : Type ℓ} (i j : ℕ) → j < i + 1 → (j < i → P) → (j ≡ i → P) → P
+up-to i j l p q = let le : j ≤ i = omega arith in ⊎-elim q p (eq-or-lt-of-le le)
+
+module _ {q : ℕ → Bool} {i start : ℕ} {next : List ℕ} (C : Chain q i start next) where
+  chain-pass : (next′ : List ℕ) → ((j : ℕ) → j < i → getD next′ j 0 ≡ getD next j 0) → q i ≡ false → Chain q (i + 1) start next′
+  chain-pass next′ kept out = record {
+    last = C .last ∙ sym (lastBelow-no q i out);
+    before = λ j l m. up-to i j l (λ k. kept j k ∙ C .before j k m) (λ e. absurd (true≢false (sym m ∙ rw e out)));
+  }
+
+  chain-join : i < length next → q i ≡ true → Chain q (i + 1) (i + 1) (set next i start)
+  chain-join r in′ = record {
+    last = sym (lastBelow-yes q i in′);
+    before = λ j l m.
+        up-to i j l (λ k. getD-set-other next i j start 0 (λ e. omega arith) ∙ C .before j k m) (λ e. rw e (getD-set-same next i start 0 r ∙ C .last));
+  }
+
+module _ (member : ℕ → ℕ → Bool) (i : ℕ) (head next : List ℕ) (C : Chains member i head next) where
+  pub chains-pass : ((b : ℕ) → member b i ≡ false) → Chains member (i + 1) head next
+  chains-pass out = record { chain = λ b l. chain-pass (C .chain b l) next (λ j k. refl) (out b) }
+
+  pub chains-join : (b : ℕ) → b < length head → i < length next → member b i ≡ true → ((x : ℕ) → x ≢ b → member x i ≡ false)
+      → Chains member (i + 1) (set head b (i + 1)) (set next i (getD head b 0))
+  chains-join b lb li in′ out = record { chain = λ x l. go x (simp length-set at l) (eqb x b) refl }
+    where
+      go : (x : ℕ) → x < length head → (t : Bool) → eqb x b ≡ t → Chain (member x) (i + 1) (getD (set head b (i + 1)) x 0) (set next i (getD head b 0))
+      go x l true t =
+          let e : x ≡ b = eqb-true x b t in
+          rw (e, getD-set-same head b (i + 1) 0 lb) (chain-join (C .chain b lb) li in′)
+      go x l false t =
+          let ne : x ≢ b = eqb-false x b t in
+          rw (getD-set-other head b x (i + 1) 0 ne)
+          (chain-pass (C .chain x l) (set next i (getD head b 0)) (λ j k. getD-set-other next i j (getD head b 0) 0 (λ e. omega arith)) (out x ne))
+
+-- ---- a walk down a chain, in search of a p that holds only where the chain's q does
+
+-- the walk has come to j: what is left is below j, and j is 0 or the last of the chain there
+pub record Walk (p q : ℕ → Bool) (i j : ℕ) : Type 0 where
+  pub rest : some p j ≡ some p i
+  pub within : j ≤ i
+  pub on : (k : ℕ) → j ≡ k + 1 → q k ≡ true
+
+skip : (p q : ℕ → Bool) → ((j : ℕ) → p j ≡ true → q j ≡ true) → (n : ℕ) → some p (lastBelow q n) ≡ some p n
+unfolding some lastBelow
+skip p q only zero = refl
+skip p q only (suc n) = go (q n) refl (p n) refl (skip p q only n)
+  where
+    go : (b : Bool) → q n ≡ b → (c : Bool) → p n ≡ c → some p (lastBelow q n) ≡ some p n → some p (cond b (suc n) (lastBelow q n)) ≡ some p (suc n)
+    go true t c u h = refl
+    go false t true u h = absurd (true≢false (sym (only n u) ∙ t))
+    go false t false u h = rw u h
+
+walk-to : (p q : ℕ → Bool) (i n : ℕ) → ((j : ℕ) → p j ≡ true → q j ≡ true) → n ≤ i → some p n ≡ some p i → Walk p q i (lastBelow q n)
+walk-to p q i n only l e = record { rest = skip p q only n ∙ e; within = omega (arith, lastBelow-le q n); on = lastBelow-at q n }
+
+one-less : (j : ℕ) → j ≢ 0 → j ≡ (j - 1) + 1
+one-less j more = let z : 0 < j = omega (arith, more) in omega arith
+
+module _ {p q : ℕ → Bool} {i : ℕ} (only : (j : ℕ) → p j ≡ true → q j ≡ true) {start : ℕ} {next : List ℕ} (C : Chain q i start next) where
+  pub walk-start : Walk p q i start
+  walk-start = rw (C .last) (walk-to p q i i only (omega arith) refl)
+
+  module _ {j : ℕ} (W : Walk p q i j) (more : j ≢ 0) where
+    is-next : getD next (j - 1) 0 ≡ lastBelow q (j - 1)
+    is-next = C .before (j - 1) (omega (arith, one-less j more, W .within)) (W .on (j - 1) (one-less j more))
+
+    pub walk-falls : getD next (j - 1) 0 < j
+    walk-falls = omega (arith, one-less j more, is-next, lastBelow-le q (j - 1))
+
+    pub walk-next : p (j - 1) ≡ false → Walk p q i (getD next (j - 1) 0)
+    walk-next e =
+        rw is-next
+        (walk-to p q i (j - 1) only (omega (arith, W .within)) (sym (rw e at (some-more p (j - 1))) ∙ ap (some p) (sym (one-less j more)) ∙ W .rest))
+
+module _ {p q : ℕ → Bool} {i j : ℕ} (W : Walk p q i j) where
+  pub walk-found : j ≢ 0 → p (j - 1) ≡ true → some p i ≡ true
+  walk-found more e = some-true p (j - 1) i (omega (arith, one-less j more, W .within)) e
+
+  pub walk-end : j ≡ 0 → some p i ≡ false
+  unfolding some
+  walk-end z = sym (rw z at (W .rest))

@@ -1,0 +1,27 @@
+use borrow.Author.Needs.{needs}
+use Prim.Native.Nat.{ℕ, _-_}
+use native.Mathlib.Omega.{arith}
+use lib.ListN.{length-replicate}
+use Rattle.duplicates.proofs.Chains.{zeros-at}
+use Rattle.duplicates.proofs.first_of_few.Statement.{statement}
+use Rattle.duplicates.proofs.first_of_few.Tie as tie
+
+slice-aggregate-first-in : tie.Need-slice-aggregate-first-in
+slice-aggregate-first-in c = search needs
+
+slice-aggregate-first-in-2 : tie.Need-slice-aggregate-first-in-2
+slice-aggregate-first-in-2 c = search needs
+
+first-in-requires : tie.Need-first-in-requires
+first-in-requires c κs =
+    let s = c .before .before .before in
+    let n = length-replicate {A = ℕ} 4096 0 in
+    (s .pre .0, (s .pre .1 .0, ((omega arith, omega arith, omega arith, omega arith), zeros-at 4096)))
+
+returns : tie.Need-returns
+returns c = search needs
+
+pub first-of-few-spec : {M : Type 1} → statement M
+first-of-few-spec =
+    tie.close
+    (tie.spec slice-aggregate-first-in slice-aggregate-first-in-2 first-in-requires returns)

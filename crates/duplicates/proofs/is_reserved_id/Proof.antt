@@ -1,0 +1,22 @@
+use borrow.Author.Needs.{needs}
+use Prim.Native.Nat.{_-_}
+use borrow.Author.Tests.{eq-eqb, ne-eqb}
+use Rattle.model.specs.Root.{rootIn}
+use Rattle.duplicates.proofs.is_reserved_id.Statement.{statement}
+use Rattle.duplicates.proofs.is_reserved_id.Tie as tie
+
+id-at-requires : tie.Need-id-at-requires
+id-at-requires c κs = search needs
+
+returns : tie.Need-returns
+returns c = rw (← c .before .id-at .ensures, eq-eqb _ _ (c .if1 .taken))
+
+number-requires : tie.Need-number-requires
+number-requires c κs = search needs
+
+returns-2 : tie.Need-returns-2
+unfolding rootIn
+returns-2 c = rw (← c .before .before .id-at .ensures, ne-eqb _ _ (c .before .if1 .left), ← c .number .ensures .0)
+
+pub is-reserved-id-spec : {M : Type 1} → statement M
+is-reserved-id-spec = tie.close (tie.spec id-at-requires returns number-requires returns-2)

@@ -1,0 +1,234 @@
+// Faults 23 and 24: a name or an id that an occupied entry of lower index has too. Entries are taken in index order, each joins
+// the chain of the bucket that its key's hash picks, and it is compared with the entries of that chain alone.
+use model::FileIndex;
+use model::Geometry;
+use model::Place;
+use model::Sector;
+ghost use mathlib.Core.Path.{_≡_};
+ghost use mathlib.Core.Bool.{true, false};
+ghost use Prim.Native.Nat.{ℕ, _+_, _*_, _≤_, _<_};
+ghost use lib.ListN.{length, getD, set};
+ghost use Rattle.model.specs.Search.{first};
+ghost use Rattle.model.specs.Geometry.{entryAt};
+ghost use Rattle.model.specs.Disk.{view};
+ghost use Rattle.model.specs.Catalogue.{catalogueOf};
+ghost use Rattle.model.specs.Faults.{fault22, fault23, fault24};
+ghost use Rattle.model.specs.Opened.{Opened};
+ghost use Rattle.duplicates.specs.Keys.{shares, keyFits, KeysFit, isReserved, isRepeated, isFaulty, mixed, nameHash, keyHash, bucketOf};
+ghost use Rattle.duplicates.specs.Chains.{Chains, member};
+
+// What no two occupied entries may share.
+enum Key {
+    Name,
+    Id,
+}
+
+// ---- hashes, on whose quality only the speed depends
+
+// One more word into a hash, its halves multiplied apart: no product passes 64 bits.
+fn mixed(h: u32, w: u64) -> u32
+    ensures { λ r. ⌜ r ≡ mixed h w ⌝ }
+{
+    let high = (h as u64) + w / 4294967296;
+    let low = w % 4294967296;
+    ((high * 739982445 + low * 1640531527) % 4294967296) as u32
+}
+
+// Word by word, and at last the bytes that are left.
+fn name_hash(name: &[u8]) -> u32
+    ensures { λ r. ⌜ r ≡ nameHash (now (name .entry)) ⌝ }
+{
+    let words = name.len() / 8;
+    let mut h: u32 = 0;
+    let mut i: usize = 0;
+    while i < words {
+        h = mixed(h, fields::be64(name, 8 * i));
+        i += 1;
+    }
+    mixed(h, fields::be(name, 8 * words, name.len() % 8))
+}
+
+fn key_hash(img: &[u8], key: Key, i: FileIndex) -> u32
+    requires { ⌜ 512 * entryAt (i .0) + 512 ≤ length (now img) ⌝ }
+    requires { ⌜ keyFits key (view (now img) (entryAt (i .0))) ≡ true ⌝ }
+    ensures { λ r. ⌜ r ≡ keyHash key (view (now (img .entry)) (entryAt (i .0))) ⌝ }
+{
+    match key {
+        Key::Name => name_hash(directory::name_at(img, i)),
+        Key::Id => mixed(0, directory::id_at(img, i)),
+    }
+}
+
+// Which of `buckets` buckets: the hash is scaled, which takes no division by a variable.
+fn bucket_of(img: &[u8], key: Key, i: FileIndex, buckets: usize) -> usize
+    requires { ⌜ 512 * entryAt (i .0) + 512 ≤ length (now img) ⌝ }
+    requires { ⌜ keyFits key (view (now img) (entryAt (i .0))) ≡ true ⌝ }
+    requires { ⌜ (0 < buckets) × (buckets ≤ 65536) ⌝ }
+    ensures { λ r. ⌜ r ≡ bucketOf key buckets (view (now (img .entry)) (entryAt (i .0))) ⌝ }
+    ensures { λ r. ⌜ r < buckets ⌝ }
+{
+    (key_hash(img, key, i) as usize) * buckets / 4294967296
+}
+
+// ---- comparisons
+
+// Whether entry j is occupied and has entry i's key.
+fn shares(img: &[u8], key: Key, i: FileIndex, j: FileIndex) -> bool
+    requires { ⌜ 512 * entryAt (i .0) + 512 ≤ length (now img) ⌝ }
+    requires { ⌜ 512 * entryAt (j .0) + 512 ≤ length (now img) ⌝ }
+    requires { ⌜ keyFits key (view (now img) (entryAt (i .0))) ≡ true ⌝ }
+    ensures { λ r. ⌜ r ≡ shares key (view (now (img .entry))) (i .0) (j .0) ⌝ }
+{
+    match key {
+        Key::Name => directory::has_name(img, j, directory::name_at(img, i)),
+        Key::Id => directory::has_id_at(img, j, directory::id_at(img, i)),
+    }
+}
+
+// The id is 0 or the root's.
+fn is_reserved_id(img: &[u8], i: FileIndex) -> bool
+    requires { ⌜ 512 * entryAt (i .0) + 512 ≤ length (now img) ⌝ }
+    ensures { λ r. ⌜ r ≡ isReserved Key.Id (view (now (img .entry))) (i .0) ⌝ }
+{
+    let id = directory::id_at(img, i);
+    if id == 0 {
+        return true;
+    }
+    id == fields::number(img, Sector(1), 4, 8)
+}
+
+fn is_reserved(img: &[u8], key: Key, i: FileIndex) -> bool
+    requires { ⌜ 512 * entryAt (i .0) + 512 ≤ length (now img) ⌝ }
+    ensures { λ r. ⌜ r ≡ isReserved key (view (now (img .entry))) (i .0) ⌝ }
+{
+    match key {
+        Key::Name => false,
+        Key::Id => is_reserved_id(img, i),
+    }
+}
+
+// ---- chains
+
+// Whether an occupied entry below i has its key. `b` is the bucket of both.
+fn is_repeated(img: &[u8], key: Key, i: usize, b: usize, head: &[u16], next: &[u16]) -> bool
+    requires { ⌜ 512 * entryAt i + 512 ≤ length (now img) ⌝ }
+    requires { ⌜ keyFits key (view (now img) (entryAt i)) ≡ true ⌝ }
+    requires { ⌜ (b < length (now head)) × (i ≤ length (now next)) ⌝ }
+    requires { ⌜ b ≡ bucketOf key (length (now head)) (view (now img) (entryAt i)) ⌝ }
+    requires { ⌜ Chains (member key (view (now img)) (length (now head))) i (now head) (now next) ⌝ }
+    ensures { λ r. ⌜ r ≡ isRepeated key (view (now (img .entry))) i ⌝ }
+{
+    let mut j = head[b] as usize;
+    while j != 0 {
+        if shares(img, key, FileIndex(i as u64), FileIndex((j - 1) as u64)) {
+            return true;
+        }
+        j = next[j - 1] as usize;
+    }
+    false
+}
+
+// Entry i becomes the last of bucket b.
+fn enter(i: usize, b: usize, head: &mut [u16], next: &mut [u16])
+    requires { ⌜ (b < length (now head)) × (i < length (now next)) × (i < 65535) ⌝ }
+    ensures { λ _. ⌜ now (next .exit) ≡ set (now (next .entry)) i (getD (now (head .entry)) b 0) ⌝ }
+    ensures { λ _. ⌜ now (head .exit) ≡ set (now (head .entry)) b (i + 1) ⌝ }
+{
+    next[i] = head[b];
+    head[b] = (i + 1) as u16;
+}
+
+// Whether entry i has the fault. Where it has not, it has joined its chain.
+fn is_faulty(img: &[u8], key: Key, i: usize, head: &mut [u16], next: &mut [u16]) -> bool
+    requires { ⌜ 512 * entryAt i + 512 ≤ length (now img) ⌝ }
+    requires { ⌜ KeysFit key (view (now img)) (i + 1) ⌝ }
+    requires { ⌜ (0 < length (now head)) × (length (now head) ≤ 65536) × (i < length (now next)) × (i < 65535) ⌝ }
+    requires { ⌜ Chains (member key (view (now img)) (length (now head))) i (now head) (now next) ⌝ }
+    ensures { λ r. ⌜ r ≡ isFaulty key (view (now (img .entry))) i ⌝ }
+    ensures { λ r. ⌜ (r ≡ false → Chains (member key (view (now (img .entry))) (length (now (head .exit)))) (i + 1) (now (head .exit)) (now (next .exit))) ⌝ }
+{
+    let e = FileIndex(i as u64);
+    if directory::is_occupied(img, e) {
+        if is_reserved(img, key, e) {
+            return true;
+        }
+        let b = bucket_of(img, key, e, head.len());
+        if is_repeated(img, key, i, b, head, next) {
+            return true;
+        }
+        enter(i, b, head, next);
+        return false;
+    }
+    false
+}
+
+// ---- the searches
+
+// The lowest faulty entry, by way of empty chains that are lent.
+fn first_in(img: &[u8], g: Geometry, key: Key, head: &mut [u16], next: &mut [u16]) -> Place
+    requires { ⌜ Opened (now img) g ⌝ }
+    requires { ⌜ KeysFit key (view (now img)) (g .files) ⌝ }
+    requires { ⌜ (0 < length (now head)) × (length (now head) ≤ 65536) × (g .files ≤ length (now next)) × (g .files ≤ 65535) ⌝ }
+    requires { ⌜ ((b : ℕ) → b < length (now head) → getD (now head) b 0 ≡ 0) ⌝ }
+    ensures { λ r. ⌜ r ≡ first (isFaulty key (view (now (img .entry)))) (g .files) ⌝ }
+{
+    let f = g.files as usize;
+    let mut i: usize = 0;
+    while i < f {
+        if is_faulty(img, key, i, head, next) {
+            return Place::At(i);
+        }
+        i += 1;
+    }
+    Place::Nowhere
+}
+
+fn first_of_few(img: &[u8], g: Geometry, key: Key) -> Place
+    requires { ⌜ Opened (now img) g ⌝ }
+    requires { ⌜ KeysFit key (view (now img)) (g .files) ⌝ }
+    requires { ⌜ g .files ≤ 4096 ⌝ }
+    ensures { λ r. ⌜ r ≡ first (isFaulty key (view (now (img .entry)))) (g .files) ⌝ }
+{
+    let mut head = [0u16; 4096];
+    let mut next = [0u16; 4096];
+    first_in(img, g, key, &mut head, &mut next)
+}
+
+fn first_of_many(img: &[u8], g: Geometry, key: Key) -> Place
+    requires { ⌜ Opened (now img) g ⌝ }
+    requires { ⌜ KeysFit key (view (now img)) (g .files) ⌝ }
+    requires { ⌜ g .files ≤ 65535 ⌝ }
+    ensures { λ r. ⌜ r ≡ first (isFaulty key (view (now (img .entry)))) (g .files) ⌝ }
+{
+    let mut head = [0u16; 65536];
+    let mut next = [0u16; 65536];
+    first_in(img, g, key, &mut head, &mut next)
+}
+
+// Chains for 65,535 entries cost more to clear than a small directory costs to search.
+fn first_faulty(img: &[u8], g: Geometry, key: Key) -> Place
+    requires { ⌜ Opened (now img) g ⌝ }
+    requires { ⌜ KeysFit key (view (now img)) (g .files) ⌝ }
+    ensures { λ r. ⌜ r ≡ first (isFaulty key (view (now (img .entry)))) (g .files) ⌝ }
+{
+    if g.files <= 4096 {
+        return first_of_few(img, g, key);
+    }
+    first_of_many(img, g, key)
+}
+
+// Fault 22 bounds the names, so each ends in its sector.
+pub fn fault23(img: &[u8], g: Geometry) -> Place
+    requires { ⌜ Opened (now img) g ⌝ }
+    requires { ⌜ first (fault22 (catalogueOf (view (now img)))) (g .files) ≡ Place.Nowhere ⌝ }
+    ensures { λ r. ⌜ r ≡ first (fault23 (catalogueOf (view (now (img .entry))))) (g .files) ⌝ }
+{
+    first_faulty(img, g, Key::Name)
+}
+
+pub fn fault24(img: &[u8], g: Geometry) -> Place
+    requires { ⌜ Opened (now img) g ⌝ }
+    ensures { λ r. ⌜ r ≡ first (fault24 (catalogueOf (view (now (img .entry))))) (g .files) ⌝ }
+{
+    first_faulty(img, g, Key::Id)
+}

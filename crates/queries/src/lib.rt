@@ -1,0 +1,51 @@
+// The calls that only read, on any bytes and any arguments: check, find, list, read. (The summary stands in `volume`.)
+use model::BytesRead;
+use model::Checked;
+use model::Found;
+use model::Listed;
+ghost use mathlib.Core.Path.{_≡_};
+ghost use lib.ListN.{length};
+ghost use Rattle.model.specs.Disk.{view};
+ghost use Rattle.model.specs.Summary.{checkAnswer};
+ghost use Rattle.model.specs.Find.{findAnswer};
+ghost use Rattle.model.specs.Listing.{listAnswer, listOutput};
+ghost use Rattle.model.specs.Read.{readAnswer, readOutput};
+
+pub fn check(img: &[u8]) -> Checked
+    ensures { λ r. ⌜ r ≡ checkAnswer (length (now (img .entry))) (view (now (img .entry))) ⌝ }
+{
+    let verdict = soundness::judge(img);
+    Checked { verdict }
+}
+
+pub fn find(img: &[u8], name: &[u8]) -> Found
+    ensures { λ r. ⌜ r ≡ findAnswer (length (now (img .entry))) (view (now (img .entry))) (now (name .entry)) ⌝ }
+{
+    let v = soundness::judge(img);
+    if v.number == 0 {
+        return reading::find_in(img, name);
+    }
+    reading::not_found(v)
+}
+
+pub fn list(img: &[u8], index: u64, out: &mut [u8]) -> Listed
+    ensures { λ r. ⌜ r ≡ listAnswer (length (now (img .entry))) (view (now (img .entry))) index (length (now (out .entry))) ⌝ }
+    ensures { λ _. ⌜ now (out .exit) ≡ listOutput (length (now (img .entry))) (view (now (img .entry))) index (now (out .entry)) ⌝ }
+{
+    let v = soundness::judge(img);
+    if v.number == 0 {
+        return reading::list_in(img, index, out);
+    }
+    reading::not_listed(v)
+}
+
+pub fn read(img: &[u8], name: &[u8], offset: u64, count: u64, out: &mut [u8]) -> BytesRead
+    ensures { λ r. ⌜ r ≡ readAnswer (length (now (img .entry))) (view (now (img .entry))) (now (name .entry)) offset count (length (now (out .entry))) ⌝ }
+    ensures { λ _. ⌜ now (out .exit) ≡ readOutput (length (now (img .entry))) (view (now (img .entry))) (now (name .entry)) offset count (now (out .entry)) ⌝ }
+{
+    let v = soundness::judge(img);
+    if v.number == 0 {
+        return reading::read_in(img, name, offset, count, out);
+    }
+    reading::not_read(v)
+}

@@ -1,0 +1,87 @@
+// Judging a volume: the first fault, and the refusals 1 to 7 that all calls but format, summary, recovery and carrying out share.
+// The judging needs no heap and no lent scratch: about 400 KiB of stack at most.
+use model::Geometry;
+use model::Place;
+use model::Soundness;
+use model::State;
+use model::Verdict;
+ghost use mathlib.Core.Path.{_≡_};
+ghost use lib.ListN.{length};
+ghost use Rattle.model.specs.Disk.{view};
+ghost use Rattle.model.specs.Faults.{firstFault};
+ghost use Rattle.model.specs.Refusals.{imageVerdict, stateNumber, faultVerdict, soundVerdict, judged};
+ghost use Rattle.model.specs.Opened.{Opened};
+
+// Lowest number first, then lowest place. Each test may rest on the earlier faults' not being there.
+pub fn first_fault(img: &[u8], g: Geometry) -> Soundness
+    requires { ⌜ Opened (now img) g ⌝ }
+    ensures { λ r. ⌜ r ≡ firstFault (view (now (img .entry))) ⌝ }
+{
+    if let Place::At(i) = directory::fault21(img, g) {
+        return Soundness::Faulty(21, i as u64);
+    }
+    if let Place::At(i) = directory::fault22(img, g) {
+        return Soundness::Faulty(22, i as u64);
+    }
+    if let Place::At(i) = duplicates::fault23(img, g) {
+        return Soundness::Faulty(23, i as u64);
+    }
+    if let Place::At(i) = duplicates::fault24(img, g) {
+        return Soundness::Faulty(24, i as u64);
+    }
+    if let Place::At(e) = table::fault25(img, g) {
+        return Soundness::Faulty(25, e as u64);
+    }
+    if let Place::At(i) = exact::fault26(img, g) {
+        return Soundness::Faulty(26, i as u64);
+    }
+    Soundness::Sound
+}
+
+fn state_number(s: State) -> u64
+    ensures { λ r. ⌜ r ≡ stateNumber s ⌝ }
+{
+    match s {
+        State::Clean => 0,
+        State::Waiting(_) => 5,
+        State::Damaged => 6,
+        State::Unfinished => 4,
+    }
+}
+
+fn fault_verdict(s: Soundness) -> Verdict
+    ensures { λ r. ⌜ r ≡ faultVerdict s ⌝ }
+{
+    match s {
+        Soundness::Sound => volume::refusal(0),
+        Soundness::Faulty(n, p) => Verdict {
+            number: 7,
+            fault: n,
+            place: p,
+        },
+    }
+}
+
+// The refusals 4 to 7.
+fn sound_verdict(img: &[u8]) -> Verdict
+    requires { ⌜ imageVerdict (length (now img)) (view (now img)) .number ≡ 0 ⌝ }
+    ensures { λ r. ⌜ r ≡ soundVerdict (view (now (img .entry))) ⌝ }
+{
+    let n = state_number(volume::state_on(img));
+    if n == 0 {
+        let g = volume::geometry_in(img);
+        return fault_verdict(first_fault(img, g));
+    }
+    volume::refusal(n)
+}
+
+// The refusals 1 to 7.
+pub fn judge(img: &[u8]) -> Verdict
+    ensures { λ r. ⌜ r ≡ judged (length (now (img .entry))) (view (now (img .entry))) ⌝ }
+{
+    let v = volume::image_verdict(img);
+    if v.number == 0 {
+        return sound_verdict(img);
+    }
+    v
+}

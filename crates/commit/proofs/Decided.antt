@@ -1,50 +1,68 @@
--- What a changing call's decision is, test by test: refused as the image is, refused for its own reasons, list too short, or done;
--- and what a refusal answers and leaves. Assumes nothing.
-use Prim.Native.Nat.{ℕ}
-use mathlib.Core.Path.{_≡_, refl, ap, _∙_}
-use mathlib.Core.Bool.{true, false, cond}
-use mathlib.Core.List.{List, [], _∷_}
+-- What a changing call answers and leaves in the list, by its tests: refused as the image is, refused for its own reasons, list too
+-- short, done. Each law gives the two clauses of the call's promise. Assumes nothing.
+use Prim.Native.Nat.{ℕ, _≤_, _<_}
+use mathlib.Core.Path.{_≡_, refl, sym}
+use mathlib.Core.Bool.{true, false}
+use mathlib.Core.List.{List}
 use mathlib.Core.Option.{Option, none}
-use lib.Dec.{ltb}
+use native.Mathlib.Omega.{arith}
+use lib.Dec.{eqb}
+use lib.ListN.{length}
+use borrow.Author.Tests.{eq-eqb, ne-eqb, lt-ltb, le-ltb}
 use Rattle.model.specs.declared.Verdict.{Verdict}
+use Rattle.model.specs.declared.Changed.{Changed}
 use Rattle.model.specs.Disk.{Disk}
-use Rattle.model.specs.Refusals.{Conditions, verdictOf, isDone, refusal, done, judged}
-use Rattle.model.specs.WriteList.{Plan, groupsFor, closed, listLength, Decision, decided, answerOf, listAfter}
-use Rattle.laws.proofs.WriteList.{emit-nil}
+use Rattle.model.specs.Refusals.{Conditions, verdictOf, refusal, done, judged}
+use Rattle.model.specs.WriteList.{Plan, Emitted, groupsFor, closed, listLength, Decision, decided, answerOf, listAfter}
+use Rattle.laws.proofs.WriteList.{emit-nil, emitted-none}
 
-abbrev pub refusedBy : Verdict → Decision
-refusedBy v = record { verdict = v; plan = none }
+-- the answer and the list that a decision comes to
+abbrev pub ComesTo : Disk → Decision → List ℕ → Changed → List ℕ → Type 0
+ComesTo d x list answer after = (answer ≡ answerOf d x) × (after ≡ listAfter d x list)
 
-abbrev pub doneBy : Option Plan → Decision
-doneBy plan = record { verdict = done; plan = plan }
+comes-refused : (d : Disk) (x : Decision) (list : List ℕ) (v : Verdict) → x ≡ record { verdict = v; plan = none } → ComesTo d x list (record { verdict = v; length = 0 }) list
+unfolding groupsFor
+comes-refused d x list v e = rw e (refl, sym (emit-nil list 0))
 
-module _ (len : ℕ) (d : Disk) (cs : Conditions) (plan : Option Plan) (room : ℕ) where
+module _ (len : ℕ) (d : Disk) (cs : Conditions) (plan : Option Plan) (list : List ℕ) where
   -- 1 to 7
-  pub decided-judged : isDone (judged len d) ≡ false → decided len d cs plan room ≡ refusedBy (judged len d)
+  pub refused-as-judged : (v : Verdict) → v ≡ judged len d → (v .number ≡ 0 → ⊥)
+      → ComesTo d (decided len d cs plan (length list)) list (record { verdict = v; length = 0 }) list
   unfolding decided
-  decided-judged a = rw (a, a)
+  refused-as-judged v e h =
+      let a : eqb (judged len d .number) 0 ≡ false = rw (← e) (ne-eqb (v .number) 0 h) in
+      comes-refused d (decided len d cs plan (length list)) list v (rw (a, a, e))
 
-  -- its own conditions
-  pub decided-refused : isDone (judged len d) ≡ true → isDone (verdictOf cs) ≡ false → decided len d cs plan room ≡ refusedBy (verdictOf cs)
-  unfolding decided
-  decided-refused a b = rw (a, b, b)
+  -- v is what its own conditions come to
+  module _ (ok : judged len d .number ≡ 0) (v : Verdict) (own : v ≡ verdictOf cs) where
+    pub refused-by-own : (v .number ≡ 0 → ⊥) → ComesTo d (decided len d cs plan (length list)) list (record { verdict = v; length = 0 }) list
+    unfolding decided
+    refused-by-own h =
+        let a : eqb (verdictOf cs .number) 0 ≡ false = rw (← own) (ne-eqb (v .number) 0 h) in
+        comes-refused d (decided len d cs plan (length list)) list v (rw (eq-eqb _ _ ok, a, a, own))
 
-  -- 14
-  pub decided-short : isDone (judged len d) ≡ true → isDone (verdictOf cs) ≡ true → ltb room (listLength (groupsFor d plan)) ≡ true
-      → decided len d cs plan room ≡ refusedBy (refusal 14)
-  unfolding decided verdictOf
-  decided-short a b c = rw (a, b, c)
+    -- 14
+    pub refused-as-short : v .number ≡ 0 → length list < listLength (groupsFor d plan)
+        → ComesTo d (decided len d cs plan (length list)) list (record { verdict = refusal 14; length = 0 }) list
+    unfolding decided verdictOf
+    refused-as-short z h =
+        let a : eqb (verdictOf cs .number) 0 ≡ true = rw (← own) (eq-eqb (v .number) 0 z) in
+        comes-refused d (decided len d cs plan (length list)) list (refusal 14) (rw (eq-eqb _ _ ok, a, lt-ltb _ _ h))
 
-  pub decided-done : isDone (judged len d) ≡ true → isDone (verdictOf cs) ≡ true → ltb room (listLength (groupsFor d plan)) ≡ false
-      → decided len d cs plan room ≡ doneBy plan
-  unfolding decided verdictOf
-  decided-done a b c = rw (a, b, c)
+    done-by : v .number ≡ 0 → listLength (groupsFor d plan) ≤ length list → decided len d cs plan (length list) ≡ record { verdict = done; plan = plan }
+    unfolding decided verdictOf
+    done-by z h =
+        let a : eqb (verdictOf cs .number) 0 ≡ true = rw (← own) (eq-eqb (v .number) 0 z) in
+        rw (eq-eqb _ _ ok, a, le-ltb _ _ h)
 
--- a refusal answers its verdict and the length 0, and the list stays
-pub answer-refused : (d : Disk) (v : Verdict) → answerOf d (refusedBy v) ≡ record { verdict = v; length = 0 }
+    pub done-as-planned : {m : List ℕ} {j : ℕ} → v .number ≡ 0 → listLength (groupsFor d plan) ≤ length list → Emitted list 0 (closed (groupsFor d plan)) m j
+        → ComesTo d (decided len d cs plan (length list)) list (record { verdict = done; length = listLength (groupsFor d plan) }) m
+    done-as-planned z h e = rw (done-by z h) (refl, e .holds)
+
+-- a call that is done with an empty list
+pub done-with-nothing : (len : ℕ) (d : Disk) (cs : Conditions) (list : List ℕ) → judged len d .number ≡ 0 → (v : Verdict) → v ≡ verdictOf cs → v .number ≡ 0
+    → ComesTo d (decided len d cs none (length list)) list (record { verdict = done; length = 0 }) list
 unfolding groupsFor
-answer-refused d v = refl
-
-pub list-refused : (d : Disk) (v : Verdict) (list : List ℕ) → listAfter d (refusedBy v) list ≡ list
-unfolding groupsFor
-list-refused d v list = emit-nil list 0
+done-with-nothing len d cs list ok v own z =
+    let few : listLength (groupsFor d none) ≤ length list = omega arith in
+    done-as-planned len d cs none list ok v own {j = 0} z few (emitted-none list 0)

@@ -27,8 +27,8 @@ run-set : (numbers : List ℕ) (j s : ℕ) → j < length numbers → run (set n
 run-set numbers j s h =
     run-more (set numbers j s) 0 j
     ∙ ap₂ (λ (l : List ℕ) (x : ℕ). l ++ (x ∷ []))
-        (run-ext (set numbers j s) numbers 0 0 j (λ i k. getD-set-other numbers j (0 + i) s 0 (λ e. omega arith)))
-        (ap (λ i. getD (set numbers j s) i 0) (zero-add j) ∙ getD-set-same numbers j s 0 h)
+    (run-ext (set numbers j s) numbers 0 0 j (λ i k. getD-set-other numbers j (0 + i) s 0 (λ e. omega arith)))
+    (ap (λ i. getD (set numbers j s) i 0) (zero-add j) ∙ getD-set-same numbers j s 0 h)
 
 module _ {g : Geometry} {l : List ℕ} {ds : Group} where
   -- after the data sectors, before the first target
@@ -44,12 +44,12 @@ module _ {g : Geometry} {l : List ℕ} {ds : Group} where
       let all : Emitted l 0 (ds ++ copies (staging g (length ts)) ts ++ (sectorWrite (reserveAt g + length ts) c ∷ [])) m′ k′ = emitted-then (st .emitted) (rw e at p) in
       record {
         emitted =
-          rw (ap (λ (x : Group). ds ++ x) (copies-more g ts (sectorWrite s c)) ∙ sym (append-assoc ds (copies (staging g (length ts)) ts) (sectorWrite (reserveAt g + length ts) c ∷ []))) all;
+            rw (ap (λ (x : Group). ds ++ x) (copies-more g ts (sectorWrite s c)) ∙ sym (append-assoc ds (copies (staging g (length ts)) ts) (sectorWrite (reserveAt g + length ts) c ∷ []))) all;
         numbered =
-          ap₂ (λ (x : List ℕ) (n : ℕ). run x 0 n) q (length-append ts (sectorWrite s c ∷ []) ∙ ap (λ x. x + 1) (sym e))
-          ∙ run-set numbers j s h
-          ∙ ap (λ (x : List ℕ). x ++ (s ∷ [])) (ap (λ n. run numbers 0 n) e ∙ st .numbered)
-          ∙ sym (sectors-more ts (sectorWrite s c))
+            ap₂ (λ (x : List ℕ) (n : ℕ). run x 0 n) q (length-append ts (sectorWrite s c ∷ []) ∙ ap (λ x. x + 1) (sym e))
+            ∙ run-set numbers j s h
+            ∙ ap (λ (x : List ℕ). x ++ (s ∷ [])) (ap (λ n. run numbers 0 n) e ∙ st .numbered)
+            ∙ sym (sectors-more ts (sectorWrite s c));
       }
 
   -- the next position
@@ -81,7 +81,7 @@ module _ (g : Geometry) (l : List ℕ) (ds ts : Group) (numbers m : List ℕ) (k
   unfolding stagedTargets
   targets-same =
       bytes-tab (λ j. sectorWrite (getD numbers j 0) (run m ((length ds + j) * recordSize + 8) 512)) (λ j. getD ts j barrier) (length ts)
-        (λ j h. ap₂ (λ (s : ℕ) (c : List ℕ). recordBytes (sectorWrite s c)) (noted j h) (copied j h) ∙ written (getD ts j barrier .sector) (getD ts j barrier .contents))
+      (λ j h. ap₂ (λ (s : ℕ) (c : List ℕ). recordBytes (sectorWrite s c)) (noted j h) (copied j h) ∙ written (getD ts j barrier .sector) (getD ts j barrier .contents))
       ∙ ap listBytes (tab-list barrier ts)
 
 length-staged : (list : List ℕ) (from : ℕ) (numbers : List ℕ) (n : ℕ) → length (stagedTargets list from numbers n) ≡ n
@@ -93,7 +93,7 @@ length-staged list from numbers n = length-tab (λ j. sectorWrite (getD numbers 
 groups-split : (g : Geometry) (d : Disk) (p : Plan)
     → closed (groupsOf g d p)
     ≡ (p .dataSectors ++ copies (staging g (length (p .targets))) (p .targets))
-      ++ closed (journalOf g (staging g (length (p .targets))) (sectorsOf (p .targets)) ∷ superblockGroup d (length (p .targets)) ∷ p .targets ∷ superblockGroup d 0 ∷ [])
+    ++ closed (journalOf g (staging g (length (p .targets))) (sectorsOf (p .targets)) ∷ superblockGroup d (length (p .targets)) ∷ p .targets ∷ superblockGroup d 0 ∷ [])
 unfolding groupsOf groupA
 groups-split g d p =
     let n = length (p .targets) in
@@ -127,9 +127,9 @@ module _ {g : Geometry} {l numbers m m′ : List ℕ} {k n j : ℕ} (d : Disk) (
       let behind : Emitted m k (closed (journal ∷ superblockGroup d (length ts) ∷ staged ∷ superblockGroup d 0 ∷ [])) m′ j = rw (at, e, st .numbered) at q in
       rw (groups-split g d p)
       (emitted-same
-        (bytes-third front journal (superblockGroup d (length ts)) staged ts (superblockGroup d 0) same)
-        (length-third front journal (superblockGroup d (length ts)) staged ts (superblockGroup d 0) same many)
-        (emitted-then (st .emitted) behind))
+      (bytes-third front journal (superblockGroup d (length ts)) staged ts (superblockGroup d 0) same)
+      (length-third front journal (superblockGroup d (length ts)) staged ts (superblockGroup d 0) same many)
+      (emitted-then (st .emitted) behind))
 
   -- the same where the geometry is the disk's
   pub committed-for : g ≡ geometryIn (d superblockAt) → Staged g l (p .dataSectors) (p .targets) numbers m k → n ≡ length (p .targets) → k * recordSize ≤ length l

@@ -112,7 +112,7 @@ module _ (s s′ t t′ : ℕ → ℕ) where
   entriesIn-ext from (suc n) p q =
       rw (p n (omega arith), q n (omega arith))
       (ap (λ (x : List ℕ). put x (16 * n) (beBytes 8 (s′ (from + n)) ++ beBytes 8 (t′ (from + n))))
-        (entriesIn-ext from n (λ k l. p k (omega arith)) (λ k l. q k (omega arith))))
+      (entriesIn-ext from n (λ k l. p k (omega arith)) (λ k l. q k (omega arith))))
 
   pub journalSector-ext : (n j : ℕ) → ((k : ℕ) → k < n → s k ≡ s′ k) → ((k : ℕ) → k < n → t k ≡ t′ k) → journalSector s t n j ≡ journalSector s′ t′ n j
   unfolding journalSector
@@ -157,10 +157,10 @@ copies-more g ts r =
     ∙ ap (λ (m : ℕ). tab f 0 m) n
     ∙ tab-more f 0 (length ts)
     ∙ ap₂ (λ (a : Group) (b : Record). a ++ (b ∷ []))
-        (tab-ext f (λ k. sectorWrite (reserveAt g + k) (getD ts k barrier .contents)) 0 0 (length ts)
-          (λ k l. ap (λ (x : Record). sectorWrite (reserveAt g + (0 + k)) (x .contents)) (List·getD-append ts (r ∷ []) barrier (0 + k) (omega arith)))
-          ∙ sym (copies-are g ts))
-        (ap f (zero-add (length ts)) ∙ ap (λ (x : Record). sectorWrite (reserveAt g + length ts) (x .contents)) last)
+    (tab-ext f (λ k. sectorWrite (reserveAt g + k) (getD ts k barrier .contents)) 0 0 (length ts)
+    (λ k l. ap (λ (x : Record). sectorWrite (reserveAt g + (0 + k)) (x .contents)) (List·getD-append ts (r ∷ []) barrier (0 + k) (omega arith)))
+    ∙ sym (copies-are g ts))
+    (ap f (zero-add (length ts)) ∙ ap (λ (x : Record). sectorWrite (reserveAt g + length ts) (x .contents)) last)
 
 -- ---- groups
 

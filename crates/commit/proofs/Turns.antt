@@ -43,10 +43,10 @@ journal-staged g numbers n =
     let noted : List ℕ = run numbers 0 n in
     ap (λ (m : ℕ). tab (λ j. sectorWrite (journalAt g + j) (journalSector (λ k. getD stages k 0) (λ k. getD noted k 0) m j)) 0 (journalSectors m)) (length-run numbers 0 n)
     ∙ tab-ext _ _ 0 0 (journalSectors n)
-        (λ j l. ap (λ (c : List ℕ). sectorWrite (journalAt g + (0 + j)) c)
-          (journalSector-ext (λ k. getD stages k 0) (λ k. reserveAt g + k) (λ k. getD noted k 0) (λ k. getD numbers k 0) n (0 + j)
-            (λ k h. getD-tab0 (λ k. reserveAt g + k) n k 0 h)
-            (λ k h. getD-run numbers 0 n k h ∙ ap (λ x. getD numbers x 0) (zero-add k))))
+    (λ j l. ap (λ (c : List ℕ). sectorWrite (journalAt g + (0 + j)) c)
+    (journalSector-ext (λ k. getD stages k 0) (λ k. reserveAt g + k) (λ k. getD noted k 0) (λ k. getD numbers k 0) n (0 + j)
+    (λ k h. getD-tab0 (λ k. reserveAt g + k) n k 0 h)
+    (λ k h. getD-run numbers 0 n k h ∙ ap (λ x. getD numbers x 0) (zero-add k))))
 
 -- ---- the targets
 
@@ -77,6 +77,6 @@ targets-kept {l} {m} {m′} {k} {i} {j} {rs} from numbers n h p q =
 pub commit-closed : (g : Geometry) (d : Disk) (list : List ℕ) (from : ℕ) (numbers : List ℕ) (n : ℕ)
     → closed (commitGroups g d list from numbers n)
     ≡ journalOf g (staging g n) (run numbers 0 n) ++ (barrier ∷ []) ++ (sectorWrite superblockAt (withJournalLength n (d superblockAt)) ∷ barrier ∷ [])
-      ++ stagedTargets list from numbers n ++ (barrier ∷ []) ++ (sectorWrite superblockAt (withJournalLength 0 (d superblockAt)) ∷ barrier ∷ [])
+    ++ stagedTargets list from numbers n ++ (barrier ∷ []) ++ (sectorWrite superblockAt (withJournalLength 0 (d superblockAt)) ∷ barrier ∷ [])
 unfolding commitGroups
 commit-closed g d list from numbers n = simp append-assoc

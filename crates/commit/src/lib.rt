@@ -1,7 +1,9 @@
 // What every changing call's write list holds behind its data sectors. The call hands over its targets one by one, and their
 // copies go into the list; journal, start mark, targets and end mark then follow from the targets' numbers and the copies.
+use model::Changed;
 use model::Geometry;
 use model::Sector;
+use model::Verdict;
 ghost use mathlib.Core.Path.{_≡_};
 ghost use mathlib.Core.List.{[], _∷_};
 ghost use Prim.Native.Nat.{_+_, _-_, _*_, _≤_, _<_, min};
@@ -15,7 +17,15 @@ ghost use Rattle.model.specs.Opened.{Bounded};
 ghost use Rattle.commit.specs.Commit.{stagedTargets, commitGroups};
 
 // Record k is the copy of target j, in the j-th reserve sector; the target's number is noted for the journal.
-pub fn put_copy(list: &mut [u8], k: usize, g: Geometry, numbers: &mut [u64], j: usize, target: Sector, s: [u8; 512]) -> usize
+pub fn put_copy(
+    list: &mut [u8],
+    k: usize,
+    g: Geometry,
+    numbers: &mut [u64],
+    j: usize,
+    target: Sector,
+    s: [u8; 512],
+) -> usize
     requires { ⌜ (k + 1) * recordSize ≤ length (now list) ⌝ }
     requires { ⌜ Bounded g ⌝ }
     requires { ⌜ (j ≤ k) × (j < length (now numbers)) ⌝ }
@@ -125,7 +135,14 @@ pub fn put_targets(list: &mut [u8], k: usize, numbers: &[u64], n: usize, from: u
 // ---- all of it
 
 // Behind n copies that end at position k: the journal; the start mark; the targets; the end mark; a barrier after each.
-pub fn put_commit(list: &mut [u8], k: usize, img: &[u8], g: Geometry, numbers: &[u64], n: usize) -> usize
+pub fn put_commit(
+    list: &mut [u8],
+    k: usize,
+    img: &[u8],
+    g: Geometry,
+    numbers: &[u64],
+    n: usize,
+) -> usize
     requires { ⌜ recordCount (k - n) n * recordSize ≤ length (now list) ⌝ }
     requires { ⌜ 512 ≤ length (now img) ⌝ }
     requires { ⌜ Bounded g ⌝ }
@@ -139,4 +156,11 @@ pub fn put_commit(list: &mut [u8], k: usize, img: &[u8], g: Geometry, numbers: &
     let k4 = put_targets(list, k3, numbers, n, k - n);
     let k5 = lists::put_barrier(list, k4);
     lists::put_superblock(list, k5, img, 0)
+}
+
+// What a changing call answers where it refuses.
+pub fn refused(verdict: Verdict) -> Changed
+    ensures { λ r. ⌜ r ≡ record { verdict = verdict; length = 0 } ⌝ }
+{
+    Changed { verdict, length: 0 }
 }

@@ -39,7 +39,8 @@ use Rattle.safety.proofs.Journal.{write-path, length-entriesIn}
 use Rattle.safety.proofs.Superblock.{length-withJournalLength, volume-long, when-none}
 use Rattle.safety.proofs.Plan.{UsableGeometry, WellFormed, Metadata, UsableSector, Whole, metadata-lt, volume-is, A, A-is, copyWrites, journalWrites, copyContents, journalContents, journal-few, clear}
 use Rattle.safety.proofs.Commit.{Ready, ready-recovers, waits-recovers}
-use Rattle.safety.proofs.Induction.{Effect, nothing, plans, Sound, Recoverable, consistent, waiting, Holds, agree}
+use Rattle.safety.proofs.Theorem.{sound}
+use Rattle.safety.proofs.Induction.{Effect, nothing, plans, Recoverable, consistent, waiting, Holds, agree}
 use Rattle.safety.proofs.Rep.{Rep, rep-geometry}
 use Rattle.safety.proofs.Fields.{getD-zeros}
 
@@ -311,9 +312,8 @@ recovery-carries L img (waiting g img0 p geo ok ready w rep) room = go (isDone (
         (replay-in-volume g p geo ok (view img0) (length-view img0 superblockAt)))
     go false e = none-carries img whl
 
--- IN A RUN: the bytes of a call's list and of a recovery's, carried out whole or cut, give the image that the run goes on with. It
--- takes what format and the calls owe
-module _ (sound : Sound Rep) {a : Format} where
+-- IN A RUN: the bytes of a call's list and of a recovery's, carried out whole or cut, give the image that the run goes on with
+module _ {a : Format} where
   pub run-call-carries : {img : List ℕ} {fs : List Feed} {rs : List Answer} → Run a steady img fs rs → (c : Call) → Fits c
       → ListCarries img (groupsFor (view img) (volumePlan c img))
   run-call-carries {img} {fs} r c fit =

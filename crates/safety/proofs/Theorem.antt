@@ -44,7 +44,8 @@ effect (delete name time room) L img h f = delete-effect L img h name time room 
 effect (resize name size time room) L img h f = resize-effect L img h name size time room f
 effect (write name offset bytes time room) L img h f = write-effect L img h name offset bytes time room f
 
-sound : Sound Rep
+-- what format and the calls owe, for every call
+pub sound : Sound Rep
 sound = record {
   says = λ L img h. h .says;
   ready = λ L img h. h .ready;

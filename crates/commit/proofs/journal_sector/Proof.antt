@@ -25,7 +25,7 @@ entries-in-requires c κs = omega (arith, reserve-fits (c .before .before .befor
 
 returns : tie.Need-returns
 unfolding journalSector
-returns c = 
+returns c =
     let a = c .before .before .before .before .args in
     c .entries-in .ensures
     ∙ ap₂ (λ (f m : ℕ). entriesIn (λ k. f + k) (λ k. getD (a .numbers .now) k 0) (32 * a .j) m) (c .before .before .reserve-at .ensures) (c .before .fewer .ensures)

@@ -1,5 +1,5 @@
 use mathlib.Core.Path.{_≡_, refl}
-use Prim.Native.Nat.{ℕ, _+_, _-_, _/_, _≤_}
+use Prim.Native.Nat.{_+_, _-_, _/_, _≤_}
 use native.Mathlib.Nat.{add-zero}
 use native.Mathlib.Omega.{arith}
 use lib.ListN.{length}
@@ -47,14 +47,13 @@ loop-less : tie.Need-loop-less Inv-loop μ-loop
 loop-less c = search needs
 
 loop-again : tie.Need-loop-again Inv-loop μ-loop
-loop-again c = 
+loop-again c =
     let b = c .before .before .before .before .before .before .before in
-    let a = b .before .before .before .before .args in
-    (
+    let a = b .before .before .before .before .args in (
       search needs,
       emitted-more {r = c .before .before .put-sector .result} (journalRecord (a .g) (a .numbers .now) (a .n)) (b .loop .inv .1)
-        (rw (← b .before .journal-at .ensures, ← c .before .before .before .before .before .journal-sector .ensures) (c .before .before .put-sector .ensures)),
-      search needs
+          (rw (← b .before .journal-at .ensures, ← c .before .before .before .before .before .journal-sector .ensures) (c .before .before .put-sector .ensures)),
+      search needs,
     )
 
 add-result : tie.Need-add-result Inv-loop μ-loop
@@ -64,7 +63,7 @@ same-length : tie.Need-same-length Inv-loop μ-loop
 same-length c = search needs
 
 returns : tie.Need-returns Inv-loop μ-loop
-returns c = 
+returns c =
     let a = c .before .before .before .before .before .args in
     let e : c .before .loop .j ≡ (a .n + 31) / 32 = omega arith in
     (rw (journal-staged, ← e) (c .before .loop .inv .1), refl)

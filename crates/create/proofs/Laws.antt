@@ -1,0 +1,91 @@
+-- Laws of create: what its searches and conditions say, and its decision. Assumes nothing.
+use Prim.Native.Nat.{ℕ, _-_, _*_, _≤_, _<_}
+use mathlib.Core.Path.{_≡_, refl}
+use mathlib.Core.Bool.{Bool, true, false, cond, _||_}
+use mathlib.Core.List.{List}
+use mathlib.Core.Option.{some as just}
+use native.Mathlib.Omega.{arith}
+use lib.Dec.{eqb}
+use lib.ListN.{length}
+use Rattle.model.specs.declared.Geometry.{Geometry}
+use Rattle.model.specs.declared.Place.{Place}
+use Rattle.model.specs.declared.Place.the-variants.{At, Nowhere}
+use Rattle.model.specs.declared.Verdict.{Verdict}
+use Rattle.model.specs.declared.Changed.{Changed}
+use Rattle.model.specs.Bytes.{beAt}
+use Rattle.model.specs.Search.{scan, indexOf}
+use Rattle.model.specs.Geometry.{superblockAt, rootAt}
+use Rattle.model.specs.Disk.{Disk, view}
+use Rattle.model.specs.Superblock.{geometryIn}
+use Rattle.model.specs.Root.{rootIn}
+use Rattle.model.specs.Entry.{badName}
+use Rattle.model.specs.Catalogue.{Catalogue, catalogueOf, isFree, freeEntry}
+use Rattle.model.specs.Refusals.{Conditions, verdictOf, refusal, done, judged}
+use Rattle.model.specs.WriteList.{Plan, recordSize, Emitted, groupsOf, groupsFor, closed, listLength}
+use Rattle.model.specs.Create.{createConditions, createPlan, createCount, createDecision, createAnswer, createList}
+use Rattle.laws.proofs.Search.{Hit, scan-hit}
+use Rattle.laws.proofs.Named.{short-name}
+use Rattle.commit.proofs.Records.{plan-needs}
+use Rattle.commit.proofs.Decided.{refused-by-own, refused-as-short, done-as-planned}
+
+-- ---- what the searches and conditions say
+
+pub root-on : (d : Disk) → catalogueOf d .root .id ≡ beAt (d rootAt) 4 8
+unfolding catalogueOf rootIn
+root-on d = refl
+
+pub or-false : (a b : Bool) → (a || b) ≡ false → a ≡ false
+or-false true b e = e
+or-false false b e = refl
+
+below : (p : ℕ → Bool) (n : ℕ) (q : Place) → Hit p (n - 0) 0 q → indexOf q ≤ n
+below p n (At i) h = omega (arith, h .1)
+below p n Nowhere h = omega arith
+
+pub free-below : (d : Disk) → indexOf (freeEntry (catalogueOf d)) ≤ geometryIn (d superblockAt) .files
+unfolding freeEntry catalogueOf
+free-below d =
+    let n = geometryIn (d superblockAt) .files in
+    let p : ℕ → Bool = λ i. isFree (catalogueOf d .entries i) in
+    below p n (scan p (n - 0) 0) (scan-hit p (n - 0) 0)
+
+pub good-name : (c : Catalogue) (name : List ℕ) (id : ℕ) → verdictOf (createConditions c name id) .number ≡ 0 → length name ≤ 476
+unfolding createConditions verdictOf
+good-name c name id h = short-name name (or-false (badName name) (eqb id 0) (go (badName name || eqb id 0) _ h))
+  where
+    go : (b : Bool) (v : Verdict) → cond b (refusal 8) v .number ≡ 0 → b ≡ false
+    go true v e = let z : _≡_ {A = ℕ} 8 0 = e in absurd (omega arith)
+    go false v e = refl
+
+-- ---- what it comes to
+
+create-needs : (d : Disk) (name : List ℕ) (id mode time : ℕ) → listLength (groupsFor d (just (createPlan (catalogueOf d) d name id mode time))) ≡ createCount * recordSize
+unfolding createPlan
+create-needs d name id mode time = plan-needs d (createPlan (catalogueOf d) d name id mode time)
+
+-- the two clauses of its promise
+abbrev pub Comes : List ℕ → List ℕ → List ℕ → ℕ → ℕ → ℕ → Changed → List ℕ → Type 0
+Comes img list name id mode time answer after =
+    (answer ≡ createAnswer (length img) (view img) name id mode time (length list)) × (after ≡ createList (length img) (view img) name id mode time list)
+
+module _ (img list name : List ℕ) (id mode time : ℕ) (ok : judged (length img) (view img) .number ≡ 0) (v : Verdict) (own : v ≡ verdictOf (createConditions (catalogueOf (view img)) name id)) where
+  abbrev cs : Conditions
+  cs = createConditions (catalogueOf (view img)) name id
+
+  abbrev plan : Plan
+  plan = createPlan (catalogueOf (view img)) (view img) name id mode time
+
+  pub create-refused : (v .number ≡ 0 → ⊥) → Comes img list name id mode time (record { verdict = v; length = 0 }) list
+  unfolding createAnswer createList createDecision
+  create-refused h = refused-by-own (length img) (view img) cs (just plan) list ok v own h
+
+  pub create-short : v .number ≡ 0 → length list < createCount * recordSize → Comes img list name id mode time (record { verdict = refusal 14; length = 0 }) list
+  unfolding createAnswer createList createDecision
+  create-short z h = refused-as-short (length img) (view img) cs (just plan) list ok v own z (omega (arith, create-needs (view img) name id mode time))
+
+  pub create-done : {g : Geometry} {m : List ℕ} {j : ℕ} → v .number ≡ 0 → createCount * recordSize ≤ length list → g ≡ geometryIn (view img superblockAt)
+      → Emitted list 0 (closed (groupsOf g (view img) plan)) m j → Comes img list name id mode time (record { verdict = done; length = createCount * recordSize }) m
+  unfolding createAnswer createList createDecision groupsFor
+  create-done z h is e =
+      let n = create-needs (view img) name id mode time in
+      rw (← n) (done-as-planned (length img) (view img) cs (just plan) list ok v own z (omega arith) (rw is at e))

@@ -1,0 +1,80 @@
+use mathlib.Core.Path.{sym, ap, _∙_}
+use native.Mathlib.Omega.{arith}
+use Rattle.model.specs.declared.Verdict.{Verdict}
+use Rattle.laws.proofs.Refusals.{image-length}
+use Rattle.laws.proofs.Judged.{judged-image, judged-opened}
+use Rattle.create.proofs.Laws.{good-name, create-refused, create-short, create-done}
+use borrow.Author.Needs.{needs}
+use Rattle.create.proofs.create_in.Statement.{statement}
+use Rattle.create.proofs.create_in.Tie as tie
+
+geometry-in-requires : tie.Need-geometry-in-requires
+geometry-in-requires c κs = image-length _ _ (judged-image _ _ (c .before .before .before .pre))
+
+own-verdict-requires : tie.Need-own-verdict-requires
+own-verdict-requires c κs = judged-opened _ _ (c .geometry-in .ensures) (omega arith) (c .before .before .before .before .pre)
+
+put-create-requires : tie.Need-put-create-requires
+put-create-requires c κs =
+    let v = c .before .before .before .before in
+    let o = v .before .geometry-in in (
+      omega arith,
+      (judged-opened _ _ (o .ensures) (omega arith) (v .before .before .before .before .before .pre), good-name _ _ _ (ap (λ (v : Verdict). v .number) (sym (v .own-verdict .ensures)) ∙ c .before .before .if1 .taken)),
+    )
+
+refusal-requires : tie.Need-refusal-requires
+refusal-requires c κs = search needs
+
+same-length : tie.Need-same-length
+same-length c = search needs
+
+returns : tie.Need-returns
+returns c =
+    let v = c .before .before .before .before .before .before .before .before in
+    let s = v .before .before .before .before .before in
+    let a = s .args in
+    rw (c .refusal .ensures)
+    (create-done (a .img .now) (a .list .now) (a .name .now) (a .id) (a .mode) (a .time) (s .pre) (v .own-verdict .result) (v .own-verdict .ensures)
+    (c .before .before .before .before .before .before .if1 .taken) (omega arith) (v .before .geometry-in .ensures) (c .before .before .before .put-create .ensures))
+
+refusal-requires-2 : tie.Need-refusal-requires-2
+refusal-requires-2 c κs = search needs
+
+refused-requires : tie.Need-refused-requires
+refused-requires c κs = search needs
+
+returns-2 : tie.Need-returns-2
+returns-2 c =
+    let v = c .before .before .before .before .before in
+    let s = v .before .before .before .before .before in
+    let a = s .args in
+    rw (c .refused .ensures, c .before .refusal2 .ensures)
+    (create-short (a .img .now) (a .list .now) (a .name .now) (a .id) (a .mode) (a .time) (s .pre) (v .own-verdict .result) (v .own-verdict .ensures)
+    (c .before .before .before .if1 .taken) (omega arith))
+
+refused-requires-2 : tie.Need-refused-requires-2
+refused-requires-2 c κs = search needs
+
+returns-3 : tie.Need-returns-3
+returns-3 c =
+    let v = c .before .before .before in
+    let s = v .before .before .before .before .before in
+    let a = s .args in
+    rw (c .refused2 .ensures)
+    (create-refused (a .img .now) (a .list .now) (a .name .now) (a .id) (a .mode) (a .time) (s .pre) (v .own-verdict .result) (v .own-verdict .ensures) (c .before .if1 .left))
+
+pub create-in-spec : {M : Type 1} → statement M
+create-in-spec =
+    tie.close
+    (tie.spec
+    geometry-in-requires
+    own-verdict-requires
+    put-create-requires
+    refusal-requires
+    same-length
+    returns
+    refusal-requires-2
+    refused-requires
+    returns-2
+    refused-requires-2
+    returns-3)

@@ -1,0 +1,190 @@
+// Create, on a volume that the refusals 1 to 7 let pass.
+use model::Changed;
+use model::FileIndex;
+use model::Geometry;
+use model::Place;
+use model::Sector;
+use model::Verdict;
+ghost use mathlib.Core.Path.{_≡_};
+ghost use mathlib.Core.Bool.{_||_};
+ghost use mathlib.Core.List.{[], _∷_};
+ghost use Prim.Native.Nat.{_*_, _≤_, _<_};
+ghost use lib.Dec.{eqb};
+ghost use lib.ListN.{length};
+ghost use Rattle.model.specs.Search.{some, isAt, indexOf};
+ghost use Rattle.model.specs.Disk.{view};
+ghost use Rattle.model.specs.Root.{updatedRootSector};
+ghost use Rattle.model.specs.Entry.{badName, longestName, newEntrySector};
+ghost use Rattle.model.specs.Catalogue.{catalogueOf, fileNamed, hasId};
+ghost use Rattle.model.specs.Refusals.{verdictOf, judged};
+ghost use Rattle.model.specs.WriteList.{sectorWrite, recordSize, closed, groupsOf, Emitted};
+ghost use Rattle.model.specs.Create.{createConditions, createPlan, createCount, createAnswer, createList};
+ghost use Rattle.model.specs.Opened.{Bounded, Opened};
+ghost use Rattle.create.specs.Front.{entryFront};
+
+// ---- the refusals 8, 10 and 11
+
+fn is_at(p: Place) -> bool
+    ensures { λ r. ⌜ r ≡ isAt p ⌝ }
+{
+    match p {
+        Place::At(_) => true,
+        Place::Nowhere => false,
+    }
+}
+
+fn index_of(p: Place) -> usize
+    ensures { λ r. ⌜ r ≡ indexOf p ⌝ }
+{
+    match p {
+        Place::At(i) => i,
+        Place::Nowhere => 0,
+    }
+}
+
+fn bad_argument(name: &[u8], id: u64) -> bool
+    ensures { λ r. ⌜ r ≡ (badName (now (name .entry)) || eqb id 0) ⌝ }
+{
+    if directory::bad_name(name) {
+        return true;
+    }
+    id == 0
+}
+
+// The name is there, or the id is an occupied entry's or the root's.
+fn is_taken(img: &[u8], g: Geometry, name: &[u8], id: u64) -> bool
+    requires { ⌜ Opened (now img) g ⌝ }
+    requires { ⌜ length (now name) ≤ longestName ⌝ }
+    ensures { λ r. ⌜ r ≡ (isAt (fileNamed (catalogueOf (view (now (img .entry)))) (now (name .entry))) || some (λ i. hasId id (catalogueOf (view (now (img .entry))) .entries i)) (catalogueOf (view (now (img .entry))) .geometry .files) || eqb id (catalogueOf (view (now (img .entry))) .root .id)) ⌝ }
+{
+    let p = directory::file_named(img, g, name);
+    if is_at(p) {
+        return true;
+    }
+    if directory::has_id(img, g, id) {
+        return true;
+    }
+    id == fields::number(img, Sector(1), 4, 8)
+}
+
+fn own_verdict(img: &[u8], g: Geometry, name: &[u8], id: u64) -> Verdict
+    requires { ⌜ Opened (now img) g ⌝ }
+    ensures { λ r. ⌜ r ≡ verdictOf (createConditions (catalogueOf (view (now (img .entry)))) (now (name .entry)) id) ⌝ }
+{
+    if bad_argument(name, id) {
+        return volume::refusal(8);
+    }
+    if is_taken(img, g, name, id) {
+        return volume::refusal(10);
+    }
+    let p = directory::free_entry(img, g);
+    if is_at(p) {
+        return volume::refusal(0);
+    }
+    volume::refusal(11)
+}
+
+// ---- the targets' contents
+
+// The root: version up, change time set.
+pub fn updated_root(img: &[u8], time: u32) -> [u8; 512]
+    requires { ⌜ 1024 ≤ length (now img) ⌝ }
+    ensures { λ r. ⌜ r ≡ updatedRootSector time (view (now (img .entry)) 1) ⌝ }
+{
+    let mut a = fields::sector(img, Sector(1));
+    let v = fields::be32(&a, 0);
+    let w = std::num::wrapping_add_u32(v, 1);
+    fields::put_be(&mut a, 0, 4, w as u64);
+    fields::put_be(&mut a, 20, 4, time as u64);
+    a
+}
+
+fn entry_front(id: u64, mode: u32, time: u32) -> [u8; 512]
+    ensures { λ r. ⌜ r ≡ entryFront id mode time ⌝ }
+{
+    let mut a = [0u8; 512];
+    fields::put_be(&mut a, 0, 2, 65535);
+    fields::put_be(&mut a, 14, 8, id);
+    fields::put_be(&mut a, 22, 4, mode as u64);
+    fields::put_be(&mut a, 26, 4, time as u64);
+    a
+}
+
+fn new_entry(name: &[u8], id: u64, mode: u32, time: u32) -> [u8; 512]
+    requires { ⌜ length (now name) ≤ longestName ⌝ }
+    ensures { λ r. ⌜ r ≡ newEntrySector (now (name .entry)) id mode time ⌝ }
+{
+    let mut a = entry_front(id, mode, time);
+    let n = name.len();
+    fields::put_be(&mut a, 30, 4, time as u64);
+    fields::put_be(&mut a, 34, 2, n as u64);
+    fields::copy_run(name, 0, &mut a, 36, n);
+    a
+}
+
+// ---- the list
+
+// The groups of two targets: sector s with contents a, sector t with contents b.
+fn put_pair(
+    list: &mut [u8],
+    img: &[u8],
+    g: Geometry,
+    s: Sector,
+    a: [u8; 512],
+    t: Sector,
+    b: [u8; 512],
+) -> usize
+    requires { ⌜ createCount * recordSize ≤ length (now list) ⌝ }
+    requires { ⌜ 512 ≤ length (now img) ⌝ }
+    requires { ⌜ Bounded g ⌝ }
+    ensures { λ r. ⌜ Emitted (now (list .entry)) 0 (closed (groupsOf g (view (now (img .entry))) (record { dataSectors = []; targets = sectorWrite (s .0) a ∷ sectorWrite (t .0) b ∷ [] }))) (now (list .exit)) r ⌝ }
+{
+    let mut numbers = [0u64; 2];
+    let k = commit::put_copy(list, 0, g, &mut numbers, 0, s, a);
+    let n = commit::put_copy(list, k, g, &mut numbers, 1, t, b);
+    commit::put_commit(list, n, img, g, &numbers, 2)
+}
+
+fn put_create(
+    list: &mut [u8],
+    img: &[u8],
+    g: Geometry,
+    name: &[u8],
+    id: u64,
+    mode: u32,
+    time: u32,
+) -> usize
+    requires { ⌜ createCount * recordSize ≤ length (now list) ⌝ }
+    requires { ⌜ Opened (now img) g ⌝ }
+    requires { ⌜ length (now name) ≤ longestName ⌝ }
+    ensures { λ r. ⌜ Emitted (now (list .entry)) 0 (closed (groupsOf g (view (now (img .entry))) (createPlan (catalogueOf (view (now (img .entry)))) (view (now (img .entry))) (now (name .entry)) id mode time))) (now (list .exit)) r ⌝ }
+{
+    let a = updated_root(img, time);
+    let b = new_entry(name, id, mode, time);
+    let i = index_of(directory::free_entry(img, g));
+    let t = FileIndex(i as u64).sector();
+    put_pair(list, img, g, Sector(1), a, t, b)
+}
+
+// ---- the call
+
+pub fn create_in(img: &[u8], list: &mut [u8], name: &[u8], id: u64, mode: u32, time: u32) -> Changed
+    requires { ⌜ judged (length (now img)) (view (now img)) .number ≡ 0 ⌝ }
+    ensures { λ r. ⌜ r ≡ createAnswer (length (now (img .entry))) (view (now (img .entry))) (now (name .entry)) id mode time (length (now (list .entry))) ⌝ }
+    ensures { λ _. ⌜ now (list .exit) ≡ createList (length (now (img .entry))) (view (now (img .entry))) (now (name .entry)) id mode time (now (list .entry)) ⌝ }
+{
+    let g = volume::geometry_in(img);
+    let v = own_verdict(img, g, name, id);
+    if v.number == 0 {
+        if 5720 <= list.len() {
+            put_create(list, img, g, name, id, mode, time);
+            let verdict = volume::refusal(0);
+            return Changed {
+                verdict,
+                length: 5720,
+            };
+        }
+        return commit::refused(volume::refusal(14));
+    }
+    commit::refused(v)
+}

@@ -1,0 +1,191 @@
+// Format: the geometry that a sector count gives, and a new volume's records, asked for one at a time by position.
+use model::FileIndex;
+use model::Formatted;
+use model::Geometry;
+use model::Sector;
+ghost use mathlib.Core.Path.{_≡_};
+ghost use mathlib.Core.Bool.{_&&_};
+ghost use mathlib.Core.List.{[], _∷_};
+ghost use Prim.Native.Nat.{_+_, _-_, _≤_, _<_};
+ghost use lib.Dec.{leb};
+ghost use lib.ListN.{length};
+ghost use Rattle.model.specs.Bytes.{zeroSector, onesSector};
+ghost use Rattle.model.specs.Geometry.{tableAt, inBounds};
+ghost use Rattle.model.specs.Superblock.{newSuperblock};
+ghost use Rattle.model.specs.Root.{newRootSector};
+ghost use Rattle.model.specs.WriteList.{Emitted};
+ghost use Rattle.model.specs.Format.{Format, doubled, geometryFor, formatCount, formatRecord, formatAnswer, formatOutput};
+ghost use Rattle.model.specs.Opened.{Bounded};
+
+// ---- the geometry
+
+// G, the sectors that are left for the data area; 0 where there are too few.
+fn data_room(sectors: u64, files: u64) -> u64
+    ensures { λ r. ⌜ r ≡ sectors - 546 - files ⌝ }
+{
+    if sectors < 546 {
+        return 0;
+    }
+    let rest = sectors - 546;
+    if rest < files {
+        return 0;
+    }
+    rest - files
+}
+
+// S: 128, doubled while G / S exceeds 65,535, 24 times at most.
+fn extent_sectors_for(room: u64) -> u32
+    ensures { λ r. ⌜ r ≡ doubled room 24 128 ⌝ }
+    ensures { λ r. ⌜ 0 < r ⌝ }
+{
+    let mut s: u32 = 128;
+    let mut doublings: u32 = 0;
+    while doublings < 24 {
+        if room / (s as u64) <= 65535 {
+            return s;
+        }
+        s = 2 * s;
+        doublings += 1;
+    }
+    s
+}
+
+// The geometry that a sector count gives. It may break the bounds: N passes 65,535 where the doubling ends too early.
+pub fn geometry_for(sectors: u64, files: u64) -> Geometry
+    ensures { λ r. ⌜ r ≡ geometryFor sectors files ⌝ }
+{
+    let room = data_room(sectors, files);
+    let s = extent_sectors_for(room);
+    Geometry {
+        files,
+        extents: room / (s as u64),
+        extent_sectors: s,
+    }
+}
+
+// The files are in bounds, and there is a geometry. The bounds are tested first, so that the sum cannot overflow.
+fn can_format(sectors: u64, g: Geometry) -> bool
+    ensures { λ r. ⌜ r ≡ (leb (546 + g .files) sectors && inBounds g) ⌝ }
+{
+    if g.in_bounds() {
+        return 546 + g.files <= sectors;
+    }
+    false
+}
+
+// ---- the sectors of a new volume
+
+fn zero_sector() -> [u8; 512]
+    ensures { λ r. ⌜ r ≡ zeroSector ⌝ }
+{
+    [0u8; 512]
+}
+
+// A sector of the allocation table in which every extent is free.
+fn free_table_sector() -> [u8; 512]
+    ensures { λ r. ⌜ r ≡ onesSector ⌝ }
+{
+    [255u8; 512]
+}
+
+fn new_superblock(g: Geometry, n: u64) -> [u8; 512]
+    ensures { λ r. ⌜ r ≡ newSuperblock g n ⌝ }
+{
+    let mut a = zero_sector();
+    fields::put_be(&mut a, 0, 2, g.files);
+    fields::put_be(&mut a, 2, 2, g.extents);
+    fields::put_be(&mut a, 4, 4, g.extent_sectors as u64);
+    fields::copy_run(b"/Goo/FS/", 0, &mut a, 8, 8);
+    fields::put_be(&mut a, 16, 2, 1);
+    fields::put_be(&mut a, 18, 2, n);
+    a
+}
+
+// The version is 0, as are the unused bytes.
+fn new_root(id: u64, mode: u32, time: u32) -> [u8; 512]
+    ensures { λ r. ⌜ r ≡ newRootSector id mode time ⌝ }
+{
+    let mut a = zero_sector();
+    fields::put_be(&mut a, 4, 8, id);
+    fields::put_be(&mut a, 12, 4, mode as u64);
+    fields::put_be(&mut a, 16, 4, time as u64);
+    fields::put_be(&mut a, 20, 4, time as u64);
+    a
+}
+
+// ---- the records
+
+fn record_count(g: Geometry) -> u64
+    requires { ⌜ Bounded g ⌝ }
+    ensures { λ r. ⌜ r ≡ formatCount g ⌝ }
+{
+    g.files + g.table_sectors() + 6
+}
+
+// Sector j of the allocation table.
+fn table_sector(g: Geometry, j: u64) -> Sector
+    requires { ⌜ Bounded g ⌝ }
+    requires { ⌜ j < 65536 ⌝ }
+    ensures { λ r. ⌜ r .0 ≡ tableAt g + j ⌝ }
+{
+    let t = g.table_at();
+    Sector(t.0 + j)
+}
+
+// The record at a position, into the output's front.
+fn put_record(g: Geometry, id: u64, mode: u32, time: u32, p: u64, out: &mut [u8]) -> usize
+    requires { ⌜ Bounded g ⌝ }
+    requires { ⌜ p < formatCount g ⌝ }
+    requires { ⌜ 520 ≤ length (now out) ⌝ }
+    ensures { λ r. ⌜ ((a : Format) → a .id ≡ id → a .mode ≡ mode → a .time ≡ time → Emitted (now (out .entry)) 0 (formatRecord g a p ∷ []) (now (out .exit)) r) ⌝ }
+{
+    if p == 0 {
+        return lists::put_sector(out, 0, Sector(0), new_superblock(g, 65535));
+    }
+    if p == 1 {
+        return lists::put_barrier(out, 0);
+    }
+    if p == 2 {
+        return lists::put_sector(out, 0, Sector(1), new_root(id, mode, time));
+    }
+    if p < 3 + g.files {
+        return lists::put_sector(out, 0, FileIndex(p - 3).sector(), zero_sector());
+    }
+    let table_end = 3 + g.files + g.table_sectors();
+    if p < table_end {
+        return lists::put_sector(out, 0, table_sector(g, p - 3 - g.files), free_table_sector());
+    }
+    if p == table_end + 1 {
+        return lists::put_sector(out, 0, Sector(0), new_superblock(g, 0));
+    }
+    lists::put_barrier(out, 0)
+}
+
+// A refusal's other numbers are 0.
+fn refused(number: u64) -> Formatted
+    ensures { λ r. ⌜ r ≡ record { number = number; length = 0 } ⌝ }
+{
+    Formatted { number, length: 0 }
+}
+
+// One record of a format; 8, 9 or 14 leave the output as it is.
+pub fn format_record(sectors: u64, files: u64, id: u64, mode: u32, time: u32, position: u64, out: &mut [u8]) -> Formatted
+    ensures { λ r. ⌜ r ≡ formatAnswer (record { sectors = sectors; files = files; id = id; mode = mode; time = time }) position (length (now (out .entry))) ⌝ }
+    ensures { λ _. ⌜ now (out .exit) ≡ formatOutput (record { sectors = sectors; files = files; id = id; mode = mode; time = time }) position (now (out .entry)) ⌝ }
+{
+    let g = geometry_for(sectors, files);
+    if can_format(sectors, g) {
+        if position < record_count(g) {
+            if 520 <= out.len() {
+                put_record(g, id, mode, time, position, out);
+                return Formatted {
+                    number: 0,
+                    length: 520,
+                };
+            }
+            return refused(14);
+        }
+        return refused(9);
+    }
+    refused(8)
+}

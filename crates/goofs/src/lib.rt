@@ -1,0 +1,220 @@
+// The C interface: every call under its plain name, thin over the proved calls. A slice passes as pointer and length; results are
+// structs of numbers. `include/goofs.h` declares it.
+use model::BytesRead;
+use model::Checked;
+use model::Found;
+use model::Listed;
+use model::State;
+use model::Summarized;
+ghost use mathlib.Core.Path.{_≡_};
+ghost use lib.ListN.{length};
+ghost use Rattle.model.specs.Disk.{view};
+ghost use Rattle.model.specs.Summary.{stateCode, stateEntries, summaryAnswer, checkAnswer};
+ghost use Rattle.model.specs.Find.{findAnswer};
+ghost use Rattle.model.specs.Listing.{listAnswer, listOutput};
+ghost use Rattle.model.specs.Read.{readAnswer, readOutput};
+ghost use Rattle.goofs.specs.Numbers.{summaryNumbers, checkNumbers, findNumbers, listNumbers, readNumbers};
+
+// ---- summary
+
+#[repr(C)]
+pub struct SummaryResult {
+    pub code: u64,
+    pub files: u64,
+    pub extents: u64,
+    pub extent_sectors: u64,
+    pub state: u64,
+    pub entries: u64,
+}
+
+fn state_code(s: State) -> u64
+    ensures { λ r. ⌜ r ≡ stateCode s ⌝ }
+{
+    match s {
+        State::Clean => 0,
+        State::Waiting(_) => 1,
+        State::Damaged => 2,
+        State::Unfinished => 3,
+    }
+}
+
+fn state_entries(s: State) -> u64
+    ensures { λ r. ⌜ r ≡ stateEntries s ⌝ }
+{
+    match s {
+        State::Clean => 0,
+        State::Waiting(n) => n,
+        State::Damaged => 0,
+        State::Unfinished => 0,
+    }
+}
+
+fn summary_result(a: Summarized) -> SummaryResult
+    ensures { λ r. ⌜ r ≡ summaryNumbers a ⌝ }
+{
+    let s = a.summary;
+    let g = s.geometry;
+    let st = s.state;
+    SummaryResult {
+        code: a.number,
+        files: g.files,
+        extents: g.extents,
+        extent_sectors: g.extent_sectors as u64,
+        state: state_code(st),
+        entries: state_entries(st),
+    }
+}
+
+#[no_mangle]
+pub extern "C" fn goofs_summary(img: &[u8]) -> SummaryResult
+    ensures { λ r. ⌜ r ≡ summaryNumbers (summaryAnswer (length (now (img .entry))) (view (now (img .entry)))) ⌝ }
+{
+    summary_result(volume::summary(img))
+}
+
+// ---- check
+
+#[repr(C)]
+pub struct CheckResult {
+    pub code: u64,
+    pub fault: u64,
+    pub place: u64,
+}
+
+fn check_result(a: Checked) -> CheckResult
+    ensures { λ r. ⌜ r ≡ checkNumbers a ⌝ }
+{
+    let v = a.verdict;
+    CheckResult {
+        code: v.number,
+        fault: v.fault,
+        place: v.place,
+    }
+}
+
+#[no_mangle]
+pub extern "C" fn goofs_check(img: &[u8]) -> CheckResult
+    ensures { λ r. ⌜ r ≡ checkNumbers (checkAnswer (length (now (img .entry))) (view (now (img .entry)))) ⌝ }
+{
+    check_result(queries::check(img))
+}
+
+// ---- find
+
+#[repr(C)]
+pub struct FindResult {
+    pub code: u64,
+    pub fault: u64,
+    pub place: u64,
+    pub index: u64,
+    pub size: u64,
+    pub version: u64,
+    pub id: u64,
+    pub mode: u64,
+    pub access_time: u64,
+    pub change_time: u64,
+    pub name_length: u64,
+}
+
+fn find_result(a: Found) -> FindResult
+    ensures { λ r. ⌜ r ≡ findNumbers a ⌝ }
+{
+    let v = a.verdict;
+    let i = a.index;
+    let f = a.fields;
+    FindResult {
+        code: v.number,
+        fault: v.fault,
+        place: v.place,
+        index: i.0,
+        size: f.size,
+        version: f.version as u64,
+        id: f.id,
+        mode: f.mode as u64,
+        access_time: f.access_time as u64,
+        change_time: f.change_time as u64,
+        name_length: f.name_length,
+    }
+}
+
+#[no_mangle]
+pub extern "C" fn goofs_find(img: &[u8], name: &[u8]) -> FindResult
+    ensures { λ r. ⌜ r ≡ findNumbers (findAnswer (length (now (img .entry))) (view (now (img .entry))) (now (name .entry))) ⌝ }
+{
+    find_result(queries::find(img, name))
+}
+
+// ---- list
+
+#[repr(C)]
+pub struct ListResult {
+    pub code: u64,
+    pub fault: u64,
+    pub place: u64,
+    pub size: u64,
+    pub version: u64,
+    pub id: u64,
+    pub mode: u64,
+    pub access_time: u64,
+    pub change_time: u64,
+    pub name_length: u64,
+}
+
+fn list_result(a: Listed) -> ListResult
+    ensures { λ r. ⌜ r ≡ listNumbers a ⌝ }
+{
+    let v = a.verdict;
+    let f = a.fields;
+    ListResult {
+        code: v.number,
+        fault: v.fault,
+        place: v.place,
+        size: f.size,
+        version: f.version as u64,
+        id: f.id,
+        mode: f.mode as u64,
+        access_time: f.access_time as u64,
+        change_time: f.change_time as u64,
+        name_length: f.name_length,
+    }
+}
+
+#[no_mangle]
+pub extern "C" fn goofs_list(img: &[u8], index: u64, out: &mut [u8]) -> ListResult
+    ensures { λ r. ⌜ r ≡ listNumbers (listAnswer (length (now (img .entry))) (view (now (img .entry))) index (length (now (out .entry)))) ⌝ }
+    ensures { λ _. ⌜ now (out .exit) ≡ listOutput (length (now (img .entry))) (view (now (img .entry))) index (now (out .entry)) ⌝ }
+{
+    let a = queries::list(img, index, out);
+    list_result(a)
+}
+
+// ---- read
+
+#[repr(C)]
+pub struct ReadResult {
+    pub code: u64,
+    pub fault: u64,
+    pub place: u64,
+    pub count: u64,
+}
+
+fn read_result(a: BytesRead) -> ReadResult
+    ensures { λ r. ⌜ r ≡ readNumbers a ⌝ }
+{
+    let v = a.verdict;
+    ReadResult {
+        code: v.number,
+        fault: v.fault,
+        place: v.place,
+        count: a.count,
+    }
+}
+
+#[no_mangle]
+pub extern "C" fn goofs_read(img: &[u8], name: &[u8], offset: u64, count: u64, out: &mut [u8]) -> ReadResult
+    ensures { λ r. ⌜ r ≡ readNumbers (readAnswer (length (now (img .entry))) (view (now (img .entry))) (now (name .entry)) offset count (length (now (out .entry)))) ⌝ }
+    ensures { λ _. ⌜ now (out .exit) ≡ readOutput (length (now (img .entry))) (view (now (img .entry))) (now (name .entry)) offset count (now (out .entry)) ⌝ }
+{
+    let a = queries::read(img, name, offset, count, out);
+    read_result(a)
+}

@@ -1,0 +1,22 @@
+//! The proved volume code, for Rust: one safe function for each call of the static library.
+//!
+//! Every call takes an image of any bytes and gives back numbers; `code` is 0 or says why the call
+//! was refused, and a refused call leaves its buffer as it was.
+//! - `summary`, `check`, `find`, `list` and `read` change nothing;
+//! - `create`, `delete`, `resize`, `write` and `recover` only read the image too, and fill a lent
+//!   list of sector writes;
+//! - `format_record` gives the records of a format one at a time;
+//! - `carry_out` does the writes of a list, and is the only call that changes an image.
+
+#![deny(unsafe_code)]
+
+#[allow(unsafe_code)]
+mod ffi;
+
+pub use ffi::{check, find, list, read, summary};
+pub use ffi::{CheckAnswer, FindAnswer, ListAnswer, ReadAnswer, SummaryAnswer};
+
+#[cfg(feature = "changes")]
+pub use ffi::changes::{carry_out, create, delete, format_record, recover, resize, write};
+#[cfg(feature = "changes")]
+pub use ffi::changes::{ChangeAnswer, FormatRecordAnswer, RecoverAnswer};

@@ -1,0 +1,168 @@
+//! The largest directory and table: 1,024 files and 65,535 extents of 128 sectors. Such an image
+//! has 4.3 GB, of which only the pages that are used take up memory; one stands at a time.
+
+use std::sync::{Mutex, MutexGuard};
+
+use crate::shared::{alike, blank, entry_field, find, put_file, read, table_entry};
+use oracle::draw::Draw;
+use oracle::layout::{put16, put64, Geometry, SECTOR};
+use oracle::Request;
+
+static ONE_AT_A_TIME: Mutex<()> = Mutex::new(());
+
+fn alone() -> MutexGuard<'static, ()> {
+    // A test that failed leaves nothing behind that the next could stumble over.
+    ONE_AT_A_TIME
+        .lock()
+        .unwrap_or_else(|failed| failed.into_inner())
+}
+
+pub fn geometry() -> Geometry {
+    Geometry::new(1_024, 65_535, 128).expect("within the bounds")
+}
+
+/// Names of 476 bytes that differ only at their end.
+fn name(index: u64) -> Vec<u8> {
+    let mut name = vec![b'n'; 476];
+    name[471..].copy_from_slice(format!("{index:05}").as_bytes());
+    name
+}
+
+/// All entries are occupied, and all usable extents; those of a file are scattered.
+fn full() -> Vec<u8> {
+    let geometry = geometry();
+    let mut image = blank(geometry, geometry.end().0);
+    let usable = geometry.usable_extents();
+    assert_eq!(usable, 65_530);
+    let mut extents = vec![Vec::new(); 1_024];
+    for extent in 0..usable {
+        // 7,919 and the number of extents have no common divisor.
+        extents[(extent % 1_024) as usize].push(extent * 7_919 % usable);
+    }
+    for (index, extents) in extents.iter().enumerate() {
+        let size = extents.len() as u64 * 65_536 - index as u64 % 3;
+        let index = index as u64;
+        put_file(&mut image, geometry, index, &name(index), size, extents);
+    }
+    image
+}
+
+#[test]
+fn every_call() {
+    let _alone = alone();
+    let mut image = full();
+    let mut draw = Draw::new(41);
+    alike(&Request::Summary, &image, 0);
+    let (answer, _) = alike(&Request::Check, &image, 0);
+    assert_eq!(answer.code(), 0);
+    for index in (0..1_024).step_by(31).chain([1_023, 1_024, 65_535]) {
+        alike(&Request::List { index }, &image, 476);
+        alike(&Request::List { index }, &image, 475);
+        alike(&find(&name(index)), &image, 0);
+    }
+    for index in [0, 1, 2, 513, 1_022, 1_023] {
+        let size = 63 * 65_536;
+        for edge in [0, 65_536, size / 2, size - 65_536] {
+            // Noise where the span is read, so that a wrong extent shows.
+            scatter_noise(&mut image, &mut draw);
+            for (offset, count) in [(edge, 65_536), (edge + 65_535, 65_536), (edge + 1, 600)] {
+                alike(&read(&name(index), offset, count), &image, 65_536);
+            }
+        }
+    }
+    let long_after = read(&name(1_023), 64 * 65_536 + 1, 1);
+    assert_eq!(alike(&long_after, &image, 1).0.code(), 12);
+}
+
+/// Bytes here and there in the data area.
+fn scatter_noise(image: &mut [u8], draw: &mut Draw) {
+    let data = geometry().data_at().0 as usize * SECTOR;
+    for _ in 0..200 {
+        let at = data + draw.below((image.len() - data - 8) as u64) as usize;
+        put64(image, at, draw.number());
+    }
+}
+
+/// Each fault at its first and last places.
+#[test]
+fn every_fault() {
+    let _alone = alone();
+    let mut image = full();
+    let mut expect = |at: usize, bytes: &[u8], fault: (u64, u64)| {
+        let old = image[at..at + bytes.len()].to_vec();
+        image[at..at + bytes.len()].copy_from_slice(bytes);
+        for request in [Request::Check, find(&name(9)), Request::List { index: 9 }] {
+            alike(&request, &image, 476);
+        }
+        let told = oracle::check(&image);
+        assert_eq!((told.fault, told.place), fault, "byte {at}");
+        image[at..at + old.len()].copy_from_slice(&old);
+    };
+    for index in [0, 1, 1_022, 1_023] {
+        expect(entry_field(index, 0), &[255, 254], (21, index));
+        expect(entry_field(index, 34), &[1, 221], (22, index));
+        expect(entry_field(index, 36 + 475), &[0], (22, index));
+        expect(entry_field(index, 2), &[0; 8], (26, index));
+        expect(entry_field(index, 14), &[0; 8], (24, index));
+    }
+    expect(entry_field(1_023, 36), &name(0), (23, 1_023));
+    expect(entry_field(1_023, 36), &name(1_022), (23, 1_023));
+    expect(entry_field(0, 36), &name(1), (23, 1));
+    let id = |index: u64| (0xfedc_ba98_0000_0000 + index).to_be_bytes();
+    expect(entry_field(1_023, 14), &id(0), (24, 1_023));
+    expect(entry_field(0, 14), &id(1_023), (24, 1_023));
+    expect(entry_field(500, 14), &900_u64.to_be_bytes(), (24, 500));
+    let table = |extent| table_entry(geometry(), extent);
+    for extent in [0, 127, 128, 65_529] {
+        expect(table(extent), &[4, 0], (25, extent));
+    }
+    for extent in [65_530, 65_534] {
+        expect(table(extent), &[0, 0], (25, extent));
+    }
+    let owner = |image: &[u8], extent| {
+        u64::from(u16::from_be_bytes([
+            image[table(extent)],
+            image[table(extent) + 1],
+        ]))
+    };
+    let owners = [0, 65_529].map(|extent| (extent, owner(&full_table(), extent)));
+    for (extent, owner) in owners {
+        expect(table(extent) + 2, &[255, 255], (26, owner));
+        expect(table(extent), &[255, 255], (26, owner));
+    }
+}
+
+/// Only the start of the full image, up to the end of the table.
+fn full_table() -> Vec<u8> {
+    let mut image = full();
+    image.truncate(geometry().data_at().0 as usize * SECTOR);
+    image.shrink_to_fit();
+    image
+}
+
+/// One file with all extents, in falling order; then nearly nothing.
+#[test]
+fn one_file_with_everything() {
+    let _alone = alone();
+    let geometry = geometry();
+    let mut image = blank(geometry, geometry.end().0);
+    assert_eq!(alike(&Request::Check, &image, 0).0.code(), 0);
+    let extents: Vec<u64> = (0..geometry.usable_extents()).rev().collect();
+    let size = geometry.largest_size();
+    put_file(&mut image, geometry, 1_023, b"all", size, &extents);
+    assert_eq!(alike(&Request::Check, &image, 0).0.code(), 0);
+    let mut draw = Draw::new(42);
+    for offset in [0, 65_535, size / 2 + 1, size - 65_536, size - 1, size] {
+        scatter_noise(&mut image, &mut draw);
+        alike(&read(b"all", offset, 65_536), &image, 65_536);
+    }
+    for (at, bytes) in [(2, [255, 249]), (0, [255, 255]), (2, [0, 1])] {
+        let entry = table_entry(geometry, 32_000);
+        let old = image[entry..entry + 4].to_vec();
+        image[entry + at..entry + at + 2].copy_from_slice(&bytes);
+        assert_eq!(alike(&Request::Check, &image, 0).0.code(), 7);
+        image[entry..entry + 4].copy_from_slice(&old);
+    }
+    put16(&mut image, 18, 1_024);
+    assert_eq!(alike(&Request::Check, &image, 0).0.code(), 5);
+}

@@ -1,0 +1,168 @@
+//! Other geometries than a format gives: extents of an odd number of sectors, reserves of more than
+//! one extent, every number of files, images of exactly the volume and one sector less.
+
+use crate::shared::{alike, blank, find, put_file, read, table_entry, ANY_LIST};
+use oracle::draw::Draw;
+use oracle::layout::{put16, put64, Geometry, SECTOR};
+use oracle::Request;
+
+/// Fills a volume with files of random lengths in random extents, as many as there are.
+fn fill(image: &mut [u8], geometry: Geometry, draw: &mut Draw) -> Vec<(Vec<u8>, u64)> {
+    let extent_bytes = geometry.extent_bytes();
+    let mut free: Vec<u64> = (0..geometry.usable_extents()).collect();
+    for at in (1..free.len()).rev() {
+        free.swap(at, draw.below(at as u64 + 1) as usize);
+    }
+    let mut files = Vec::new();
+    let mut index = 0;
+    while index < geometry.files() && files.len() < 12 {
+        let most = (free.len() as u64).min(40);
+        let count = draw.below(most + 1);
+        let size = match count {
+            0 => 0,
+            _ => (count - 1) * extent_bytes + draw.between(1, extent_bytes),
+        };
+        let extents = free.split_off(free.len() - count as usize);
+        let name = format!("file {index}").into_bytes();
+        put_file(image, geometry, index, &name, size, &extents);
+        for extent in extents.iter().rev().take(3).chain(extents.first()) {
+            let start = (geometry.data_at().0 + extent * geometry.extent_sectors()) as usize;
+            let bytes = &mut image[start * SECTOR..][..extent_bytes as usize];
+            draw.fill(bytes);
+        }
+        files.push((name, size));
+        index += draw.between(1, geometry.files() / 12);
+    }
+    files
+}
+
+/// Every reading call on the files, with spans around the extents' edges.
+fn all_alike(image: &[u8], geometry: Geometry, files: &[(Vec<u8>, u64)], draw: &mut Draw) {
+    alike(&Request::Summary, image, 0);
+    let (answer, _) = alike(&Request::Check, image, 0);
+    assert_eq!(answer.code(), 0);
+    for index in [0, 1, geometry.files() - 1, geometry.files()] {
+        alike(&Request::List { index }, image, 100);
+    }
+    for (name, size) in files {
+        alike(&find(name), image, 0);
+        let edge = geometry.extent_bytes() * draw.below(size / geometry.extent_bytes() + 1);
+        for offset in [0, edge.max(1) - 1, edge, edge + 1, draw.below(size + 1)] {
+            for count in [1, 513, 65_536] {
+                alike(&read(name, offset, count), image, 65_536);
+            }
+        }
+    }
+}
+
+/// An owner in the first reserve extent, a size at its bound and above it, the last entry.
+fn edges_alike(image: &mut [u8], geometry: Geometry) {
+    let usable = geometry.usable_extents();
+    let mut try_field = |at: usize, width: usize, number: u64| {
+        let old = image[at..at + width].to_vec();
+        match width {
+            2 => put16(image, at, number as u16),
+            _ => put64(image, at, number),
+        }
+        let (answer, _) = alike(&Request::Check, image, 0);
+        image[at..at + width].copy_from_slice(&old);
+        answer
+    };
+    for extent in [0, usable - 1, usable, geometry.extents() - 1] {
+        for owner in [0, 1, geometry.files() - 1, geometry.files(), 65_534, 65_535] {
+            try_field(table_entry(geometry, extent), 2, owner);
+        }
+        for offset in [0, 1, usable - 1, usable, 65_535] {
+            try_field(table_entry(geometry, extent) + 2, 2, offset);
+        }
+    }
+    let largest = geometry.largest_size();
+    for size in [0, 1, largest - 1, largest, largest + 1, u64::MAX] {
+        try_field(2 * SECTOR + 2, 8, size);
+    }
+    try_field((1 + geometry.files() as usize) * SECTOR, 2, 7);
+}
+
+fn one_geometry(files: u64, extents: u64, extent_sectors: u64, reserve: u64, seed: u64) {
+    let geometry = Geometry::new(files, extents, extent_sectors).expect("within the bounds");
+    assert_eq!(geometry.reserve_extents(), reserve);
+    let mut draw = Draw::new(seed);
+    let mut image = blank(geometry, geometry.end().0);
+    let empty = [(b"none".to_vec(), 0)];
+    all_alike(&image, geometry, &empty, &mut draw);
+    let files = fill(&mut image, geometry, &mut draw);
+    all_alike(&image, geometry, &files, &mut draw);
+    edges_alike(&mut image, geometry);
+
+    let short = image.len() - SECTOR;
+    let (answer, _) = alike(&Request::Check, &image[..short], 0);
+    assert_eq!(answer.code(), 3);
+}
+
+#[test]
+fn odd_extent_sectors() {
+    for (seed, extent_sectors) in [129, 131, 257, 255, 300, 1_001].into_iter().enumerate() {
+        one_geometry(255, 9, extent_sectors, 1, seed as u64);
+        one_geometry(
+            700 + extent_sectors % 300,
+            40,
+            extent_sectors,
+            1,
+            seed as u64,
+        );
+    }
+}
+
+#[test]
+fn few_extents() {
+    for (seed, extents) in [2, 3, 127, 128, 129, 256, 257].into_iter().enumerate() {
+        one_geometry(255, extents, 128, 1, seed as u64);
+    }
+}
+
+#[test]
+fn every_number_of_files() {
+    for files in [255, 256, 257, 511, 512, 767, 1_023, 1_024] {
+        one_geometry(files, 12, 128, 1, files);
+    }
+}
+
+/// T + 2 sectors to stage and S in an extent: the reserve has one extent up to 126 table sectors
+/// of extents of 128 sectors, then two.
+#[test]
+fn reserves_of_several_extents() {
+    one_geometry(255, 126 * 128, 128, 1, 1);
+    one_geometry(255, 126 * 128 + 1, 128, 2, 2);
+    one_geometry(300, 127 * 128, 129, 1, 3);
+    one_geometry(300, 127 * 128 + 1, 129, 2, 4);
+    one_geometry(1_024, 255 * 128, 128, 3, 5);
+}
+
+/// Volumes far longer than any image are refused, and no product overflows.
+#[test]
+fn geometries_too_large_for_the_image() {
+    for (files, extents, extent_sectors) in [
+        (255, 2, u64::from(u32::MAX)),
+        (1_024, 65_535, u64::from(u32::MAX)),
+        (1_024, 65_535, 1 << 31),
+        (255, 65_535, 128),
+        (255, 32_768, 1 << 25),
+    ] {
+        let geometry = Geometry::new(files, extents, extent_sectors).expect("within the bounds");
+        let image = blank_start(geometry);
+        for request in crate::shared::calls() {
+            let (answer, _) = alike(&request, &image, ANY_LIST);
+            assert_eq!(answer.code(), 3);
+        }
+    }
+}
+
+/// The first sectors of a volume that is much longer.
+fn blank_start(geometry: Geometry) -> Vec<u8> {
+    let small = Geometry::new(255, 2, 128).expect("within the bounds");
+    let mut image = blank(small, 2_000);
+    put16(&mut image, 0, geometry.files() as u16);
+    put16(&mut image, 2, geometry.extents() as u16);
+    image[4..8].copy_from_slice(&(geometry.extent_sectors() as u32).to_be_bytes());
+    image
+}

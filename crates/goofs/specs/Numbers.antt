@@ -4,6 +4,9 @@ use Rattle.model.specs.declared.Checked.{Checked}
 use Rattle.model.specs.declared.Found.{Found}
 use Rattle.model.specs.declared.Listed.{Listed}
 use Rattle.model.specs.declared.BytesRead.{BytesRead}
+use Rattle.model.specs.declared.Changed.{Changed}
+use Rattle.model.specs.declared.Recovered.{Recovered}
+use Rattle.model.specs.declared.Formatted.{Formatted}
 use Rattle.model.specs.Geometry.{extentSectors}
 use Rattle.model.specs.Summary.{stateCode, stateEntries}
 use Rattle.goofs.specs.declared.SummaryResult.{SummaryResult}
@@ -11,6 +14,9 @@ use Rattle.goofs.specs.declared.CheckResult.{CheckResult}
 use Rattle.goofs.specs.declared.FindResult.{FindResult}
 use Rattle.goofs.specs.declared.ListResult.{ListResult}
 use Rattle.goofs.specs.declared.ReadResult.{ReadResult}
+use Rattle.goofs.specs.declared.ChangeResult.{ChangeResult}
+use Rattle.goofs.specs.declared.RecoverResult.{RecoverResult}
+use Rattle.goofs.specs.declared.FormatResult.{FormatResult}
 
 abbrev pub summaryNumbers : Summarized → SummaryResult
 summaryNumbers a = record {
@@ -41,3 +47,12 @@ listNumbers a = record {
 
 abbrev pub readNumbers : BytesRead → ReadResult
 readNumbers a = record { code = a .verdict .number; fault = a .verdict .fault; place = a .verdict .place; count = a .count }
+
+abbrev pub changeNumbers : Changed → ChangeResult
+changeNumbers a = record { code = a .verdict .number; fault = a .verdict .fault; place = a .verdict .place; length = a .length }
+
+abbrev pub recoverNumbers : Recovered → RecoverResult
+recoverNumbers a = record { code = a .number; length = a .length }
+
+abbrev pub formatNumbers : Formatted → FormatResult
+formatNumbers a = record { code = a .number; length = a .length }

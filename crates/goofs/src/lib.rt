@@ -1,6 +1,7 @@
 // The C interface: every call under its plain name, thin over the proved calls. A slice passes as pointer and length; results are
 // structs of numbers. `include/goofs.h` declares it.
 use model::BytesRead;
+use model::Changed;
 use model::Checked;
 use model::Found;
 use model::Listed;
@@ -13,7 +14,14 @@ ghost use Rattle.model.specs.Summary.{stateCode, stateEntries, summaryAnswer, c
 ghost use Rattle.model.specs.Find.{findAnswer};
 ghost use Rattle.model.specs.Listing.{listAnswer, listOutput};
 ghost use Rattle.model.specs.Read.{readAnswer, readOutput};
-ghost use Rattle.goofs.specs.Numbers.{summaryNumbers, checkNumbers, findNumbers, listNumbers, readNumbers};
+ghost use Rattle.model.specs.Create.{createAnswer, createList};
+ghost use Rattle.model.specs.Delete.{deleteAnswer, deleteList};
+ghost use Rattle.model.specs.Resize.{resizeAnswer, resizeList};
+ghost use Rattle.model.specs.Write.{writeAnswer, writeList};
+ghost use Rattle.model.specs.Recovery.{recoveryAnswer, recoveryList};
+ghost use Rattle.model.specs.Format.{formatAnswer, formatOutput};
+ghost use Rattle.model.specs.CarryOut.{carryAnswer, carryImage};
+ghost use Rattle.goofs.specs.Numbers.{summaryNumbers, checkNumbers, findNumbers, listNumbers, readNumbers, changeNumbers, recoverNumbers, formatNumbers};
 
 // ---- summary
 
@@ -217,4 +225,91 @@ pub extern "C" fn goofs_read(img: &[u8], name: &[u8], offset: u64, count: u64, o
 {
     let a = queries::read(img, name, offset, count, out);
     read_result(a)
+}
+
+// ---- create, delete, resize, write
+
+#[repr(C)]
+pub struct ChangeResult {
+    pub code: u64,
+    pub fault: u64,
+    pub place: u64,
+    pub length: u64,
+}
+
+fn change_result(a: Changed) -> ChangeResult
+    ensures { λ r. ⌜ r ≡ changeNumbers a ⌝ }
+{
+    let v = a.verdict;
+    ChangeResult {
+        code: v.number,
+        fault: v.fault,
+        place: v.place,
+        length: a.length,
+    }
+}
+
+#[no_mangle]
+pub extern "C" fn goofs_create(img: &[u8], name: &[u8], id: u64, mode: u32, time: u32, list: &mut [u8]) -> ChangeResult
+    ensures { λ r. ⌜ r ≡ changeNumbers (createAnswer (length (now (img .entry))) (view (now (img .entry))) (now (name .entry)) id mode time (length (now (list .entry)))) ⌝ }
+    ensures { λ _. ⌜ now (list .exit) ≡ createList (length (now (img .entry))) (view (now (img .entry))) (now (name .entry)) id mode time (now (list .entry)) ⌝ }
+{
+    let a = changes::create(img, name, id, mode, time, list);
+    change_result(a)
+}
+
+#[no_mangle]
+pub extern "C" fn goofs_delete(img: &[u8], name: &[u8], time: u32, list: &mut [u8]) -> ChangeResult
+    ensures { λ r. ⌜ r ≡ changeNumbers (deleteAnswer (length (now (img .entry))) (view (now (img .entry))) (now (name .entry)) time (length (now (list .entry)))) ⌝ }
+    ensures { λ _. ⌜ now (list .exit) ≡ deleteList (length (now (img .entry))) (view (now (img .entry))) (now (name .entry)) time (now (list .entry)) ⌝ }
+{
+    let a = changes::delete(img, name, time, list);
+    change_result(a)
+}
+
+// ---- recovery, format, carrying out
+
+#[repr(C)]
+pub struct RecoverResult {
+    pub code: u64,
+    pub length: u64,
+}
+
+#[no_mangle]
+pub extern "C" fn goofs_recover(img: &[u8], list: &mut [u8]) -> RecoverResult
+    ensures { λ r. ⌜ r ≡ recoverNumbers (recoveryAnswer (length (now (img .entry))) (view (now (img .entry))) (length (now (list .entry)))) ⌝ }
+    ensures { λ _. ⌜ now (list .exit) ≡ recoveryList (length (now (img .entry))) (view (now (img .entry))) (now (list .entry)) ⌝ }
+{
+    let a = recovery::recover(img, list);
+    RecoverResult {
+        code: a.number,
+        length: a.length,
+    }
+}
+
+#[repr(C)]
+pub struct FormatResult {
+    pub code: u64,
+    pub length: u64,
+}
+
+#[no_mangle]
+pub extern "C" fn goofs_format_record(sectors: u64, files: u64, id: u64, mode: u32, time: u32, position: u64, out: &mut [u8]) -> FormatResult
+    ensures { λ r. ⌜ r ≡ formatNumbers (formatAnswer (record { sectors = sectors; files = files; id = id; mode = mode; time = time }) position (length (now (out .entry)))) ⌝ }
+    ensures { λ _. ⌜ now (out .exit) ≡ formatOutput (record { sectors = sectors; files = files; id = id; mode = mode; time = time }) position (now (out .entry)) ⌝ }
+{
+    let a = format::format_record(sectors, files, id, mode, time, position, out);
+    FormatResult {
+        code: a.number,
+        length: a.length,
+    }
+}
+
+#[no_mangle]
+pub extern "C" fn goofs_carry_out(img: &mut [u8], list: &[u8]) -> u64
+    ensures { λ r. ⌜ r ≡ carryAnswer (now (img .entry)) (now (list .entry)) .number ⌝ }
+    ensures { λ _. ⌜ now (img .exit) ≡ carryImage (now (img .entry)) (now (list .entry)) ⌝ }
+{
+    let a = carrying::carry_out(img, list);
+    a.number
 }

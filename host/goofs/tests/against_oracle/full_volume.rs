@@ -10,7 +10,7 @@ use oracle::Request;
 
 static ONE_AT_A_TIME: Mutex<()> = Mutex::new(());
 
-fn alone() -> MutexGuard<'static, ()> {
+pub fn alone() -> MutexGuard<'static, ()> {
     // A test that failed leaves nothing behind that the next could stumble over.
     ONE_AT_A_TIME
         .lock()

@@ -9,3 +9,20 @@ mod full_volume;
 mod geometries;
 mod sample;
 mod shared;
+
+#[cfg(feature = "changes")]
+mod carrying_out;
+#[cfg(feature = "changes")]
+mod cases;
+#[cfg(feature = "changes")]
+mod changes;
+#[cfg(feature = "changes")]
+mod formats;
+#[cfg(feature = "changes")]
+mod longest_lists;
+#[cfg(feature = "changes")]
+mod recoveries;
+#[cfg(feature = "changes")]
+mod runs;
+#[cfg(feature = "changes")]
+mod shared_changes;

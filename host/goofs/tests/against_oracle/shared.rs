@@ -37,6 +37,7 @@ macro_rules! as_oracle {
         oracle::answers::$kind { $($field),* }
     }};
 }
+#[cfg(feature = "changes")]
 pub(crate) use as_oracle;
 
 /// Puts a call to the proved code.

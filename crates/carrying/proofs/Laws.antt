@@ -1,0 +1,85 @@
+-- Laws of carrying out: writes one after the other, and the answer by the code's tests. Assumes nothing.
+use Prim.Native.Nat.{ℕ, _+_, _*_, _/_, _%_, _<_}
+use mathlib.Core.Path.{_≡_, refl, sym, ap, _∙_}
+use mathlib.Core.Bool.{Bool, true, false, cond, not, true≢false}
+use mathlib.Core.List.{List, [], _∷_, _++_}
+use native.Mathlib.Nat.{zero-add}
+use lib.Dec.{eqb, leb}
+use lib.ListN.{length, getD}
+use borrow.Author.Tests.{eq-eqb, ne-eqb, leb-false}
+use Rattle.model.specs.Bytes.{beAt, run, put}
+use Rattle.model.specs.Search.{some, every, tab}
+use Rattle.model.specs.Refusals.{verdictOf, refusal, isWhole}
+use Rattle.model.specs.WriteList.{Record, barrierNumber, stored}
+use Rattle.model.specs.CarryOut.{recordIn, recordsIn, badRecord, carryVerdict, carryAnswer, carryImage}
+use Rattle.laws.proofs.Bytes.{getD-run}
+use Rattle.laws.proofs.Search.{every-ext, some-true, tab-more}
+
+-- where no index passes, each fails
+pub none-at : (p : ℕ → Bool) (n : ℕ) → some p n ≡ false → (j : ℕ) → j < n → p j ≡ false
+none-at p n e j h = go (p j) refl
+  where
+    go : (b : Bool) → p j ≡ b → p j ≡ false
+    go true q = absurd (true≢false (sym (some-true p j n h q) ∙ e))
+    go false q = q
+
+-- ---- writes
+
+pub stored-append : (a b : List Record) (img : List ℕ) → stored (a ++ b) img ≡ stored b (stored a img)
+unfolding stored
+stored-append [] b img = refl
+stored-append (r ∷ a) b img = stored-append a b (cond (eqb (r .sector) barrierNumber) img (put img (512 * r .sector) (r .contents)))
+
+pub stored-more : (list : List ℕ) (k : ℕ) (img : List ℕ) → stored (tab (recordIn list) 0 (k + 1)) img ≡ stored (recordIn list k ∷ []) (stored (tab (recordIn list) 0 k) img)
+stored-more list k img = rw (tab-more (recordIn list) 0 k, zero-add k) (stored-append (tab (recordIn list) 0 k) (recordIn list k ∷ []) img)
+
+-- ---- a record, by its number
+
+module _ (list : List ℕ) (k s : ℕ) (is : s ≡ beAt list (k * 520) 8) where
+  pub barrier-bad : (sectors : ℕ) → s ≡ barrierNumber → not (every (λ b. eqb (getD list (k * 520 + 8 + b) 0) 0) 512) ≡ badRecord sectors list k
+  unfolding badRecord recordIn
+  barrier-bad sectors e =
+      rw (← is, eq-eqb _ _ e)
+      (ap not (sym (every-ext _ _ 512 (λ b l. ap (λ x. eqb x 0) (getD-run list (k * 520 + 8) 512 b l)))))
+
+  pub sector-bad : (sectors : ℕ) → (s ≡ barrierNumber → ⊥) → leb sectors s ≡ badRecord sectors list k
+  unfolding badRecord recordIn
+  sector-bad sectors e = rw (← is, ne-eqb _ _ e)
+
+  -- a good record's sector lies in the image
+  pub sector-inside : (sectors : ℕ) → (s ≡ barrierNumber → ⊥) → badRecord sectors list k ≡ false → s < sectors
+  sector-inside sectors e f = leb-false sectors s (sector-bad sectors e ∙ f)
+
+  pub barrier-stored : (img : List ℕ) → s ≡ barrierNumber → img ≡ stored (recordIn list k ∷ []) img
+  unfolding stored recordIn
+  barrier-stored img e = rw (← is, eq-eqb _ _ e)
+
+  pub sector-stored : (img : List ℕ) → (s ≡ barrierNumber → ⊥) → put img (512 * s) (run list (k * 520 + 8) 512) ≡ stored (recordIn list k ∷ []) img
+  unfolding stored recordIn
+  sector-stored img e = rw (← is, ne-eqb _ _ e)
+
+-- ---- the answer
+
+module _ (img list : List ℕ) where
+  refused-by : (n : ℕ) → eqb n 0 ≡ false → carryVerdict img list ≡ refusal n → (record { number = n } ≡ carryAnswer img list) × (img ≡ carryImage img list)
+  unfolding carryAnswer carryImage
+  refused-by n z e = (rw e, rw (e, z))
+
+  pub refused-1 : isWhole (length img) ≡ false → (record { number = 1 } ≡ carryAnswer img list) × (img ≡ carryImage img list)
+  unfolding carryVerdict verdictOf
+  refused-1 w = refused-by 1 refl (rw w)
+
+  module _ (whole : isWhole (length img) ≡ true) where
+    pub cut-record : (length list % 520 ≡ 0 → ⊥) → (record { number = 8 } ≡ carryAnswer img list) × (img ≡ carryImage img list)
+    unfolding carryVerdict verdictOf
+    cut-record h = refused-by 8 refl (rw (whole, ne-eqb _ _ h))
+
+    module _ (records : length list % 520 ≡ 0) where
+      pub bad-record : some (badRecord (length img / 512) list) (length list / 520) ≡ true → (record { number = 8 } ≡ carryAnswer img list) × (img ≡ carryImage img list)
+      unfolding carryVerdict verdictOf
+      bad-record b = refused-by 8 refl (rw (whole, eq-eqb _ _ records, b))
+
+      pub carried : some (badRecord (length img / 512) list) (length list / 520) ≡ false
+          → (record { number = 0 } ≡ carryAnswer img list) × (stored (recordsIn list) img ≡ carryImage img list)
+      unfolding carryVerdict verdictOf carryAnswer carryImage
+      carried b = (rw (whole, eq-eqb _ _ records, b), rw (whole, eq-eqb _ _ records, b))

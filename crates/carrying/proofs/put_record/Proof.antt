@@ -1,0 +1,55 @@
+use borrow.Author.Needs.{needs}
+use Prim.Native.Nat.{_/_}
+use mathlib.Core.Path.{_∙_}
+use native.Mathlib.Omega.{arith}
+use lib.ListN.{length}
+use Rattle.carrying.proofs.Laws.{sector-inside, barrier-stored, sector-stored}
+use Rattle.carrying.proofs.put_record.Statement.{statement}
+use Rattle.carrying.proofs.put_record.Tie as tie
+
+mul-at : tie.Need-mul-at
+mul-at c = search needs
+
+be64-requires : tie.Need-be64-requires
+be64-requires c κs = search needs
+
+returns : tie.Need-returns
+returns c =
+    let a = c .before .before .before .before .args in
+    barrier-stored (a .list .now) (a .k) (c .before .be64 .result) (c .before .be64 .ensures) (a .img .now) (c .if1 .taken)
+
+add-copy-run : tie.Need-add-copy-run
+add-copy-run c = search needs
+
+mul-copy-run : tie.Need-mul-copy-run
+mul-copy-run c =
+    let a = c .before .before .before .before .before .args in
+    let inside = sector-inside (a .list .now) (a .k) (c .before .before .be64 .result) (c .before .before .be64 .ensures) (length (a .img .now) / 512) (c .before .if1 .left) (c .before .before .before .before .before .pre .1) in
+    omega arith
+
+copy-run-requires : tie.Need-copy-run-requires
+copy-run-requires c κs =
+    let a = c .before .before .before .before .before .args in
+    let inside = sector-inside (a .list .now) (a .k) (c .before .before .be64 .result) (c .before .before .be64 .ensures) (length (a .img .now) / 512) (c .before .if1 .left) (c .before .before .before .before .before .pre .1) in
+    (omega arith, omega arith)
+
+same-length : tie.Need-same-length
+same-length c = search needs
+
+returns-2 : tie.Need-returns-2
+returns-2 c =
+    let a = c .before .before .before .before .before .before .before .before .args in
+    c .before .before .copy-run .ensures ∙ sector-stored (a .list .now) (a .k) (c .before .before .before .before .before .be64 .result) (c .before .before .before .before .before .be64 .ensures) (a .img .now) (c .before .before .before .before .if1 .left)
+
+pub put-record-spec : {M : Type 1} → statement M
+put-record-spec =
+    tie.close
+    (tie.spec
+    mul-at
+    be64-requires
+    returns
+    add-copy-run
+    mul-copy-run
+    copy-run-requires
+    same-length
+    returns-2)

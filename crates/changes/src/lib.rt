@@ -1,0 +1,31 @@
+// The calls that fill a write list, on any bytes and any arguments: create, delete, resize, write. The image is only read.
+use model::Changed;
+ghost use mathlib.Core.Path.{_≡_};
+ghost use lib.ListN.{length};
+ghost use Rattle.model.specs.Disk.{view};
+ghost use Rattle.model.specs.Create.{createAnswer, createList};
+ghost use Rattle.model.specs.Delete.{deleteAnswer, deleteList};
+ghost use Rattle.model.specs.Resize.{resizeAnswer, resizeList};
+ghost use Rattle.model.specs.Write.{writeAnswer, writeList};
+
+pub fn create(img: &[u8], name: &[u8], id: u64, mode: u32, time: u32, list: &mut [u8]) -> Changed
+    ensures { λ r. ⌜ r ≡ createAnswer (length (now (img .entry))) (view (now (img .entry))) (now (name .entry)) id mode time (length (now (list .entry))) ⌝ }
+    ensures { λ _. ⌜ now (list .exit) ≡ createList (length (now (img .entry))) (view (now (img .entry))) (now (name .entry)) id mode time (now (list .entry)) ⌝ }
+{
+    let v = soundness::judge(img);
+    if v.number == 0 {
+        return create::create_in(img, list, name, id, mode, time);
+    }
+    commit::refused(v)
+}
+
+pub fn delete(img: &[u8], name: &[u8], time: u32, list: &mut [u8]) -> Changed
+    ensures { λ r. ⌜ r ≡ deleteAnswer (length (now (img .entry))) (view (now (img .entry))) (now (name .entry)) time (length (now (list .entry))) ⌝ }
+    ensures { λ _. ⌜ now (list .exit) ≡ deleteList (length (now (img .entry))) (view (now (img .entry))) (now (name .entry)) time (now (list .entry)) ⌝ }
+{
+    let v = soundness::judge(img);
+    if v.number == 0 {
+        return delete::delete_in(img, name, time, list);
+    }
+    commit::refused(v)
+}

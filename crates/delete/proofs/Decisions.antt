@@ -1,0 +1,116 @@
+-- How long the lists of a delete and of a shrink are, and what a delete comes to, test by test. Assumes nothing.
+use Prim.Native.Nat.{ℕ, zero, suc, _+_, _*_, _≤_, _<_}
+use mathlib.Core.Path.{_≡_, refl, sym, ap, ap₂, _∙_}
+use mathlib.Core.Bool.{Bool, true, false, cond}
+use mathlib.Core.List.{List, [], _∷_}
+use mathlib.Core.Option.{some as just}
+use native.Mathlib.Nat.{zero-add}
+use native.Mathlib.Omega.{arith}
+use lib.ListN.{length, length-append}
+use Rattle.model.specs.declared.Changed.{Changed}
+use Rattle.model.specs.declared.Geometry.{Geometry}
+use Rattle.model.specs.declared.Place.{Place}
+use Rattle.model.specs.declared.Place.the-variants.{At, Nowhere}
+use Rattle.model.specs.Search.{flat, count, indexOf}
+use Rattle.model.specs.Geometry.{superblockAt, tableSectors, extentsFor}
+use Rattle.model.specs.Disk.{Disk, view}
+use Rattle.model.specs.Superblock.{geometryIn}
+use Rattle.model.specs.Entry.{badName}
+use Rattle.model.specs.Catalogue.{Catalogue, catalogueOf, fileNamed, holdsBeyond, sectorsBeyond}
+use Rattle.model.specs.Refusals.{Conditions, verdictOf, refusal, done, judged}
+use Rattle.model.specs.WriteList.{Record, Plan, Emitted, closed, recordSize, recordCount, groupsFor, listLength}
+use Rattle.model.specs.Find.{nameConditions}
+use Rattle.model.specs.Delete.{freedSector, freedSectors, deletePlan, deleteDecision, deleteAnswer, deleteList}
+use Rattle.model.specs.Resize.{shrinkPlan}
+use Rattle.commit.proofs.Records.{plan-needs}
+use Rattle.commit.proofs.Decided.{refused-by-own, refused-as-short, done-as-planned}
+use Rattle.delete.proofs.Laws.{shrink-targets, shrink-alone}
+
+-- ---- how many table sectors are freed, how many bytes a list takes
+
+length-if : (r : Record) (b : Bool) → length (cond b (r ∷ []) []) ≡ cond b 1 0
+length-if r true = refl
+length-if r false = refl
+
+module _ (c : Catalogue) (d : Disk) (i o : ℕ) where
+  length-freed-one : (t : ℕ) → length (freedSector c d i o t) ≡ cond (holdsBeyond c i o t) 1 0
+  unfolding freedSector
+  length-freed-one t = length-if _ (holdsBeyond c i o t)
+
+  length-freed-flat : (n : ℕ) → length (flat (freedSector c d i o) 0 n) ≡ count (holdsBeyond c i o) n
+  unfolding flat count
+  length-freed-flat zero = refl
+  length-freed-flat (suc n) =
+      length-append (flat (freedSector c d i o) 0 n) (freedSector c d i o (0 + n))
+      ∙ ap (λ (t : ℕ). length (flat (freedSector c d i o) 0 n) + length (freedSector c d i o t)) (zero-add n)
+      ∙ omega (arith, length-freed-flat n, length-freed-one n)
+
+  pub length-freed : length (freedSectors c d i o) ≡ sectorsBeyond c i o
+  unfolding freedSectors sectorsBeyond
+  length-freed = length-freed-flat (tableSectors (c .geometry))
+
+pub delete-needs : (d : Disk) (i time : ℕ) → listLength (groupsFor d (just (deletePlan (catalogueOf d) d i time))) ≡ recordCount 0 (2 + sectorsBeyond (catalogueOf d) i 0) * recordSize
+unfolding deletePlan
+delete-needs d i time =
+    plan-needs d (deletePlan (catalogueOf d) d i time)
+    ∙ ap (λ n. recordCount 0 n * recordSize) (let e : length (deletePlan (catalogueOf d) d i time .targets) ≡ 2 + sectorsBeyond (catalogueOf d) i 0 = omega (arith, length-freed (catalogueOf d) d i 0) in e)
+
+pub shrink-needs : (d : Disk) (g : Geometry) → g ≡ geometryIn (d superblockAt) → (i z time : ℕ)
+    → listLength (groupsFor d (just (shrinkPlan (catalogueOf d) d i z time))) ≡ recordCount 0 (1 + sectorsBeyond (catalogueOf d) i (extentsFor g z)) * recordSize
+shrink-needs d g is i z time =
+    plan-needs d (shrinkPlan (catalogueOf d) d i z time)
+    ∙ ap₂ (λ m n. recordCount m n * recordSize) (ap length (shrink-alone d i z time))
+    (ap length (shrink-targets d g is i z time) ∙ (let e : suc (length (freedSectors (catalogueOf d) d i (extentsFor g z))) ≡ 1 + sectorsBeyond (catalogueOf d) i (extentsFor g z) = omega (arith, length-freed (catalogueOf d) d i (extentsFor g z)) in e))
+
+-- ---- delete's answer and list, test by test
+
+abbrev pub Comes : List ℕ → List ℕ → List ℕ → ℕ → Changed → List ℕ → Type 0
+Comes img list name time answer after =
+    (answer ≡ deleteAnswer (length img) (view img) name time (length list)) × (after ≡ deleteList (length img) (view img) name time list)
+
+module _ (img list name : List ℕ) (time : ℕ) (ok : judged (length img) (view img) .number ≡ 0) where
+  abbrev c : Catalogue
+  c = catalogueOf (view img)
+
+  abbrev cs : Conditions
+  cs = nameConditions c name
+
+  abbrev plan : Plan
+  plan = deletePlan c (view img) (indexOf (fileNamed c name)) time
+
+  bad : badName name ≡ true → refusal 8 ≡ verdictOf cs
+  unfolding verdictOf nameConditions
+  bad h = rw h
+
+  missing : badName name ≡ false → fileNamed c name ≡ Nowhere → refusal 9 ≡ verdictOf cs
+  unfolding verdictOf nameConditions
+  missing h n = rw (h, n)
+
+  pub delete-bad : badName name ≡ true → Comes img list name time (record { verdict = refusal 8; length = 0 }) list
+  unfolding deleteAnswer deleteList deleteDecision
+  delete-bad h = refused-by-own (length img) (view img) cs (just plan) list ok (refusal 8) (bad h) (λ (e : _≡_ {A = ℕ} 8 0). omega arith)
+
+  pub delete-missing : badName name ≡ false → fileNamed c name ≡ Nowhere → Comes img list name time (record { verdict = refusal 9; length = 0 }) list
+  unfolding deleteAnswer deleteList deleteDecision
+  delete-missing h n = refused-by-own (length img) (view img) cs (just plan) list ok (refusal 9) (missing h n) (λ (e : _≡_ {A = ℕ} 9 0). omega arith)
+
+  module _ (i : ℕ) (good : badName name ≡ false) (found : fileNamed c name ≡ At i) where
+    own : done ≡ verdictOf cs
+    unfolding verdictOf nameConditions
+    own = rw (good, found)
+
+    plan-is : plan ≡ deletePlan c (view img) i time
+    plan-is = ap (λ (x : Place). deletePlan c (view img) (indexOf x) time) found
+
+    needs : listLength (groupsFor (view img) (just plan)) ≡ recordCount 0 (2 + sectorsBeyond c i 0) * recordSize
+    needs = ap (λ (p : Plan). listLength (groupsFor (view img) (just p))) plan-is ∙ delete-needs (view img) i time
+
+    pub delete-short : length list < recordCount 0 (2 + sectorsBeyond c i 0) * recordSize → Comes img list name time (record { verdict = refusal 14; length = 0 }) list
+    unfolding deleteAnswer deleteList deleteDecision
+    delete-short h = refused-as-short (length img) (view img) cs (just plan) list ok done own refl (rw needs h)
+
+    pub delete-done : {m : List ℕ} {j : ℕ} (n : ℕ) → n ≡ recordCount 0 (2 + sectorsBeyond c i 0) * recordSize → n ≤ length list
+        → Emitted list 0 (closed (groupsFor (view img) (just (deletePlan c (view img) i time)))) m j → Comes img list name time (record { verdict = done; length = n }) m
+    unfolding deleteAnswer deleteList deleteDecision
+    delete-done {m} {j} n q h e =
+        rw (q ∙ sym needs) (done-as-planned (length img) (view img) cs (just plan) list ok done own {j = j} refl (rw (needs ∙ sym q) h) (rw plan-is e))

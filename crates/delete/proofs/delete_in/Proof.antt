@@ -1,0 +1,142 @@
+-- `delete::delete_in` meets its contract.
+use Prim.Native.Nat.{_*_}
+use mathlib.Core.Path.{sym, ap, _∙_}
+use native.Mathlib.Omega.{arith}
+use Rattle.model.specs.declared.Geometry.{Geometry}
+use Rattle.model.specs.Disk.{view}
+use Rattle.laws.proofs.Refusals.{image-length}
+use Rattle.laws.proofs.Judged.{judged-image, judged-opened}
+use Rattle.laws.proofs.Named.{named-at, short-name}
+use Rattle.delete.proofs.Decisions.{delete-bad, delete-missing, delete-short, delete-done}
+use borrow.Author.Needs.{needs}
+use Rattle.delete.proofs.delete_in.Statement.{statement}
+use Rattle.delete.proofs.delete_in.Tie as tie
+
+bad-name-requires : tie.Need-bad-name-requires
+bad-name-requires c κs = search needs
+
+refusal-requires : tie.Need-refusal-requires
+refusal-requires c κs = search needs
+
+refused-requires : tie.Need-refused-requires
+refused-requires c κs = search needs
+
+returns : tie.Need-returns
+returns c =
+    let s = c .before .before .before .before .before .before .before in
+    let a = s .args in
+    rw (c .refused .ensures, c .before .refusal .ensures)
+    (delete-bad (a .img .now) (a .list .now) (a .name .now) (a .time) (s .pre) (sym (c .before .before .before .bad-name .ensures) ∙ c .before .before .if1 .taken))
+
+geometry-in-requires : tie.Need-geometry-in-requires
+geometry-in-requires c κs = image-length _ _ (judged-image _ _ (c .before .before .before .before .before .pre))
+
+file-named-requires : tie.Need-file-named-requires
+file-named-requires c κs =
+    (judged-opened _ _ (c .geometry-in .ensures) (omega arith) (c .before .before .before .before .before .before .pre), short-name _ (sym (c .before .before .bad-name .ensures) ∙ c .before .if1 .left))
+
+enum-known-i : tie.Need-enum-known-i
+enum-known-i c = search needs
+
+delete-count-requires : tie.Need-delete-count-requires
+delete-count-requires c κs =
+    let f = c .before .before .before in
+    let s = f .before .before .before .before .before .before .before in
+    let a = s .args in
+    let o = judged-opened _ _ (f .before .geometry-in .ensures) (omega arith) (s .pre) in
+    let found = sym (f .file-named .ensures) ∙ c .before .i .given .1 in
+    let low = named-at (view (a .img .now)) (a .name .now) (c .before .i .given .0 .0) (sym found) in
+    let e = ap (λ (x : Geometry). x .files) (o .is) in
+    (o, omega arith)
+
+mul-needed : tie.Need-mul-needed
+mul-needed c = search needs
+
+put-delete-requires : tie.Need-put-delete-requires
+put-delete-requires c κs =
+    let k = c .before .before in
+    let f = k .before .before .before .before in
+    let s = f .before .before .before .before .before .before .before in
+    let a = s .args in
+    let o = judged-opened _ _ (f .before .geometry-in .ensures) (omega (arith, f .before .geometry-in .ok)) (s .pre) in
+    let found = sym (f .file-named .ensures) ∙ k .before .before .i .given .1 in
+    let low = named-at (view (a .img .now)) (a .name .now) (k .before .before .i .given .0 .0) (sym found) in
+    let e = ap (λ (x : Geometry). x .files) (o .is) in
+    (o, (omega arith, omega (arith, k .delete-count .ensures .0)))
+
+refusal-requires-2 : tie.Need-refusal-requires-2
+refusal-requires-2 c κs = search needs
+
+same-length : tie.Need-same-length
+same-length c = search needs
+
+returns-2 : tie.Need-returns-2
+returns-2 c =
+    let k = c .before .before .before .before .before .before in
+    let f = k .before .before .before .before in
+    let s = f .before .before .before .before .before .before .before in
+    let a = s .args in
+    let good = sym (f .before .before .before .bad-name .ensures) ∙ f .before .before .if1 .left in
+    let found = sym (f .file-named .ensures) ∙ k .before .before .i .given .1 in
+    rw (c .refusal2 .ensures)
+    (delete-done (a .img .now) (a .list .now) (a .name .now) (a .time) (s .pre) (k .before .before .i .given .0 .0) good found (520 * k .delete-count .result) (omega (arith, k .delete-count .ensures .0)) (omega arith) (c .before .before .before .put-delete .ensures))
+
+refusal-requires-3 : tie.Need-refusal-requires-3
+refusal-requires-3 c κs = search needs
+
+refused-requires-2 : tie.Need-refused-requires-2
+refused-requires-2 c κs = search needs
+
+returns-3 : tie.Need-returns-3
+returns-3 c =
+    let k = c .before .before .before in
+    let f = k .before .before .before .before in
+    let s = f .before .before .before .before .before .before .before in
+    let a = s .args in
+    let good = sym (f .before .before .before .bad-name .ensures) ∙ f .before .before .if1 .left in
+    let found = sym (f .file-named .ensures) ∙ k .before .before .i .given .1 in
+    rw (c .refused2 .ensures, c .before .refusal3 .ensures)
+    (delete-short (a .img .now) (a .list .now) (a .name .now) (a .time) (s .pre) (k .before .before .i .given .0 .0) good found (omega (arith, k .delete-count .ensures .0)))
+
+enum-told : tie.Need-enum-told
+enum-told c = search needs
+
+refusal-requires-4 : tie.Need-refusal-requires-4
+refusal-requires-4 c κs = search needs
+
+refused-requires-3 : tie.Need-refused-requires-3
+refused-requires-3 c κs = search needs
+
+returns-4 : tie.Need-returns-4
+returns-4 c =
+    let f = c .before .before .before .before in
+    let s = f .before .before .before .before .before .before .before in
+    let a = s .args in
+    let good = sym (f .before .before .before .bad-name .ensures) ∙ f .before .before .if1 .left in
+    let none = sym (f .file-named .ensures) ∙ c .before .before .enum-told .given .1 in
+    rw (c .refused3 .ensures, c .before .refusal4 .ensures) (delete-missing (a .img .now) (a .list .now) (a .name .now) (a .time) (s .pre) good none)
+
+pub delete-in-spec : {M : Type 1} → statement M
+delete-in-spec =
+    tie.close
+    (tie.spec
+    bad-name-requires
+    refusal-requires
+    refused-requires
+    returns
+    geometry-in-requires
+    file-named-requires
+    enum-known-i
+    delete-count-requires
+    mul-needed
+    put-delete-requires
+    refusal-requires-2
+    same-length
+    returns-2
+    refusal-requires-3
+    refused-requires-2
+    returns-3
+    enum-told
+    refusal-requires-4
+    refused-requires-3
+    returns-4)

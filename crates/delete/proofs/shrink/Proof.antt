@@ -1,0 +1,89 @@
+-- `delete::shrink` meets its contract.
+use mathlib.Core.Path.{sym, ap}
+use native.Mathlib.Omega.{arith}
+use lib.ListN.{replicate}
+use Rattle.model.specs.Disk.{view}
+use Rattle.model.specs.Catalogue.{catalogueOf, sectorsBeyond}
+use Rattle.model.specs.Resize.{shrinkPlan}
+use Rattle.delete.proofs.Laws.{added-then, added-copy, added-committed, shrink-targets, shrink-alone}
+use borrow.Author.Needs.{needs}
+use Rattle.delete.proofs.shrink.Statement.{statement}
+use Rattle.delete.proofs.shrink.Tie as tie
+
+updated-entry-requires : tie.Need-updated-entry-requires
+updated-entry-requires c κs = search needs
+
+slice-aggregate-put-copy : tie.Need-slice-aggregate-put-copy
+slice-aggregate-put-copy c = search needs
+
+sector-requires : tie.Need-sector-requires
+sector-requires c κs = search needs
+
+put-copy-requires : tie.Need-put-copy-requires
+put-copy-requires c κs = search needs
+
+extents-for-requires : tie.Need-extents-for-requires
+extents-for-requires c κs = search needs
+
+slice-aggregate-put-freed : tie.Need-slice-aggregate-put-freed
+slice-aggregate-put-freed c = search needs
+
+put-freed-requires : tie.Need-put-freed-requires
+put-freed-requires c κs =
+    let p = c .before .before .before .before .before .before in
+    let s = p .before .before .before .before .before .before .before in
+    let a = s .args in
+    let size = c .before .before .extents-for .ensures .0 in
+    let same = ap (sectorsBeyond (catalogueOf (view (a .img .now))) (a .i .0)) size in
+    (s .pre .0, (omega arith, (omega (arith, same, p .put-copy .ensures .0 .next), omega (arith, p .put-copy .ensures .0 .next))))
+
+slice-aggregate-put-commit : tie.Need-slice-aggregate-put-commit
+slice-aggregate-put-commit c = search needs
+
+put-commit-requires : tie.Need-put-commit-requires
+put-commit-requires c κs =
+    let f = c .before .before .before .before .before in
+    let p = f .before .before .before .before .before .before .before in
+    let s = p .before .before .before .before .before .before .before in
+    let a = s .args in
+    let size = f .before .before .before .extents-for .ensures .0 in
+    let same = ap (sectorsBeyond (catalogueOf (view (a .img .now))) (a .i .0)) size in
+    let first = p .put-copy .ensures .0 .next in
+    let all = f .put-freed .ensures .1 in
+    (omega (arith, same, first, all .0), (omega arith, (s .pre .0 .bounded, (omega (arith, first, all .1), omega (arith, first, all .1), omega arith))))
+
+same-length : tie.Need-same-length
+same-length c = search needs
+
+returns : tie.Need-returns
+returns c =
+    let m = c .before .before in
+    let f = m .before .before .before .before .before .before in
+    let p = f .before .before .before .before .before .before .before in
+    let s = p .before .before .before .before .before .before .before in
+    let a = s .args in
+    let d = view (a .img .now) in
+    let z = a .size in
+    let size = f .before .before .before .extents-for .ensures .0 in
+    let same = ap (sectorsBeyond (catalogueOf d) (a .i .0)) size in
+    let staged = added-then {numbers = replicate 1024 0} (added-copy (p .put-copy .ensures .0) (p .put-copy .ensures .1) (omega arith)) (f .put-freed .ensures .0) in
+    added-committed d (shrinkPlan (catalogueOf d) d (a .i .0) z (a .time)) staged (m .put-commit .ensures .0) (s .pre .0 .is)
+    (rw (p .before .sector .ensures, p .before .before .before .before .updated-entry .ensures, size) (sym (shrink-targets d (a .g) (s .pre .0 .is) (a .i .0) z (a .time))))
+    (shrink-alone d (a .i .0) z (a .time))
+    (omega (arith, same, p .put-copy .ensures .0 .next, f .put-freed .ensures .1 .0))
+
+pub shrink-spec : {M : Type 1} → statement M
+shrink-spec =
+    tie.close
+    (tie.spec
+    updated-entry-requires
+    slice-aggregate-put-copy
+    sector-requires
+    put-copy-requires
+    extents-for-requires
+    slice-aggregate-put-freed
+    put-freed-requires
+    slice-aggregate-put-commit
+    put-commit-requires
+    same-length
+    returns)

@@ -1,0 +1,199 @@
+// Delete, and a resize that shrinks: a file's entry and the table sectors that hold its extents, rewritten.
+use model::Changed;
+use model::FileIndex;
+use model::Geometry;
+use model::Place;
+use model::Sector;
+ghost use mathlib.Core.Path.{_≡_};
+ghost use mathlib.Core.Bool.{cond};
+ghost use mathlib.Core.Option.{some as just};
+ghost use Prim.Native.Nat.{_+_, _*_, _≤_, _<_};
+ghost use lib.ListN.{length};
+ghost use Rattle.model.specs.Bytes.{raised};
+ghost use Rattle.model.specs.Geometry.{rootAt, entryAt, tableSectors, extentsFor};
+ghost use Rattle.model.specs.Disk.{view};
+ghost use Rattle.model.specs.Root.{updatedRootSector};
+ghost use Rattle.model.specs.Entry.{updatedEntrySector};
+ghost use Rattle.model.specs.Table.{freeFile};
+ghost use Rattle.model.specs.Catalogue.{catalogueOf, holdsBeyond, sectorsBeyond};
+ghost use Rattle.model.specs.Refusals.{judged};
+ghost use Rattle.model.specs.WriteList.{recordSize, recordCount, groupsFor, closed, Emitted};
+ghost use Rattle.model.specs.Delete.{freedSector, freedSectors, deletePlan, deleteAnswer, deleteList};
+ghost use Rattle.model.specs.Resize.{shrinkPlan};
+ghost use Rattle.model.specs.Opened.{Opened};
+ghost use Rattle.delete.specs.Staging.{Added};
+
+// A version of 4,294,967,295 is followed by 0.
+pub fn next_version(version: u32) -> u32
+    ensures { λ r. ⌜ r ≡ raised version ⌝ }
+{
+    std::num::wrapping_add_u32(version, 1)
+}
+
+// The root's sector with the version up and the change time set.
+pub fn updated_root(img: &[u8], time: u32) -> [u8; 512]
+    requires { ⌜ 512 * rootAt + 512 ≤ length (now img) ⌝ }
+    ensures { λ r. ⌜ r ≡ updatedRootSector time (view (now (img .entry)) rootAt) ⌝ }
+{
+    let mut a = fields::sector(img, Sector(1));
+    let version = next_version(fields::be32(&a, 0));
+    fields::put_be(&mut a, 0, 4, version as u64);
+    fields::put_be(&mut a, 20, 4, time as u64);
+    a
+}
+
+// Entry i's sector with the size given, the version up and the change time set.
+pub fn updated_entry(img: &[u8], i: FileIndex, size: u64, time: u32) -> [u8; 512]
+    requires { ⌜ 512 * entryAt (i .0) + 512 ≤ length (now img) ⌝ }
+    ensures { λ r. ⌜ r ≡ updatedEntrySector size time (view (now (img .entry)) (entryAt (i .0))) ⌝ }
+{
+    let mut a = fields::sector(img, i.sector());
+    let version = next_version(fields::be32(&a, 10));
+    fields::put_be(&mut a, 2, 8, size);
+    fields::put_be(&mut a, 10, 4, version as u64);
+    fields::put_be(&mut a, 30, 4, time as u64);
+    a
+}
+
+// ---- freed table sectors
+
+// Table sector t's copy, freed, is record k, if the sector holds an extent of file i of offset o or more.
+fn put_freed_sector(
+    list: &mut [u8],
+    k: usize,
+    numbers: &mut [u64],
+    img: &[u8],
+    g: Geometry,
+    i: FileIndex,
+    o: u64,
+    t: u64,
+) -> usize
+    requires { ⌜ Opened (now img) g ⌝ }
+    requires { ⌜ (i .0 < freeFile) × (t < tableSectors g) ⌝ }
+    requires { ⌜ ((k + 1) * recordSize ≤ length (now list)) × (k < length (now numbers)) ⌝ }
+    ensures { λ r. ⌜ Added g (now (numbers .entry)) (now (list .entry)) k (freedSector (catalogueOf (view (now (img .entry)))) (view (now (img .entry))) (i .0) o t) (now (numbers .exit)) (now (list .exit)) r ⌝ }
+    ensures { λ r. ⌜ (r ≡ k + cond (holdsBeyond (catalogueOf (view (now (img .entry)))) (i .0) o t) 1 0) × (r ≤ k + 1) ⌝ }
+{
+    if table::holds_beyond(img, g, i, o, t) {
+        let at = g.table_at();
+        let s = table::freed(img, g, i, o, t);
+        return commit::put_copy(list, k, g, numbers, k, Sector(at.0 + t), s);
+    }
+    k
+}
+
+// The copies of all such table sectors, from record k on.
+pub fn put_freed(
+    list: &mut [u8],
+    k: usize,
+    numbers: &mut [u64],
+    img: &[u8],
+    g: Geometry,
+    i: FileIndex,
+    o: u64,
+) -> usize
+    requires { ⌜ Opened (now img) g ⌝ }
+    requires { ⌜ i .0 < freeFile ⌝ }
+    requires { ⌜ ((k + sectorsBeyond (catalogueOf (view (now img))) (i .0) o + 1) * recordSize ≤ length (now list)) × (k + tableSectors g ≤ length (now numbers)) ⌝ }
+    ensures { λ r. ⌜ Added g (now (numbers .entry)) (now (list .entry)) k (freedSectors (catalogueOf (view (now (img .entry)))) (view (now (img .entry))) (i .0) o) (now (numbers .exit)) (now (list .exit)) r ⌝ }
+    ensures { λ r. ⌜ (r ≡ k + sectorsBeyond (catalogueOf (view (now (img .entry)))) (i .0) o) × (r ≤ k + tableSectors g) ⌝ }
+{
+    let n = g.table_sectors();
+    let mut j = k;
+    let mut t: u64 = 0;
+    while t < n {
+        j = put_freed_sector(list, j, numbers, img, g, i, o, t);
+        t += 1;
+    }
+    j
+}
+
+// ---- shrinking
+
+// How many records the list of n targets has that come with no data sectors.
+fn records_for(n: u64) -> usize
+    requires { ⌜ n ≤ 1024 ⌝ }
+    ensures { λ r. ⌜ r ≡ recordCount 0 n ⌝ }
+{
+    let journal = (n + 31) / 32;
+    (n + journal + 1 + 2 + (n + 1) + 2) as usize
+}
+
+// How many records the list has that shrinks file i to the size given.
+pub fn shrink_count(img: &[u8], g: Geometry, i: FileIndex, size: u64) -> usize
+    requires { ⌜ Opened (now img) g ⌝ }
+    requires { ⌜ i .0 < freeFile ⌝ }
+    ensures { λ r. ⌜ r ≡ recordCount 0 (1 + sectorsBeyond (catalogueOf (view (now (img .entry)))) (i .0) (extentsFor g size)) ⌝ }
+    ensures { λ r. ⌜ r ≤ 2048 ⌝ }
+{
+    let first = table::extents_for(g, size);
+    records_for(1 + table::sectors_beyond(img, g, i, first))
+}
+
+// Shrinks file i to the size given: the whole list, which has room for it. The answer is how many records it has.
+pub fn shrink(img: &[u8], g: Geometry, i: FileIndex, size: u64, time: u32, list: &mut [u8]) -> usize
+    requires { ⌜ Opened (now img) g ⌝ }
+    requires { ⌜ i .0 < g .files ⌝ }
+    requires { ⌜ recordCount 0 (1 + sectorsBeyond (catalogueOf (view (now img))) (i .0) (extentsFor g size)) * recordSize ≤ length (now list) ⌝ }
+    ensures { λ r. ⌜ Emitted (now (list .entry)) 0 (closed (groupsFor (view (now (img .entry))) (just (shrinkPlan (catalogueOf (view (now (img .entry)))) (view (now (img .entry))) (i .0) size time)))) (now (list .exit)) r ⌝ }
+{
+    let mut numbers = [0u64; 1024];
+    let s = updated_entry(img, i, size, time);
+    let k = commit::put_copy(list, 0, g, &mut numbers, 0, i.sector(), s);
+    let first = table::extents_for(g, size);
+    let n = put_freed(list, k, &mut numbers, img, g, i, first);
+    commit::put_commit(list, n, img, g, &numbers, n)
+}
+
+// ---- deleting
+
+// The whole list that deletes file i; the list has room for it.
+fn put_delete(img: &[u8], g: Geometry, i: FileIndex, time: u32, list: &mut [u8]) -> usize
+    requires { ⌜ Opened (now img) g ⌝ }
+    requires { ⌜ i .0 < g .files ⌝ }
+    requires { ⌜ recordCount 0 (2 + sectorsBeyond (catalogueOf (view (now img))) (i .0) 0) * recordSize ≤ length (now list) ⌝ }
+    ensures { λ r. ⌜ Emitted (now (list .entry)) 0 (closed (groupsFor (view (now (img .entry))) (just (deletePlan (catalogueOf (view (now (img .entry)))) (view (now (img .entry))) (i .0) time)))) (now (list .exit)) r ⌝ }
+{
+    let mut numbers = [0u64; 1024];
+    let root = updated_root(img, time);
+    let k = commit::put_copy(list, 0, g, &mut numbers, 0, Sector(1), root);
+    let entry = [0u8; 512];
+    let j = commit::put_copy(list, k, g, &mut numbers, k, i.sector(), entry);
+    let n = put_freed(list, j, &mut numbers, img, g, i, 0);
+    commit::put_commit(list, n, img, g, &numbers, n)
+}
+
+// How many records that list has.
+fn delete_count(img: &[u8], g: Geometry, i: FileIndex) -> usize
+    requires { ⌜ Opened (now img) g ⌝ }
+    requires { ⌜ i .0 < freeFile ⌝ }
+    ensures { λ r. ⌜ r ≡ recordCount 0 (2 + sectorsBeyond (catalogueOf (view (now (img .entry)))) (i .0) 0) ⌝ }
+    ensures { λ r. ⌜ r ≤ 2048 ⌝ }
+{
+    records_for(2 + table::sectors_beyond(img, g, i, 0))
+}
+
+pub fn delete_in(img: &[u8], name: &[u8], time: u32, list: &mut [u8]) -> Changed
+    requires { ⌜ judged (length (now img)) (view (now img)) .number ≡ 0 ⌝ }
+    ensures { λ r. ⌜ r ≡ deleteAnswer (length (now (img .entry))) (view (now (img .entry))) (now (name .entry)) time (length (now (list .entry))) ⌝ }
+    ensures { λ _. ⌜ now (list .exit) ≡ deleteList (length (now (img .entry))) (view (now (img .entry))) (now (name .entry)) time (now (list .entry)) ⌝ }
+{
+    if directory::bad_name(name) {
+        return commit::refused(volume::refusal(8));
+    }
+    let g = volume::geometry_in(img);
+    if let Place::At(i) = directory::file_named(img, g, name) {
+        let index = FileIndex(i as u64);
+        let needed = 520 * delete_count(img, g, index);
+        if needed <= list.len() {
+            put_delete(img, g, index, time, list);
+            let verdict = volume::refusal(0);
+            return Changed {
+                verdict,
+                length: needed as u64,
+            };
+        }
+        return commit::refused(volume::refusal(14));
+    }
+    commit::refused(volume::refusal(9))
+}

@@ -1,0 +1,2 @@
+-- What the index holds.
+pub mod Index

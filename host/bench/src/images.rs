@@ -1,0 +1,148 @@
+//! The images that are timed: the sample volume, and the largest directory and table. An image of
+//! the largest has 4.3 GB, of which only the pages that are used take up memory.
+
+use oracle::draw::Draw;
+use oracle::layout::{
+    entry, put16, put32, put64, root, superblock, Extent, FileIndex, Geometry, SECTOR,
+};
+
+fn largest() -> Geometry {
+    Geometry::new(1_024, 65_535, 128).expect("within the bounds")
+}
+
+pub fn short_name(index: u64) -> Vec<u8> {
+    format!("calibration {index:04}.dat").into_bytes()
+}
+
+/// A name of 476 bytes; only the last ones differ.
+pub fn long_name(index: u64) -> Vec<u8> {
+    let mut name = vec![b'n'; 476];
+    name[472..].copy_from_slice(format!("{index:04}").as_bytes());
+    name
+}
+
+/// The sample of 1,313 sectors: "calibration" with two extents, "empty", and one extent free.
+pub fn sample() -> Vec<u8> {
+    let geometry = Geometry::new(255, 4, 128).expect("within the bounds");
+    let mut image = blank(geometry, 1_313);
+    put_file(&mut image, geometry, 0, b"calibration", 131_072, &[2, 0]);
+    put_file(&mut image, geometry, 1, b"empty", 0, &[]);
+    fill_extents(&mut image, geometry, &[2, 0]);
+    image
+}
+
+/// One file with two extents.
+pub fn nearly_empty() -> Vec<u8> {
+    let geometry = largest();
+    let mut image = blank(geometry, geometry.end().0);
+    put_file(
+        &mut image,
+        geometry,
+        0,
+        &short_name(0),
+        131_072,
+        &[40_000, 7],
+    );
+    fill_extents(&mut image, geometry, &[40_000, 7]);
+    image
+}
+
+/// All entries and all usable extents are taken, and the extents of a file are scattered.
+pub fn full(name: fn(u64) -> Vec<u8>) -> Vec<u8> {
+    let geometry = largest();
+    filled(geometry.files(), geometry.usable_extents(), name)
+}
+
+/// As full, but the last entry and one extent are free.
+#[cfg(feature = "changes")]
+pub fn almost_full() -> Vec<u8> {
+    let geometry = largest();
+    filled(
+        geometry.files() - 1,
+        geometry.usable_extents() - 1,
+        short_name,
+    )
+}
+
+fn filled(files: u64, taken: u64, name: fn(u64) -> Vec<u8>) -> Vec<u8> {
+    let geometry = largest();
+    let mut image = blank(geometry, geometry.end().0);
+    let mut extents = vec![Vec::new(); files as usize];
+    for number in 0..taken {
+        // A prime that does not divide the number of extents: each is met once.
+        extents[(number % files) as usize].push(number * 7_919 % taken);
+    }
+    for (index, extents) in (0..).zip(&extents) {
+        let size = extents.len() as u64 * geometry.extent_bytes();
+        put_file(&mut image, geometry, index, &name(index), size, extents);
+    }
+    let last = &extents[files as usize - 1];
+    fill_extents(&mut image, geometry, &last[..2]);
+    image
+}
+
+/// One file with all usable extents, in falling order.
+#[cfg(feature = "changes")]
+pub fn one_file() -> Vec<u8> {
+    let geometry = largest();
+    let mut image = blank(geometry, geometry.end().0);
+    let extents: Vec<u64> = (0..geometry.usable_extents()).rev().collect();
+    put_file(
+        &mut image,
+        geometry,
+        1_023,
+        b"all",
+        geometry.largest_size(),
+        &extents,
+    );
+    image
+}
+
+fn blank(geometry: Geometry, image_sectors: u64) -> Vec<u8> {
+    let mut image = vec![0; image_sectors as usize * SECTOR];
+    put16(&mut image, superblock::FILES, geometry.files() as u16);
+    put16(&mut image, superblock::EXTENTS, geometry.extents() as u16);
+    put32(
+        &mut image,
+        superblock::EXTENT_SECTORS,
+        geometry.extent_sectors() as u32,
+    );
+    image[superblock::MAGIC..superblock::VERSION].copy_from_slice(&superblock::MAGIC_TEXT);
+    put16(&mut image, superblock::VERSION, superblock::THIS_VERSION);
+    put64(&mut image[SECTOR..], root::ID, 900_000);
+    let table = geometry.table_at().0 as usize * SECTOR;
+    image[table..geometry.data_at().0 as usize * SECTOR].fill(255);
+    image
+}
+
+fn put_file(
+    image: &mut [u8],
+    geometry: Geometry,
+    index: u64,
+    name: &[u8],
+    size: u64,
+    extents: &[u64],
+) {
+    let at = geometry.entry_at(FileIndex(index)).0 as usize * SECTOR;
+    let sector = &mut image[at..at + SECTOR];
+    put16(sector, entry::MARK, entry::OCCUPIED);
+    put64(sector, entry::SIZE, size);
+    put64(sector, entry::ID, 1_000 + index);
+    put16(sector, entry::NAME_LENGTH, name.len() as u16);
+    sector[entry::NAME..entry::NAME + name.len()].copy_from_slice(name);
+    for (offset, extent) in extents.iter().enumerate() {
+        let (table_sector, at) = geometry.table_place(Extent(*extent));
+        let at = table_sector.0 as usize * SECTOR + at;
+        put16(image, at, index as u16);
+        put16(image, at + 2, offset as u16);
+    }
+}
+
+/// Noise in the extents that are read, so that they are real memory.
+fn fill_extents(image: &mut [u8], geometry: Geometry, extents: &[u64]) {
+    let mut draw = Draw::new(1);
+    for extent in extents {
+        let at = geometry.extent_at(Extent(*extent)).0 as usize * SECTOR;
+        draw.fill(&mut image[at..at + geometry.extent_bytes() as usize]);
+    }
+}

@@ -1,0 +1,269 @@
+//! Create, delete, resize and write: spans that end at, before and after the edges of sectors,
+//! extents and files, arguments at every edge, and lists exactly long enough and one byte too short.
+
+use crate::shared::{
+    alike, blank, create, delete, entry_field, put_file, resize, some_files, write, ANY_LIST,
+};
+use crate::shared_changes::disturb;
+use oracle::draw::Draw;
+use oracle::layout::{put32, Geometry, SECTOR};
+use oracle::lists::RECORD;
+use oracle::Request;
+
+/// With a long list, an exact one, and one that is a byte too short. Gives the code and the length.
+fn with_each_list(request: &Request, image: &[u8]) -> (u64, usize) {
+    let (answer, list) = alike(request, image, ANY_LIST);
+    if answer.code() == 0 {
+        let (exact, same_list) = alike(request, image, list.len());
+        assert_eq!(exact, answer);
+        assert!(same_list == list);
+        if !list.is_empty() {
+            let (short, _) = alike(request, image, list.len() - 1);
+            assert_eq!(short.code(), 14);
+        }
+    }
+    alike(request, image, 0);
+    (answer.code(), list.len())
+}
+
+/// A volume of 12 extents with the file "x" of this size, its extents falling, and "y" of one
+/// byte.
+fn with_a_file(extent_sectors: u64, size: u64) -> (Geometry, Vec<u8>) {
+    let geometry = Geometry::new(255, 12, extent_sectors).expect("within the bounds");
+    let mut image = Draw::new(size).bytes(geometry.end().0 as usize * SECTOR);
+    let metadata = geometry.data_at().0;
+    image[..metadata as usize * SECTOR].copy_from_slice(&blank(geometry, metadata));
+    let extents: Vec<u64> = (3..3 + geometry.extents_for(size)).rev().collect();
+    put_file(&mut image, geometry, 7, b"x", size, &extents);
+    put_file(&mut image, geometry, 2, b"y", 1, &[1]);
+    // Unused bytes are noise, so that a changed one shows.
+    for unused in [
+        20..SECTOR,
+        SECTOR + 24..2 * SECTOR,
+        9 * SECTOR + 37..10 * SECTOR,
+    ] {
+        Draw::new(size + 1).fill(&mut image[unused]);
+    }
+    assert_eq!(oracle::check(&image).code, 0);
+    (geometry, image)
+}
+
+/// Numbers around each edge that matters, up to a last one.
+fn around_edges(extent_bytes: u64, size: u64, last: u64) -> Vec<u64> {
+    let mut numbers = Vec::new();
+    for edge in [
+        0,
+        512,
+        1_024,
+        extent_bytes - 512,
+        extent_bytes,
+        extent_bytes + 512,
+        2 * extent_bytes,
+        3 * extent_bytes,
+        size,
+        size + 512,
+        (size / 512) * 512,
+    ] {
+        numbers.extend([edge.saturating_sub(1), edge, edge + 1]);
+    }
+    numbers.retain(|number| *number <= last);
+    numbers.sort_unstable();
+    numbers.dedup();
+    numbers
+}
+
+fn spans_alike(extent_sectors: u64) {
+    let extent_bytes = 512 * extent_sectors;
+    let data = Draw::new(extent_sectors).bytes(65_536);
+    let mut codes = [0; 15];
+    for size in [
+        0,
+        1,
+        511,
+        512,
+        513,
+        extent_bytes - 1,
+        extent_bytes,
+        extent_bytes + 1,
+        2 * extent_bytes,
+        2 * extent_bytes + 700,
+    ] {
+        let (_, image) = with_a_file(extent_sectors, size);
+        for offset in around_edges(extent_bytes, size, size + 1) {
+            for end in around_edges(extent_bytes, size, offset + 65_536) {
+                if end < offset {
+                    continue;
+                }
+                let request = write(b"x", offset, data[..(end - offset) as usize].to_vec());
+                codes[with_each_list(&request, &image).0 as usize] += 1;
+            }
+            let most = write(b"x", offset, data.clone());
+            codes[with_each_list(&most, &image).0 as usize] += 1;
+        }
+        for new_size in around_edges(extent_bytes, size, size + 65_537) {
+            codes[with_each_list(&resize(b"x", new_size), &image).0 as usize] += 1;
+        }
+        for new_size in [size + 65_535, size + 65_536, size + 65_537, u64::MAX] {
+            codes[with_each_list(&resize(b"x", new_size), &image).0 as usize] += 1;
+        }
+        with_each_list(&delete(b"x"), &image);
+    }
+    assert!(
+        codes[0] > 500 && codes[8] > 10 && codes[12] > 20,
+        "{codes:?}"
+    );
+}
+
+#[test]
+fn spans_around_edges() {
+    spans_alike(128);
+}
+
+#[test]
+fn spans_around_edges_of_odd_extents() {
+    spans_alike(129);
+    spans_alike(257);
+}
+
+/// The file's last extents and the lowest free one in several table sectors.
+#[test]
+fn several_table_sectors() {
+    let geometry = Geometry::new(300, 520, 128).expect("within the bounds");
+    let mut image = blank(geometry, geometry.end().0);
+    let usable = geometry.usable_extents();
+    // "x" has every second extent of five table sectors, "y" the others but one.
+    let evens: Vec<u64> = (0..usable).step_by(2).collect();
+    let odds: Vec<u64> = (1..usable).step_by(2).filter(|odd| *odd != 387).collect();
+    let size = (evens.len() as u64 - 1) * 65_536 + 100;
+    put_file(&mut image, geometry, 299, b"x", size, &evens);
+    put_file(
+        &mut image,
+        geometry,
+        0,
+        b"y",
+        odds.len() as u64 * 65_536,
+        &odds,
+    );
+    assert_eq!(
+        with_each_list(&delete(b"x"), &image),
+        (0, (2 * 7 + 1 + 6) * RECORD)
+    );
+    with_each_list(&delete(b"y"), &image);
+    with_each_list(&write(b"x", size, vec![1; 65_536]), &image);
+    with_each_list(&write(b"y", 0, vec![1; 1_000]), &image);
+    with_each_list(&resize(b"y", odds.len() as u64 * 65_536 + 1), &image);
+    for kept in [0, 1, 63, 64, 65, 128, 129, 192, 200, 256, 258, 259] {
+        for size in [kept * 65_536, kept * 65_536 + 1] {
+            with_each_list(&resize(b"x", size), &image);
+            with_each_list(&resize(b"y", size), &image);
+        }
+    }
+}
+
+#[test]
+fn arguments_at_every_edge() {
+    let volume = some_files();
+    let mut image = volume.image.clone();
+    disturb(&mut image, &volume.ledger, &mut Draw::new(9));
+    let mut codes = [0; 15];
+    let mut try_call = |request: Request| {
+        codes[with_each_list(&request, &image).0 as usize] += 1;
+    };
+    for name in [
+        &b""[..],
+        b"a",
+        b"abcd",
+        b"b",
+        b"\0",
+        b"new\0",
+        &[b'x'; 475],
+        &[b'x'; 476],
+        &[b'x'; 477],
+        &[b'x'; 600],
+        &[255; 476],
+    ] {
+        for id in [0, 1, 4, 6, 7, 900, u64::MAX] {
+            try_call(create(name, id));
+        }
+        try_call(delete(name));
+        for size in [0, 1, 65_536, 65_537, u64::MAX] {
+            try_call(resize(name, size));
+        }
+        for offset in [0, 1, u64::MAX] {
+            for length in [0, 1, 65_536, 65_537, 70_000] {
+                try_call(write(name, offset, vec![9; length]));
+            }
+        }
+    }
+    for (mode, time) in [(0, 0), (u32::MAX, u32::MAX), (0x0102_0304, 0x8090_a0b0)] {
+        try_call(Request::Create {
+            name: b"new".to_vec(),
+            id: 0x0102_0304_0506_0708,
+            mode,
+            time,
+        });
+        try_call(Request::Delete {
+            name: b"ab".to_vec(),
+            time,
+        });
+        try_call(Request::Resize {
+            name: b"ab".to_vec(),
+            size: 70_000,
+            time,
+        });
+        try_call(Request::Write {
+            name: b"ab".to_vec(),
+            offset: 0,
+            data: vec![1; 3],
+            time,
+        });
+    }
+    for code in [0, 8, 9, 10, 12] {
+        assert!(codes[code] > 5, "{codes:?}");
+    }
+}
+
+/// A version of 4,294,967,295 is followed by 0.
+#[test]
+fn versions_at_their_end() {
+    for version in [0, 1, 255, 65_535, u32::MAX - 1, u32::MAX] {
+        let mut image = some_files().image;
+        put32(&mut image, SECTOR, version);
+        put32(&mut image, entry_field(1, 10), version);
+        for request in [
+            create(b"new", 77),
+            delete(b"ab"),
+            resize(b"ab", 1),
+            resize(b"ab", 131_080),
+            write(b"ab", 5, vec![1; 5]),
+        ] {
+            assert_eq!(with_each_list(&request, &image).0, 0);
+        }
+    }
+}
+
+/// No usable extent is free, though the reserve is.
+#[test]
+fn no_room() {
+    let mut volume = some_files();
+    volume.done(&resize(b"ab", 131_072));
+    volume.done(&write(b"cab", 600, vec![1; 65_536 - 600]));
+    let one_more = write(b"cab", 65_536, vec![1]);
+    assert_eq!(with_each_list(&one_more, &volume.image).0, 0);
+    volume.done(&one_more);
+    let image = &volume.image;
+    for (expected, request) in [
+        (13, write(b"a", 0, vec![1])),
+        (13, resize(b"a", 1)),
+        (13, write(b"cab", 65_537, vec![2; 65_536])),
+        (0, write(b"cab", 65_537, vec![2; 65_535])),
+        (8, write(b"a", 0, vec![1; 65_537])),
+        (9, write(b"none", 0, vec![1])),
+        (12, write(b"a", 1, vec![1])),
+        (0, write(b"a", 0, Vec::new())),
+        (0, resize(b"a", 0)),
+        (8, resize(b"a", 65_537)),
+    ] {
+        assert_eq!(with_each_list(&request, image).0, expected);
+    }
+}

@@ -1,0 +1,125 @@
+//! The records of a format at every position, and sector counts at the edges of the doubling.
+
+use crate::shared::SAMPLE;
+use crate::shared_changes::{format_alike, record_alike};
+use oracle::draw::Draw;
+use oracle::lists::RECORD;
+use oracle::FormatRequest;
+
+#[test]
+fn every_record() {
+    for (files, extents) in [(255, 2), (255, 4), (300, 129), (1_024, 300), (767, 128)] {
+        let request = FormatRequest {
+            sectors: 546 + files + 128 * extents + 5,
+            files,
+            id: 0x0102_0304_0506_0708,
+            mode: 0x1122_3344,
+            time: 0xfedc_ba98,
+        };
+        format_alike(&request);
+        let records = request.records().expect("the format is not refused");
+        for position in 0..records {
+            let (answer, record) = record_alike(&request, position, RECORD + 3);
+            assert_eq!((answer.code, record.len()), (0, RECORD));
+            assert_eq!(record_alike(&request, position, RECORD - 1).0.code, 14);
+        }
+        for position in [records, records + 1, 1 << 32, u64::MAX] {
+            assert_eq!(record_alike(&request, position, RECORD).0.code, 9);
+            assert_eq!(record_alike(&request, position, 0).0.code, 9);
+        }
+    }
+}
+
+#[test]
+fn sector_counts_at_every_doubling() {
+    let mut codes = [0; 15];
+    let mut try_sectors = |sectors: u64, files: u64| {
+        let request = FormatRequest {
+            sectors,
+            files,
+            ..SAMPLE
+        };
+        let (answer, _) = record_alike(&request, 0, RECORD);
+        codes[answer.code as usize] += 1;
+        let records = request.records().unwrap_or(1_000);
+        for position in [1, 2, 3, files + 2, files + 3, records - 4, records - 3] {
+            record_alike(&request, position, RECORD);
+        }
+        for position in [records - 2, records - 1, records] {
+            record_alike(&request, position, RECORD);
+        }
+    };
+    for files in [255, 256, 600, 1_024] {
+        let before_data = 546 + files;
+        for sectors in 0..3 {
+            try_sectors(sectors, files);
+        }
+        for sectors in before_data - 1..=before_data + 1 {
+            try_sectors(sectors, files);
+        }
+        for power in 7..=32 {
+            for extents in [1, 2, 32_767, 32_768, 65_535, 65_536] {
+                let edge = before_data + (extents << power);
+                for sectors in edge - 1..=edge + 1 {
+                    try_sectors(sectors, files);
+                }
+            }
+        }
+        for sectors in [u64::MAX - 1, u64::MAX, 1 << 63, 1 << 48] {
+            try_sectors(sectors, files);
+        }
+        let most = (1 << 47) + 545 + files;
+        for sectors in most - 1..=most + 1 {
+            try_sectors(sectors, files);
+        }
+    }
+    assert!(codes[0] > 1_000 && codes[8] > 50, "{codes:?}");
+}
+
+#[test]
+fn files_out_of_bounds() {
+    for files in [
+        0,
+        1,
+        254,
+        255,
+        1_024,
+        1_025,
+        65_536,
+        65_791,
+        1 << 32,
+        u64::MAX,
+    ] {
+        for sectors in [0, 1_313, 8_389_408, u64::MAX] {
+            for position in [0, 1, 2, u64::MAX] {
+                let request = FormatRequest {
+                    sectors,
+                    files,
+                    ..SAMPLE
+                };
+                record_alike(&request, position, RECORD);
+                record_alike(&request, position, RECORD - 1);
+            }
+        }
+    }
+}
+
+#[test]
+fn random_formats() {
+    let mut draw = Draw::new(51);
+    for _ in 0..3_000 {
+        let bits = draw.below(64);
+        let request = FormatRequest {
+            sectors: draw.number() >> bits,
+            files: draw.between(250, 1_030),
+            id: draw.number(),
+            mode: draw.number() as u32,
+            time: draw.number() as u32,
+        };
+        for _ in 0..4 {
+            let position = draw.below(2_000);
+            let length = *draw.pick(&[0, RECORD - 1, RECORD, RECORD + 1]);
+            record_alike(&request, position, length);
+        }
+    }
+}

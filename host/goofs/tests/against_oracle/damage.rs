@@ -1,9 +1,11 @@
 //! Seeded damage: fields of the metadata set to edges and noise, single bits, and images of any
 //! bytes. Every run is replayed from its seed.
 
-use crate::shared::{alike, calls_alike, entry_field, find, read, some_files, ANY_LIST};
+use crate::shared::{
+    alike, blank, calls_alike, entry_field, find, put_file, read, some_files, ANY_LIST,
+};
 use oracle::draw::Draw;
-use oracle::layout::{put16, put32, put64, SECTOR};
+use oracle::layout::{put16, put32, put64, Geometry, SECTOR};
 use oracle::Request;
 
 const METADATA: usize = 290 * SECTOR;
@@ -124,6 +126,50 @@ fn of_whole_sectors() {
         image[at..at + SECTOR].fill(0);
         calls_alike(&image);
         image[at..at + SECTOR].copy_from_slice(&sound[at..at + SECTOR]);
+    }
+}
+
+/// Directories of many short names and small ids, so that the first one that stands twice may be
+/// anywhere, or nowhere.
+#[test]
+fn of_names_and_ids_in_a_large_directory() {
+    let mut draw = Draw::new(24);
+    let mut seen = std::collections::BTreeMap::new();
+    for round in 0..1_500 {
+        let files = *draw.pick(&[255, 256, 700, 1_024]);
+        let geometry = Geometry::new(files, 3, 128).expect("within the bounds");
+        let mut image = blank(geometry, geometry.end().0);
+        let occupied = draw.between(1, files);
+        let ids = *draw.pick(&[1_000, 100_000, u64::MAX]);
+        let letters = draw.between(2, 256);
+        let longest = draw.between(3, 12);
+        for index in 0..files {
+            if draw.below(files) >= occupied {
+                continue;
+            }
+            let name: Vec<u8> = (0..draw.between(1, longest))
+                .map(|_| 255 - draw.below(letters.min(255)) as u8)
+                .collect();
+            put_file(&mut image, geometry, index, &name, 0, &[]);
+            put64(&mut image, entry_field(index, 14), draw.between(1, ids - 1));
+        }
+        if round % 2 == 0 {
+            // Other names for all that stand twice, so that the ids are judged too.
+            for index in 0..files {
+                let name = format!("{index}");
+                put16(&mut image, entry_field(index, 34), name.len() as u16);
+                let at = entry_field(index, 36);
+                image[at..at + name.len()].copy_from_slice(name.as_bytes());
+            }
+        }
+        let (answer, _) = alike(&Request::Check, &image, 0);
+        alike(&find(b"7"), &image, 0);
+        let told = oracle::check(&image);
+        *seen.entry((answer.code(), told.fault)).or_insert(0) += 1;
+    }
+    for kind in [(0, 0), (7, 23), (7, 24)] {
+        let times = seen.get(&kind).copied().unwrap_or(0);
+        assert!(times > 50, "{kind:?} is too rare: {seen:?}");
     }
 }
 

@@ -19,7 +19,23 @@ use Rattle.cases.specs.Cases.{Cases}
 pub cases : Cases
 unfolding geometryFor doubled canFormat inBounds formatVerdict formatAnswer verdictOf createConditions createPlan groupsOf groupA copies staging journalOf tab catalogue barrier freeEntry ledgerAfter scan firstLedger answer slotNamed fileOf afterCall afterWrite written newEntry updatedEntry fileNamed freeExtent entryOf grows noRoom writeCount writeConditions sizeNamed nameConditions badName hasZero some every count same placeAmong holderOf sectorsBeyond holdsBeyond deleteCount writePlan dataSector placeOf extentOf updatedRoot
 cases = record {
-    P1 = refl; P1-areas = refl; P2 = refl; P3 = refl; P4 = refl; P5 = refl; P6 = λ d. refl; P6-length = λ d. refl;
-    P7 = λ d. refl; P7-length = refl; P7-refused = refl; P8 = refl; P8-table = refl; P9 = refl; P9-table = refl; P9-order = λ d. refl;
-    P10 = refl; P10-refused = refl; longest = refl
-  }
+  P1 = refl;
+  P1-areas = refl;
+  P2 = refl;
+  P3 = refl;
+  P4 = refl;
+  P5 = refl;
+  P6 = λ d. refl;
+  P6-length = λ d. refl;
+  P7 = λ d. refl;
+  P7-length = refl;
+  P7-refused = refl;
+  P8 = refl;
+  P8-table = refl;
+  P9 = refl;
+  P9-table = refl;
+  P9-order = λ d. refl;
+  P10 = refl;
+  P10-refused = refl;
+  longest = refl;
+}

@@ -29,3 +29,32 @@ pub fn delete(img: &[u8], name: &[u8], time: u32, list: &mut [u8]) -> Changed
     }
     commit::refused(v)
 }
+
+pub fn resize(img: &[u8], name: &[u8], size: u64, time: u32, list: &mut [u8]) -> Changed
+    ensures { λ r. ⌜ r ≡ resizeAnswer (length (now (img .entry))) (view (now (img .entry))) (now (name .entry)) size time (length (now (list .entry))) ⌝ }
+    ensures { λ _. ⌜ now (list .exit) ≡ resizeList (length (now (img .entry))) (view (now (img .entry))) (now (name .entry)) size time (now (list .entry)) ⌝ }
+{
+    let v = soundness::judge(img);
+    if v.number == 0 {
+        return write::resize_in(img, name, size, time, list);
+    }
+    commit::refused(v)
+}
+
+pub fn write(
+    img: &[u8],
+    name: &[u8],
+    offset: u64,
+    bytes: &[u8],
+    time: u32,
+    list: &mut [u8],
+) -> Changed
+    ensures { λ r. ⌜ r ≡ writeAnswer (length (now (img .entry))) (view (now (img .entry))) (now (name .entry)) offset (now (bytes .entry)) time (length (now (list .entry))) ⌝ }
+    ensures { λ _. ⌜ now (list .exit) ≡ writeList (length (now (img .entry))) (view (now (img .entry))) (now (name .entry)) offset (now (bytes .entry)) time (now (list .entry)) ⌝ }
+{
+    let v = soundness::judge(img);
+    if v.number == 0 {
+        return write::write_in(img, name, offset, bytes, time, list);
+    }
+    commit::refused(v)
+}

@@ -13,7 +13,6 @@ ghost use lib.Dec.{eqb};
 ghost use lib.ListN.{length};
 ghost use Rattle.model.specs.Search.{some, isAt, indexOf};
 ghost use Rattle.model.specs.Disk.{view};
-ghost use Rattle.model.specs.Root.{updatedRootSector};
 ghost use Rattle.model.specs.Entry.{badName, longestName, newEntrySector};
 ghost use Rattle.model.specs.Catalogue.{catalogueOf, fileNamed, hasId};
 ghost use Rattle.model.specs.Refusals.{verdictOf, judged};
@@ -86,19 +85,6 @@ fn own_verdict(img: &[u8], g: Geometry, name: &[u8], id: u64) -> Verdict
 
 // ---- the targets' contents
 
-// The root: version up, change time set.
-pub fn updated_root(img: &[u8], time: u32) -> [u8; 512]
-    requires { ⌜ 1024 ≤ length (now img) ⌝ }
-    ensures { λ r. ⌜ r ≡ updatedRootSector time (view (now (img .entry)) 1) ⌝ }
-{
-    let mut a = fields::sector(img, Sector(1));
-    let v = fields::be32(&a, 0);
-    let w = std::num::wrapping_add_u32(v, 1);
-    fields::put_be(&mut a, 0, 4, w as u64);
-    fields::put_be(&mut a, 20, 4, time as u64);
-    a
-}
-
 fn entry_front(id: u64, mode: u32, time: u32) -> [u8; 512]
     ensures { λ r. ⌜ r ≡ entryFront id mode time ⌝ }
 {
@@ -159,7 +145,7 @@ fn put_create(
     requires { ⌜ length (now name) ≤ longestName ⌝ }
     ensures { λ r. ⌜ Emitted (now (list .entry)) 0 (closed (groupsOf g (view (now (img .entry))) (createPlan (catalogueOf (view (now (img .entry)))) (view (now (img .entry))) (now (name .entry)) id mode time))) (now (list .exit)) r ⌝ }
 {
-    let a = updated_root(img, time);
+    let a = rewrites::updated_root(img, time);
     let b = new_entry(name, id, mode, time);
     let i = index_of(directory::free_entry(img, g));
     let t = FileIndex(i as u64).sector();

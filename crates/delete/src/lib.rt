@@ -9,11 +9,8 @@ ghost use mathlib.Core.Bool.{cond};
 ghost use mathlib.Core.Option.{some as just};
 ghost use Prim.Native.Nat.{_+_, _*_, _≤_, _<_};
 ghost use lib.ListN.{length};
-ghost use Rattle.model.specs.Bytes.{raised};
-ghost use Rattle.model.specs.Geometry.{rootAt, entryAt, tableSectors, extentsFor};
+ghost use Rattle.model.specs.Geometry.{tableSectors, extentsFor};
 ghost use Rattle.model.specs.Disk.{view};
-ghost use Rattle.model.specs.Root.{updatedRootSector};
-ghost use Rattle.model.specs.Entry.{updatedEntrySector};
 ghost use Rattle.model.specs.Table.{freeFile};
 ghost use Rattle.model.specs.Catalogue.{catalogueOf, holdsBeyond, sectorsBeyond};
 ghost use Rattle.model.specs.Refusals.{judged};
@@ -22,38 +19,6 @@ ghost use Rattle.model.specs.Delete.{freedSector, freedSectors, deletePlan, del
 ghost use Rattle.model.specs.Resize.{shrinkPlan};
 ghost use Rattle.model.specs.Opened.{Opened};
 ghost use Rattle.delete.specs.Staging.{Added};
-
-// A version of 4,294,967,295 is followed by 0.
-pub fn next_version(version: u32) -> u32
-    ensures { λ r. ⌜ r ≡ raised version ⌝ }
-{
-    std::num::wrapping_add_u32(version, 1)
-}
-
-// The root's sector with the version up and the change time set.
-pub fn updated_root(img: &[u8], time: u32) -> [u8; 512]
-    requires { ⌜ 512 * rootAt + 512 ≤ length (now img) ⌝ }
-    ensures { λ r. ⌜ r ≡ updatedRootSector time (view (now (img .entry)) rootAt) ⌝ }
-{
-    let mut a = fields::sector(img, Sector(1));
-    let version = next_version(fields::be32(&a, 0));
-    fields::put_be(&mut a, 0, 4, version as u64);
-    fields::put_be(&mut a, 20, 4, time as u64);
-    a
-}
-
-// Entry i's sector with the size given, the version up and the change time set.
-pub fn updated_entry(img: &[u8], i: FileIndex, size: u64, time: u32) -> [u8; 512]
-    requires { ⌜ 512 * entryAt (i .0) + 512 ≤ length (now img) ⌝ }
-    ensures { λ r. ⌜ r ≡ updatedEntrySector size time (view (now (img .entry)) (entryAt (i .0))) ⌝ }
-{
-    let mut a = fields::sector(img, i.sector());
-    let version = next_version(fields::be32(&a, 10));
-    fields::put_be(&mut a, 2, 8, size);
-    fields::put_be(&mut a, 10, 4, version as u64);
-    fields::put_be(&mut a, 30, 4, time as u64);
-    a
-}
 
 // ---- freed table sectors
 
@@ -138,7 +103,7 @@ pub fn shrink(img: &[u8], g: Geometry, i: FileIndex, size: u64, time: u32, list:
     ensures { λ r. ⌜ Emitted (now (list .entry)) 0 (closed (groupsFor (view (now (img .entry))) (just (shrinkPlan (catalogueOf (view (now (img .entry)))) (view (now (img .entry))) (i .0) size time)))) (now (list .exit)) r ⌝ }
 {
     let mut numbers = [0u64; 1024];
-    let s = updated_entry(img, i, size, time);
+    let s = rewrites::updated_entry(img, i, size, time);
     let k = commit::put_copy(list, 0, g, &mut numbers, 0, i.sector(), s);
     let first = table::extents_for(g, size);
     let n = put_freed(list, k, &mut numbers, img, g, i, first);
@@ -155,7 +120,7 @@ fn put_delete(img: &[u8], g: Geometry, i: FileIndex, time: u32, list: &mut [u8])
     ensures { λ r. ⌜ Emitted (now (list .entry)) 0 (closed (groupsFor (view (now (img .entry))) (just (deletePlan (catalogueOf (view (now (img .entry)))) (view (now (img .entry))) (i .0) time)))) (now (list .exit)) r ⌝ }
 {
     let mut numbers = [0u64; 1024];
-    let root = updated_root(img, time);
+    let root = rewrites::updated_root(img, time);
     let k = commit::put_copy(list, 0, g, &mut numbers, 0, Sector(1), root);
     let entry = [0u8; 512];
     let j = commit::put_copy(list, k, g, &mut numbers, k, i.sector(), entry);

@@ -153,7 +153,12 @@ fn put_record(g: Geometry, id: u64, mode: u32, time: u32, p: u64, out: &mut [u8]
     }
     let table_end = 3 + g.files + g.table_sectors();
     if p < table_end {
-        return lists::put_sector(out, 0, table_sector(g, p - 3 - g.files), free_table_sector());
+        return lists::put_sector(
+            out,
+            0,
+            table_sector(g, p - 3 - g.files),
+            free_table_sector(),
+        );
     }
     if p == table_end + 1 {
         return lists::put_sector(out, 0, Sector(0), new_superblock(g, 0));
@@ -169,7 +174,15 @@ fn refused(number: u64) -> Formatted
 }
 
 // One record of a format; 8, 9 or 14 leave the output as it is.
-pub fn format_record(sectors: u64, files: u64, id: u64, mode: u32, time: u32, position: u64, out: &mut [u8]) -> Formatted
+pub fn format_record(
+    sectors: u64,
+    files: u64,
+    id: u64,
+    mode: u32,
+    time: u32,
+    position: u64,
+    out: &mut [u8],
+) -> Formatted
     ensures { λ r. ⌜ r ≡ formatAnswer (record { sectors = sectors; files = files; id = id; mode = mode; time = time }) position (length (now (out .entry))) ⌝ }
     ensures { λ _. ⌜ now (out .exit) ≡ formatOutput (record { sectors = sectors; files = files; id = id; mode = mode; time = time }) position (now (out .entry)) ⌝ }
 {

@@ -20,30 +20,45 @@ use Rattle.goofs.specs.declared.FormatResult.{FormatResult}
 
 abbrev pub summaryNumbers : Summarized → SummaryResult
 summaryNumbers a = record {
-    code = a .number;
-    files = a .summary .geometry .files;
-    extents = a .summary .geometry .extents;
-    «extent_sectors» = extentSectors (a .summary .geometry);
-    state = stateCode (a .summary .state);
-    entries = stateEntries (a .summary .state)
-  }
+  code = a .number;
+  files = a .summary .geometry .files;
+  extents = a .summary .geometry .extents;
+  «extent_sectors» = extentSectors (a .summary .geometry);
+  state = stateCode (a .summary .state);
+  entries = stateEntries (a .summary .state);
+}
 
 abbrev pub checkNumbers : Checked → CheckResult
 checkNumbers a = record { code = a .verdict .number; fault = a .verdict .fault; place = a .verdict .place }
 
 abbrev pub findNumbers : Found → FindResult
 findNumbers a = record {
-    code = a .verdict .number; fault = a .verdict .fault; place = a .verdict .place; index = a .index .0; size = a .fields .size;
-    version = a .fields .version; id = a .fields .id; mode = a .fields .mode; «access_time» = a .fields .«access_time»;
-    «change_time» = a .fields .«change_time»; «name_length» = a .fields .«name_length»
-  }
+  code = a .verdict .number;
+  fault = a .verdict .fault;
+  place = a .verdict .place;
+  index = a .index .0;
+  size = a .fields .size;
+  version = a .fields .version;
+  id = a .fields .id;
+  mode = a .fields .mode;
+  «access_time» = a .fields .«access_time»;
+  «change_time» = a .fields .«change_time»;
+  «name_length» = a .fields .«name_length»;
+}
 
 abbrev pub listNumbers : Listed → ListResult
 listNumbers a = record {
-    code = a .verdict .number; fault = a .verdict .fault; place = a .verdict .place; size = a .fields .size; version = a .fields .version;
-    id = a .fields .id; mode = a .fields .mode; «access_time» = a .fields .«access_time»; «change_time» = a .fields .«change_time»;
-    «name_length» = a .fields .«name_length»
-  }
+  code = a .verdict .number;
+  fault = a .verdict .fault;
+  place = a .verdict .place;
+  size = a .fields .size;
+  version = a .fields .version;
+  id = a .fields .id;
+  mode = a .fields .mode;
+  «access_time» = a .fields .«access_time»;
+  «change_time» = a .fields .«change_time»;
+  «name_length» = a .fields .«name_length»;
+}
 
 abbrev pub readNumbers : BytesRead → ReadResult
 readNumbers a = record { code = a .verdict .number; fault = a .verdict .fault; place = a .verdict .place; count = a .count }

@@ -219,7 +219,13 @@ fn read_result(a: BytesRead) -> ReadResult
 }
 
 #[no_mangle]
-pub extern "C" fn goofs_read(img: &[u8], name: &[u8], offset: u64, count: u64, out: &mut [u8]) -> ReadResult
+pub extern "C" fn goofs_read(
+    img: &[u8],
+    name: &[u8],
+    offset: u64,
+    count: u64,
+    out: &mut [u8],
+) -> ReadResult
     ensures { λ r. ⌜ r ≡ readNumbers (readAnswer (length (now (img .entry))) (view (now (img .entry))) (now (name .entry)) offset count (length (now (out .entry)))) ⌝ }
     ensures { λ _. ⌜ now (out .exit) ≡ readOutput (length (now (img .entry))) (view (now (img .entry))) (now (name .entry)) offset count (now (out .entry)) ⌝ }
 {
@@ -250,7 +256,14 @@ fn change_result(a: Changed) -> ChangeResult
 }
 
 #[no_mangle]
-pub extern "C" fn goofs_create(img: &[u8], name: &[u8], id: u64, mode: u32, time: u32, list: &mut [u8]) -> ChangeResult
+pub extern "C" fn goofs_create(
+    img: &[u8],
+    name: &[u8],
+    id: u64,
+    mode: u32,
+    time: u32,
+    list: &mut [u8],
+) -> ChangeResult
     ensures { λ r. ⌜ r ≡ changeNumbers (createAnswer (length (now (img .entry))) (view (now (img .entry))) (now (name .entry)) id mode time (length (now (list .entry)))) ⌝ }
     ensures { λ _. ⌜ now (list .exit) ≡ createList (length (now (img .entry))) (view (now (img .entry))) (now (name .entry)) id mode time (now (list .entry)) ⌝ }
 {
@@ -264,6 +277,37 @@ pub extern "C" fn goofs_delete(img: &[u8], name: &[u8], time: u32, list: &mut [u
     ensures { λ _. ⌜ now (list .exit) ≡ deleteList (length (now (img .entry))) (view (now (img .entry))) (now (name .entry)) time (now (list .entry)) ⌝ }
 {
     let a = changes::delete(img, name, time, list);
+    change_result(a)
+}
+
+#[no_mangle]
+pub extern "C" fn goofs_resize(
+    img: &[u8],
+    name: &[u8],
+    size: u64,
+    time: u32,
+    list: &mut [u8],
+) -> ChangeResult
+    ensures { λ r. ⌜ r ≡ changeNumbers (resizeAnswer (length (now (img .entry))) (view (now (img .entry))) (now (name .entry)) size time (length (now (list .entry)))) ⌝ }
+    ensures { λ _. ⌜ now (list .exit) ≡ resizeList (length (now (img .entry))) (view (now (img .entry))) (now (name .entry)) size time (now (list .entry)) ⌝ }
+{
+    let a = changes::resize(img, name, size, time, list);
+    change_result(a)
+}
+
+#[no_mangle]
+pub extern "C" fn goofs_write(
+    img: &[u8],
+    name: &[u8],
+    offset: u64,
+    bytes: &[u8],
+    time: u32,
+    list: &mut [u8],
+) -> ChangeResult
+    ensures { λ r. ⌜ r ≡ changeNumbers (writeAnswer (length (now (img .entry))) (view (now (img .entry))) (now (name .entry)) offset (now (bytes .entry)) time (length (now (list .entry)))) ⌝ }
+    ensures { λ _. ⌜ now (list .exit) ≡ writeList (length (now (img .entry))) (view (now (img .entry))) (now (name .entry)) offset (now (bytes .entry)) time (now (list .entry)) ⌝ }
+{
+    let a = changes::write(img, name, offset, bytes, time, list);
     change_result(a)
 }
 
@@ -294,7 +338,15 @@ pub struct FormatResult {
 }
 
 #[no_mangle]
-pub extern "C" fn goofs_format_record(sectors: u64, files: u64, id: u64, mode: u32, time: u32, position: u64, out: &mut [u8]) -> FormatResult
+pub extern "C" fn goofs_format_record(
+    sectors: u64,
+    files: u64,
+    id: u64,
+    mode: u32,
+    time: u32,
+    position: u64,
+    out: &mut [u8],
+) -> FormatResult
     ensures { λ r. ⌜ r ≡ formatNumbers (formatAnswer (record { sectors = sectors; files = files; id = id; mode = mode; time = time }) position (length (now (out .entry)))) ⌝ }
     ensures { λ _. ⌜ now (out .exit) ≡ formatOutput (record { sectors = sectors; files = files; id = id; mode = mode; time = time }) position (now (out .entry)) ⌝ }
 {

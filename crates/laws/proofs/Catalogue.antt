@@ -64,37 +64,37 @@ module _ (d : Disk) where
   pub fault22-is : (i : ℕ) → i < g .files → fault22 (catalogueOf d) i ≡ (isOccupied (s i) && (badName (nameIn (s i)) || ltb (usable g * extentBytes g) (beAt (s i) 2 8)))
   unfolding fault22 catalogueOf entryIn
   fault22-is i l =
-    ap (λ (o : Option Entry). among o (λ e. badName (e .name) || ltb (usable g * extentBytes g) (e .size))) (slot-on i l)
-    ∙ among-if (isOccupied (s i)) (entryIn (s i)) (λ e. badName (e .name) || ltb (usable g * extentBytes g) (e .size))
+      ap (λ (o : Option Entry). among o (λ e. badName (e .name) || ltb (usable g * extentBytes g) (e .size))) (slot-on i l)
+      ∙ among-if (isOccupied (s i)) (entryIn (s i)) (λ e. badName (e .name) || ltb (usable g * extentBytes g) (e .size))
 
   pub fault23-is : (i : ℕ) → i < g .files → fault23 (catalogueOf d) i ≡ (isOccupied (s i) && some (λ j. isOccupied (s j) && same (nameIn (s j)) (nameIn (s i))) i)
   unfolding fault23 entryIn
   fault23-is i l =
-    ap (λ (o : Option Entry). among o (λ e. some (λ j. hasName (e .name) (catalogueOf d .entries j)) i)) (slot-on i l)
-    ∙ among-if (isOccupied (s i)) (entryIn (s i)) (λ e. some (λ j. hasName (e .name) (catalogueOf d .entries j)) i)
-    ∙ ap (λ (b : Bool). isOccupied (s i) && b)
-        (some-ext (λ j. hasName (nameIn (s i)) (catalogueOf d .entries j)) (λ j. isOccupied (s j) && same (nameIn (s j)) (nameIn (s i))) i
-          (λ j k. ap (hasName (nameIn (s i))) (slot-on j (omega arith)) ∙ name-if (isOccupied (s j)) (entryIn (s j)) (nameIn (s i))))
+      ap (λ (o : Option Entry). among o (λ e. some (λ j. hasName (e .name) (catalogueOf d .entries j)) i)) (slot-on i l)
+      ∙ among-if (isOccupied (s i)) (entryIn (s i)) (λ e. some (λ j. hasName (e .name) (catalogueOf d .entries j)) i)
+      ∙ ap (λ (b : Bool). isOccupied (s i) && b)
+      (some-ext (λ j. hasName (nameIn (s i)) (catalogueOf d .entries j)) (λ j. isOccupied (s j) && same (nameIn (s j)) (nameIn (s i))) i
+      (λ j k. ap (hasName (nameIn (s i))) (slot-on j (omega arith)) ∙ name-if (isOccupied (s j)) (entryIn (s j)) (nameIn (s i))))
 
   pub fault24-is : (i : ℕ) → i < g .files
       → fault24 (catalogueOf d) i ≡ (isOccupied (s i) && (eqb (beAt (s i) 14 8) 0 || eqb (beAt (s i) 14 8) (rootIn (d rootAt) .id) || some (λ j. isOccupied (s j) && eqb (beAt (s j) 14 8) (beAt (s i) 14 8)) i))
   unfolding fault24 entryIn catalogueOf
   fault24-is i l =
-    ap (λ (o : Option Entry). among o (λ e. eqb (e .id) 0 || eqb (e .id) (rootIn (d rootAt) .id) || some (λ j. hasId (e .id) (catalogueOf d .entries j)) i)) (slot-on i l)
-    ∙ among-if (isOccupied (s i)) (entryIn (s i)) (λ e. eqb (e .id) 0 || eqb (e .id) (rootIn (d rootAt) .id) || some (λ j. hasId (e .id) (catalogueOf d .entries j)) i)
-    ∙ ap (λ (b : Bool). isOccupied (s i) && (eqb (beAt (s i) 14 8) 0 || eqb (beAt (s i) 14 8) (rootIn (d rootAt) .id) || b))
-        (some-ext (λ j. hasId (beAt (s i) 14 8) (catalogueOf d .entries j)) (λ j. isOccupied (s j) && eqb (beAt (s j) 14 8) (beAt (s i) 14 8)) i
-          (λ j k. ap (hasId (beAt (s i) 14 8)) (slot-on j (omega arith)) ∙ id-if (isOccupied (s j)) (entryIn (s j)) (beAt (s i) 14 8)))
+      ap (λ (o : Option Entry). among o (λ e. eqb (e .id) 0 || eqb (e .id) (rootIn (d rootAt) .id) || some (λ j. hasId (e .id) (catalogueOf d .entries j)) i)) (slot-on i l)
+      ∙ among-if (isOccupied (s i)) (entryIn (s i)) (λ e. eqb (e .id) 0 || eqb (e .id) (rootIn (d rootAt) .id) || some (λ j. hasId (e .id) (catalogueOf d .entries j)) i)
+      ∙ ap (λ (b : Bool). isOccupied (s i) && (eqb (beAt (s i) 14 8) 0 || eqb (beAt (s i) 14 8) (rootIn (d rootAt) .id) || b))
+      (some-ext (λ j. hasId (beAt (s i) 14 8) (catalogueOf d .entries j)) (λ j. isOccupied (s j) && eqb (beAt (s j) 14 8) (beAt (s i) 14 8)) i
+      (λ j k. ap (hasId (beAt (s i) 14 8)) (slot-on j (omega arith)) ∙ id-if (isOccupied (s j)) (entryIn (s j)) (beAt (s i) 14 8)))
 
   pub fault25-is : (e : ℕ) → e < g .extents
       → fault25 (catalogueOf d) e ≡ (not (eqb (tableFile g d e) freeFile) && (not (ltb (tableFile g d e) (g .files) && isOccupied (s (tableFile g d e))) || leb (usable g) e))
   unfolding fault25 catalogueOf
   fault25-is e l =
-    ap (λ (b : Bool). among (cond (b && not (eqb (tableFile g d e) freeFile)) (just (record { file = tableFile g d e; offset = tableOffset g d e })) none)
+      ap (λ (b : Bool). among (cond (b && not (eqb (tableFile g d e) freeFile)) (just (record { file = tableFile g d e; offset = tableOffset g d e })) none)
       (λ (w : Owner). isFree (catalogueOf d .entries (w .file)) || leb (usable g) e)) (lt-ltb e (g .extents) l)
-    ∙ among-if (not (eqb (tableFile g d e) freeFile)) (record { file = tableFile g d e; offset = tableOffset g d e }) (λ (w : Owner). isFree (catalogueOf d .entries (w .file)) || leb (usable g) e)
-    ∙ ap (λ (b : Bool). not (eqb (tableFile g d e) freeFile) && (b || leb (usable g) e))
-        (free-if (ltb (tableFile g d e) (g .files) && isOccupied (s (tableFile g d e))) (entryIn (s (tableFile g d e))))
+      ∙ among-if (not (eqb (tableFile g d e) freeFile)) (record { file = tableFile g d e; offset = tableOffset g d e }) (λ (w : Owner). isFree (catalogueOf d .entries (w .file)) || leb (usable g) e)
+      ∙ ap (λ (b : Bool). not (eqb (tableFile g d e) freeFile) && (b || leb (usable g) e))
+      (free-if (ltb (tableFile g d e) (g .files) && isOccupied (s (tableFile g d e))) (entryIn (s (tableFile g d e))))
 
   pub table-on : (e : ℕ) → e < g .extents → catalogueOf d .table e ≡ owner (tableFile g d e) (tableOffset g d e)
   unfolding catalogueOf
@@ -103,42 +103,42 @@ module _ (d : Disk) where
   module _ (i : ℕ) (few : i < freeFile) where
     pub part-is : (o e : ℕ) → e < g .extents → isPart i o (catalogueOf d .table e) ≡ (eqb (tableFile g d e) i && eqb (tableOffset g d e) o)
     part-is o e l =
-      ap (isPart i o) (table-on e l)
-      ∙ by-owner (isPart i o) _ (tableFile g d e) (tableOffset g d e) (λ q. ap (λ (b : Bool). b && eqb (tableOffset g d e) o) (ne-eqb (tableFile g d e) i (λ z. omega arith))) refl
+        ap (isPart i o) (table-on e l)
+        ∙ by-owner (isPart i o) _ (tableFile g d e) (tableOffset g d e) (λ q. ap (λ (b : Bool). b && eqb (tableOffset g d e) o) (ne-eqb (tableFile g d e) i (λ z. omega arith))) refl
 
     pub beyond-is : (k e : ℕ) → e < g .extents → not (isBeyond i k (catalogueOf d .table e)) ≡ (not (eqb (tableFile g d e) i) || ltb (tableOffset g d e) k)
     beyond-is k e l =
-      ap (λ (o : Option Owner). not (isBeyond i k o)) (table-on e l)
-      ∙ by-owner (λ o. not (isBeyond i k o)) _ (tableFile g d e) (tableOffset g d e)
-          (λ q. ap (λ (b : Bool). not b || ltb (tableOffset g d e) k) (ne-eqb (tableFile g d e) i (λ z. omega arith)))
-          (not-and (eqb (tableFile g d e) i) (leb k (tableOffset g d e)) ∙ ap (λ (b : Bool). not (eqb (tableFile g d e) i) || b) (not-leb k (tableOffset g d e)))
+        ap (λ (o : Option Owner). not (isBeyond i k o)) (table-on e l)
+        ∙ by-owner (λ o. not (isBeyond i k o)) _ (tableFile g d e) (tableOffset g d e)
+        (λ q. ap (λ (b : Bool). not b || ltb (tableOffset g d e) k) (ne-eqb (tableFile g d e) i (λ z. omega arith)))
+        (not-and (eqb (tableFile g d e) i) (leb k (tableOffset g d e)) ∙ ap (λ (b : Bool). not (eqb (tableFile g d e) i) || b) (not-leb k (tableOffset g d e)))
 
     pub exact-is : (k : ℕ)
         → exact (catalogueOf d) i k ≡ (every (λ o. eqb (count (λ e. eqb (tableFile g d e) i && eqb (tableOffset g d e) o) (g .extents)) 1) k
-          && every (λ e. not (eqb (tableFile g d e) i) || ltb (tableOffset g d e) k) (g .extents))
+        && every (λ e. not (eqb (tableFile g d e) i) || ltb (tableOffset g d e) k) (g .extents))
     unfolding exact catalogueOf
     exact-is k =
-      ap₂ (λ a b. a && b)
+        ap₂ (λ a b. a && b)
         (every-ext _ (λ o. eqb (count (λ e. eqb (tableFile g d e) i && eqb (tableOffset g d e) o) (g .extents)) 1) k
-          (λ o q. ap (λ n. eqb n 1) (count-ext (λ e. isPart i o (catalogueOf d .table e)) (λ e. eqb (tableFile g d e) i && eqb (tableOffset g d e) o) (g .extents) (λ e l. part-is o e l))))
+        (λ o q. ap (λ n. eqb n 1) (count-ext (λ e. isPart i o (catalogueOf d .table e)) (λ e. eqb (tableFile g d e) i && eqb (tableOffset g d e) o) (g .extents) (λ e l. part-is o e l))))
         (every-ext (λ e. not (isBeyond i k (catalogueOf d .table e))) (λ e. not (eqb (tableFile g d e) i) || ltb (tableOffset g d e) k) (g .extents) (λ e l. beyond-is k e l))
 
   pub fault26-is : (i : ℕ) → i < g .files → fault26 (catalogueOf d) i ≡ (isOccupied (s i) && not (exact (catalogueOf d) i (extentsFor g (beAt (s i) 2 8))))
   unfolding fault26 catalogueOf entryIn
   fault26-is i l =
-    ap (λ (o : Option Entry). among o (λ e. not (exact (catalogueOf d) i (extentsFor g (e .size))))) (slot-on i l)
-    ∙ among-if (isOccupied (s i)) (entryIn (s i)) (λ e. not (exact (catalogueOf d) i (extentsFor g (e .size))))
+      ap (λ (o : Option Entry). among o (λ e. not (exact (catalogueOf d) i (extentsFor g (e .size))))) (slot-on i l)
+      ∙ among-if (isOccupied (s i)) (entryIn (s i)) (λ e. not (exact (catalogueOf d) i (extentsFor g (e .size))))
 
   -- ---- the searches
 
   pub named-on : (n : List ℕ) → fileNamed (catalogueOf d) n ≡ first (λ i. isOccupied (s i) && same (nameIn (s i)) n) (g .files)
   unfolding fileNamed catalogueOf entryIn
   named-on n =
-    first-ext (λ i. hasName n (catalogueOf d .entries i)) (λ i. isOccupied (s i) && same (nameIn (s i)) n) (g .files)
+      first-ext (λ i. hasName n (catalogueOf d .entries i)) (λ i. isOccupied (s i) && same (nameIn (s i)) n) (g .files)
       (λ i l. ap (hasName n) (slot-on i l) ∙ name-if (isOccupied (s i)) (entryIn (s i)) n)
 
   pub free-on : freeEntry (catalogueOf d) ≡ first (λ i. not (isOccupied (s i))) (g .files)
   unfolding freeEntry catalogueOf
   free-on =
-    first-ext (λ i. isFree (catalogueOf d .entries i)) (λ i. not (isOccupied (s i))) (g .files)
+      first-ext (λ i. isFree (catalogueOf d .entries i)) (λ i. not (isOccupied (s i))) (g .files)
       (λ i l. ap isFree (slot-on i l) ∙ free-if (isOccupied (s i)) (entryIn (s i)))

@@ -1,5 +1,4 @@
--- Laws of the layout: what bounds say, that no area's start overflows, that the reserve is smaller than the volume, and what a
--- summary's method answers. Assumes nothing.
+-- Laws of the layout: what bounds say, that no area's start overflows, that the reserve is smaller than the volume. Assumes nothing.
 use Prim.Native.Nat.{ℕ, suc, _+_, _-_, _*_, _/_, _≤_, _<_}
 use mathlib.Core.Path.{_≡_, refl, sym, ap, _∙_}
 use mathlib.Core.Bool.{Bool, true, false, cond, _&&_, false≢true}
@@ -8,11 +7,7 @@ use native.Mathlib.Omega.{arith}
 use lib.Dec.{leb}
 use borrow.Author.Tests.{leb-true}
 use Rattle.model.specs.declared.Geometry.{Geometry}
-use Rattle.model.specs.declared.Sector.{Sector}
-use Rattle.model.specs.declared.Summary.{Summary}
-use Rattle.model.specs.declared.Located.{Located}
 use Rattle.model.specs.Geometry.{extentSectors, inBounds}
-use Rattle.model.specs.Summary.{located}
 use Rattle.model.specs.Opened.{Bounded}
 
 and-true : (a b : Bool) → (a && b) ≡ true → (a ≡ true) × (b ≡ true)
@@ -27,8 +22,12 @@ bounds g h s =
     let p2 = and-true (leb 255 (g .files) && leb (g .files) 1024) (leb 2 (g .extents)) (p3 .0) in
     let p1 = and-true (leb 255 (g .files)) (leb (g .files) 1024) (p2 .0) in
     record {
-      files-low = leb-true 255 (g .files) (p1 .0); files-high = leb-true (g .files) 1024 (p1 .1); extents-low = leb-true 2 (g .extents) (p2 .1);
-      extents-high = leb-true (g .extents) 65535 (p3 .1); extent-low = leb-true 128 (extentSectors g) (p4 .1); extent-high = s
+      files-low = leb-true 255 (g .files) (p1 .0);
+      files-high = leb-true (g .files) 1024 (p1 .1);
+      extents-low = leb-true 2 (g .extents) (p2 .1);
+      extents-high = leb-true (g .extents) 65535 (p3 .1);
+      extent-low = leb-true 128 (extentSectors g) (p4 .1);
+      extent-high = s;
     }
 
 -- so many extents have a number of sectors that fits 48 bits
@@ -43,13 +42,3 @@ reserve-small n s a b h =
     let p : (n - 1) * 128 ≤ (n - 1) * s = mul-le-mul-left (n - 1) h in
     let q : (n + 127) / 128 + 2 + (s - 1) < n * s = omega arith in
     div-lt-iff-lt-mul {k = s} (omega arith) .1 q
-
--- a method's two answers
-module _ (area : Geometry → ℕ) (s : Summary) (b : Bool) (is : b ≡ inBounds (s .geometry)) where
-  pub located-in : (k : Sector) → b ≡ true → k .0 ≡ area (s .geometry) → record { number = 0; sector = k } ≡ located area s
-  located-in k t e =
-      ap (λ (x : ℕ). record { number = 0; sector = record { 0 = x } }) e
-      ∙ sym (ap (λ (x : Bool). cond x (record { number = 0; sector = record { 0 = area (s .geometry) } }) (record { number = 3; sector = record { 0 = 0 } })) (sym is ∙ t))
-
-  pub located-out : b ≡ false → record { number = 3; sector = record { 0 = 0 } } ≡ located area s
-  located-out t = sym (ap (λ (x : Bool). cond x (record { number = 0; sector = record { 0 = area (s .geometry) } }) (record { number = 3; sector = record { 0 = 0 } })) (sym is ∙ t))

@@ -28,8 +28,8 @@ badRecord sectors list k =
 unfoldable pub carryVerdict : List ℕ → List ℕ → Verdict
 carryVerdict img list =
     verdictOf
-      ((not (isWhole (length img)), refusal 1)
-      ∷ (not (eqb (length list % recordSize) 0) || some (badRecord (length img / 512) list) (length list / recordSize), refusal 8) ∷ [])
+    ((not (isWhole (length img)), refusal 1)
+    ∷ (not (eqb (length list % recordSize) 0) || some (badRecord (length img / 512) list) (length list / recordSize), refusal 8) ∷ [])
 
 unfoldable pub carryAnswer : List ℕ → List ℕ → CarriedOut
 carryAnswer img list = record { number = carryVerdict img list .number }

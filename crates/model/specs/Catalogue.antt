@@ -37,8 +37,8 @@ catalogueOf d =
       root = rootIn (d rootAt);
       entries = λ i. cond (ltb i (g .files) && isOccupied (d (entryAt i))) (just (entryIn (d (entryAt i)))) none;
       table = λ e.
-        cond (ltb e (g .extents) && not (eqb (tableFile g d e) freeFile))
-          (just (record { file = tableFile g d e; offset = tableOffset g d e })) none
+          cond (ltb e (g .extents) && not (eqb (tableFile g d e) freeFile))
+          (just (record { file = tableFile g d e; offset = tableOffset g d e })) none;
     }
 
 -- ---- tests of one entry, of one table entry

@@ -25,11 +25,11 @@ createConditions c name id =
 
 unfoldable pub createPlan : Catalogue → Disk → List ℕ → ℕ → ℕ → ℕ → Plan
 createPlan c d name id mode time = record {
-    dataSectors = [];
-    targets =
+  dataSectors = [];
+  targets =
       sectorWrite rootAt (updatedRootSector time (d rootAt))
-      ∷ sectorWrite (entryAt (indexOf (freeEntry c))) (newEntrySector name id mode time) ∷ []
-  }
+      ∷ sectorWrite (entryAt (indexOf (freeEntry c))) (newEntrySector name id mode time) ∷ [];
+}
 
 abbrev pub createCount : ℕ
 createCount = recordCount 0 2

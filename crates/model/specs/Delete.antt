@@ -27,9 +27,9 @@ freedSectors c d i o = flat (freedSector c d i o) 0 (tableSectors (c .geometry))
 
 unfoldable pub deletePlan : Catalogue → Disk → FileNumber → ℕ → Plan
 deletePlan c d i time = record {
-    dataSectors = [];
-    targets = sectorWrite rootAt (updatedRootSector time (d rootAt)) ∷ sectorWrite (entryAt i) zeroSector ∷ freedSectors c d i 0
-  }
+  dataSectors = [];
+  targets = sectorWrite rootAt (updatedRootSector time (d rootAt)) ∷ sectorWrite (entryAt i) zeroSector ∷ freedSectors c d i 0;
+}
 
 unfoldable pub deleteCount : Catalogue → FileNumber → ℕ
 deleteCount c i = recordCount 0 (2 + sectorsBeyond c i 0)

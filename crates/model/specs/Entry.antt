@@ -22,9 +22,16 @@ pub record EntryLayout : Type 0 where
 
 abbrev pub entryField : EntryLayout
 entryField = record {
-    mark = field 0 2; size = field 2 8; version = field 10 4; id = field 14 8; mode = field 22 4; accessTime = field 26 4;
-    changeTime = field 30 4; nameLength = field 34 2; name = 36
-  }
+  mark = field 0 2;
+  size = field 2 8;
+  version = field 10 4;
+  id = field 14 8;
+  mode = field 22 4;
+  accessTime = field 26 4;
+  changeTime = field 30 4;
+  nameLength = field 34 2;
+  name = 36;
+}
 
 abbrev pub freeMark : ℕ
 freeMark = 0
@@ -48,10 +55,14 @@ nameIn s = run s (entryField .name) (numberIn s (entryField .nameLength))
 
 unfoldable pub entryIn : List ℕ → Entry
 entryIn s = record {
-    size = numberIn s (entryField .size); version = numberIn s (entryField .version); id = numberIn s (entryField .id);
-    mode = numberIn s (entryField .mode); accessTime = numberIn s (entryField .accessTime);
-    changeTime = numberIn s (entryField .changeTime); name = nameIn s
-  }
+  size = numberIn s (entryField .size);
+  version = numberIn s (entryField .version);
+  id = numberIn s (entryField .id);
+  mode = numberIn s (entryField .mode);
+  accessTime = numberIn s (entryField .accessTime);
+  changeTime = numberIn s (entryField .changeTime);
+  name = nameIn s;
+}
 
 unfoldable pub isOccupied : List ℕ → Bool
 isOccupied s = eqb (numberIn s (entryField .mark)) occupiedMark
@@ -59,9 +70,14 @@ isOccupied s = eqb (numberIn s (entryField .mark)) occupiedMark
 -- the fields that find and list give
 unfoldable pub fieldsOf : Entry → Fields
 fieldsOf e = record {
-    size = e .size; version = e .version; id = e .id; mode = e .mode; «access_time» = e .accessTime; «change_time» = e .changeTime;
-    «name_length» = length (e .name)
-  }
+  size = e .size;
+  version = e .version;
+  id = e .id;
+  mode = e .mode;
+  «access_time» = e .accessTime;
+  «change_time» = e .changeTime;
+  «name_length» = length (e .name);
+}
 
 abbrev pub noFields : Fields
 noFields = record { size = 0; version = 0; id = 0; mode = 0; «access_time» = 0; «change_time» = 0; «name_length» = 0 }
@@ -83,17 +99,23 @@ newEntry name id mode time = record { size = 0; version = 0; id = id; mode = mod
 unfoldable pub newEntrySector : List ℕ → ℕ → ℕ → ℕ → List ℕ
 newEntrySector name id mode time =
     stamped zeroSector
-      (setTo (entryField .mark) occupiedMark ∷ setTo (entryField .id) id ∷ setTo (entryField .mode) mode ∷ setTo (entryField .accessTime) time
-      ∷ setTo (entryField .changeTime) time ∷ setTo (entryField .nameLength) (length name) ∷ (entryField .name, name) ∷ [])
+    (setTo (entryField .mark) occupiedMark ∷ setTo (entryField .id) id ∷ setTo (entryField .mode) mode ∷ setTo (entryField .accessTime) time
+    ∷ setTo (entryField .changeTime) time ∷ setTo (entryField .nameLength) (length name) ∷ (entryField .name, name) ∷ [])
 
 -- write's and resize's: the size given, "version up, change time set"; and the same of its sector
 unfoldable pub updatedEntry : ℕ → ℕ → Entry → Entry
 updatedEntry size time e = record {
-    size = size; version = raised (e .version); id = e .id; mode = e .mode; accessTime = e .accessTime; changeTime = time; name = e .name
-  }
+  size = size;
+  version = raised (e .version);
+  id = e .id;
+  mode = e .mode;
+  accessTime = e .accessTime;
+  changeTime = time;
+  name = e .name;
+}
 
 unfoldable pub updatedEntrySector : ℕ → ℕ → List ℕ → List ℕ
 updatedEntrySector size time s =
     stamped s
-      (setTo (entryField .size) size ∷ setTo (entryField .version) (raised (numberIn s (entryField .version)))
-      ∷ setTo (entryField .changeTime) time ∷ [])
+    (setTo (entryField .size) size ∷ setTo (entryField .version) (raised (numberIn s (entryField .version)))
+    ∷ setTo (entryField .changeTime) time ∷ [])

@@ -62,7 +62,7 @@ firstFault d =
     let c = catalogueOf d in
     let files = c .geometry .files in
     orElse 21 (first (fault21 d) files)
-      (orElse 22 (first (fault22 c) files)
-        (orElse 23 (first (fault23 c) files)
-          (orElse 24 (first (fault24 c) files)
-            (orElse 25 (first (fault25 c) (c .geometry .extents)) (orElse 26 (first (fault26 c) files) Sound)))))
+    (orElse 22 (first (fault22 c) files)
+    (orElse 23 (first (fault23 c) files)
+    (orElse 24 (first (fault24 c) files)
+    (orElse 25 (first (fault25 c) (c .geometry .extents)) (orElse 26 (first (fault26 c) files) Sound)))))

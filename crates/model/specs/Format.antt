@@ -47,18 +47,18 @@ formatCount g = g .files + tableSectors g + 6
 unfoldable pub formatRecord : Geometry → Format → ℕ → Record
 formatRecord g a p =
     cond (eqb p 0) (sectorWrite superblockAt (newSuperblock g 65535))
-      (cond (eqb p 1) barrier
-        (cond (eqb p 2) (sectorWrite rootAt (newRootSector (a .id) (a .mode) (a .time)))
-          (cond (ltb p (3 + g .files)) (sectorWrite (entryAt (p - 3)) zeroSector)
-            (cond (ltb p (3 + g .files + tableSectors g)) (sectorWrite (tableAt g + (p - 3 - g .files)) onesSector)
-              (cond (eqb p (4 + g .files + tableSectors g)) (sectorWrite superblockAt (newSuperblock g 0)) barrier)))))
+    (cond (eqb p 1) barrier
+    (cond (eqb p 2) (sectorWrite rootAt (newRootSector (a .id) (a .mode) (a .time)))
+    (cond (ltb p (3 + g .files)) (sectorWrite (entryAt (p - 3)) zeroSector)
+    (cond (ltb p (3 + g .files + tableSectors g)) (sectorWrite (tableAt g + (p - 3 - g .files)) onesSector)
+    (cond (eqb p (4 + g .files + tableSectors g)) (sectorWrite superblockAt (newSuperblock g 0)) barrier)))))
 
 -- 8 F out of bounds or no geometry, 9 position past the last record, 14 output too short for a record
 unfoldable pub formatVerdict : Format → ℕ → ℕ → Verdict
 formatVerdict a p room =
     verdictOf
-      ((not (canFormat (a .sectors) (a .files)), refusal 8) ∷ (leb (formatCount (geometryFor (a .sectors) (a .files))) p, refusal 9)
-      ∷ (ltb room recordSize, refusal 14) ∷ [])
+    ((not (canFormat (a .sectors) (a .files)), refusal 8) ∷ (leb (formatCount (geometryFor (a .sectors) (a .files))) p, refusal 9)
+    ∷ (ltb room recordSize, refusal 14) ∷ [])
 
 unfoldable pub formatAnswer : Format → ℕ → ℕ → Formatted
 formatAnswer a p room = given (formatVerdict a p room) (record { number = 0; length = recordSize }) (λ v. record { number = v .number; length = 0 })

@@ -131,8 +131,8 @@ answer (resize name size time room) L =
     changed (changes (resizeConditions (catalogue L) name size) room (resizeCount (catalogue L) (slotNamed L name) size))
 answer (write name offset bytes time room) L =
     changed
-      (changes (writeConditions (catalogue L) name offset (length bytes)) room
-        (writeCount (catalogue L) (slotNamed L name) offset (length bytes)))
+    (changes (writeConditions (catalogue L) name offset (length bytes)) room
+    (writeCount (catalogue L) (slotNamed L name) offset (length bytes)))
 
 abbrev pub numberOf : Answer → ℕ
 numberOf (summarized a) = a .number
@@ -162,7 +162,7 @@ written L i offset bytes time =
     record {
       entry = updatedEntry size time (f .entry);
       bytes = put (run (f .bytes) 0 size) offset bytes;
-      extents = f .extents ++ cond (grows (catalogue L) i size) (indexOf (freeExtent (catalogue L)) ∷ []) []
+      extents = f .extents ++ cond (grows (catalogue L) i size) (indexOf (freeExtent (catalogue L)) ∷ []) [];
     }
 
 -- a write of 0 bytes changes nothing
@@ -195,7 +195,7 @@ afterCall (write name offset bytes time room) L = afterWrite L (slotNamed L name
 unfoldable pub partlyWritten : File → ℕ → List ℕ → List Bool → List ℕ
 partlyWritten f offset bytes mask =
     tab (λ k. cond (leb offset k && ltb k (offset + length bytes) && getD mask (k / 512 - offset / 512) false)
-      (getD bytes (k - offset) 0) (getD (f .bytes) k 0)) 0 (length (f .bytes))
+    (getD bytes (k - offset) 0) (getD (f .bytes) k 0)) 0 (length (f .bytes))
 
 -- a cut call that was not done. (A growing resize's data sectors hold new bytes only past the old size.)
 unfoldable pub afterCut : Call → List Bool → Ledger → Ledger

@@ -62,9 +62,9 @@ recoveryGroups d = replayGroups (geometryIn (d superblockAt)) d (stateOn d)
 unfoldable pub recoveryVerdict : ℕ → Disk → ℕ → Verdict
 recoveryVerdict len d room =
     andThen (imageVerdict len d)
-      (ownVerdict
-        ((eqb (stateNumber (stateOn d)) 4, refusal 4) ∷ (badJournal (geometryIn (d superblockAt)) d (stateOn d), refusal 6) ∷ [])
-        room (listLength (recoveryGroups d)))
+    (ownVerdict
+    ((eqb (stateNumber (stateOn d)) 4, refusal 4) ∷ (badJournal (geometryIn (d superblockAt)) d (stateOn d), refusal 6) ∷ [])
+    room (listLength (recoveryGroups d)))
 
 -- the groups that it really lists: none by a refusal
 unfoldable pub recoveryListed : ℕ → Disk → ℕ → List Group

@@ -25,9 +25,9 @@ zeros n = run [] 0 n
 
 unfoldable pub shrinkPlan : Catalogue → Disk → FileNumber → ℕ → ℕ → Plan
 shrinkPlan c d i z time = record {
-    dataSectors = [];
-    targets = sectorWrite (entryAt i) (updatedEntrySector z time (d (entryAt i))) ∷ freedSectors c d i (extentsFor (c .geometry) z)
-  }
+  dataSectors = [];
+  targets = sectorWrite (entryAt i) (updatedEntrySector z time (d (entryAt i))) ∷ freedSectors c d i (extentsFor (c .geometry) z);
+}
 
 -- a resize to the same size is a write of 0 bytes: "done with an empty list"
 unfoldable pub resizePlanned : Catalogue → Disk → FileNumber → ℕ → ℕ → Option Plan

@@ -23,9 +23,12 @@ pub record Root : Type 0 where
 
 unfoldable pub rootIn : List ℕ → Root
 rootIn s = record {
-    version = numberIn s (rootField .version); id = numberIn s (rootField .id); mode = numberIn s (rootField .mode);
-    accessTime = numberIn s (rootField .accessTime); changeTime = numberIn s (rootField .changeTime)
-  }
+  version = numberIn s (rootField .version);
+  id = numberIn s (rootField .id);
+  mode = numberIn s (rootField .mode);
+  accessTime = numberIn s (rootField .accessTime);
+  changeTime = numberIn s (rootField .changeTime);
+}
 
 -- create's and delete's: "Root: version up, change time set"; and the same of its sector
 unfoldable pub updatedRoot : ℕ → Root → Root
@@ -42,4 +45,4 @@ newRoot id mode time = record { version = 0; id = id; mode = mode; accessTime = 
 unfoldable pub newRootSector : ℕ → ℕ → ℕ → List ℕ
 newRootSector id mode time =
     stamped zeroSector
-      (setTo (rootField .id) id ∷ setTo (rootField .mode) mode ∷ setTo (rootField .accessTime) time ∷ setTo (rootField .changeTime) time ∷ [])
+    (setTo (rootField .id) id ∷ setTo (rootField .mode) mode ∷ setTo (rootField .accessTime) time ∷ setTo (rootField .changeTime) time ∷ [])

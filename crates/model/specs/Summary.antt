@@ -9,6 +9,8 @@ use Rattle.model.specs.declared.State.the-variants.{Clean, Waiting, Dama
 use Rattle.model.specs.declared.Summary.{Summary}
 use Rattle.model.specs.declared.Summarized.{Summarized}
 use Rattle.model.specs.declared.Located.{Located}
+use Rattle.model.specs.declared.Area.{Area}
+use Rattle.model.specs.declared.Area.the-variants.{Journal, Table, Data, Reserve}
 use Rattle.model.specs.declared.Checked.{Checked}
 use Rattle.model.specs.declared.Verdict.{Verdict}
 use Rattle.model.specs.Geometry.{SectorNumber, superblockAt, inBounds, journalAt, tableAt, dataAt, reserveAt}
@@ -53,17 +55,11 @@ abbrev pub located : (Geometry → SectorNumber) → Summary → Located
 located area s =
     cond (inBounds (s .geometry)) (record { number = 0; sector = record { 0 = area (s .geometry) } }) (record { number = 3; sector = record { 0 = 0 } })
 
-unfoldable pub journalLocated : Summary → Located
-journalLocated s = located journalAt s
-
-unfoldable pub tableLocated : Summary → Located
-tableLocated s = located tableAt s
-
-unfoldable pub dataLocated : Summary → Located
-dataLocated s = located dataAt s
-
-unfoldable pub reserveLocated : Summary → Located
-reserveLocated s = located reserveAt s
+abbrev pub areaAt : Area → Geometry → SectorNumber
+areaAt Journal g = journalAt g
+areaAt Table g = tableAt g
+areaAt Data g = dataAt g
+areaAt Reserve g = reserveAt g
 
 -- check: 1 to 7, else 0
 unfoldable pub checkAnswer : ℕ → Disk → Checked

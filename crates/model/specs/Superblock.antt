@@ -33,10 +33,10 @@ isVolume s = same (run s (superblockField .magic) 8) magic && eqb (numberIn s (s
 
 unfoldable pub geometryIn : List ℕ → Geometry
 geometryIn s = record {
-    files = numberIn s (superblockField .files);
-    extents = numberIn s (superblockField .extents);
-    «extent_sectors» = numberIn s (superblockField .extentSectors)
-  }
+  files = numberIn s (superblockField .files);
+  extents = numberIn s (superblockField .extents);
+  «extent_sectors» = numberIn s (superblockField .extentSectors);
+}
 
 unfoldable pub journalLength : List ℕ → ℕ
 journalLength s = numberIn s (superblockField .journalLength)
@@ -56,6 +56,6 @@ withJournalLength n s = stamped s (setTo (superblockField .journalLength) n ∷ 
 unfoldable pub newSuperblock : Geometry → ℕ → List ℕ
 newSuperblock g n =
     stamped zeroSector
-      (setTo (superblockField .files) (g .files) ∷ setTo (superblockField .extents) (g .extents)
-      ∷ setTo (superblockField .extentSectors) (extentSectors g) ∷ (superblockField .magic, magic) ∷ setTo (superblockField .version) 1
-      ∷ setTo (superblockField .journalLength) n ∷ [])
+    (setTo (superblockField .files) (g .files) ∷ setTo (superblockField .extents) (g .extents)
+    ∷ setTo (superblockField .extentSectors) (extentSectors g) ∷ (superblockField .magic, magic) ∷ setTo (superblockField .version) 1
+    ∷ setTo (superblockField .journalLength) n ∷ [])

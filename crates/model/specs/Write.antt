@@ -67,8 +67,8 @@ module _ (c : Catalogue) (i : FileNumber) where
       record {
         dataSectors = tab (dataSector d offset bytes) (offset / 512) (touchedSectors offset (length bytes));
         targets =
-          sectorWrite (entryAt i) (updatedEntrySector z time (d (entryAt i)))
-          ∷ cond (grows z) (sectorWrite t (takenIn x i heldExtents (d t)) ∷ []) []
+            sectorWrite (entryAt i) (updatedEntrySector z time (d (entryAt i)))
+            ∷ cond (grows z) (sectorWrite t (takenIn x i heldExtents (d t)) ∷ []) [];
       }
 
   -- "A write of 0 bytes is done with an empty list": no plan, no records

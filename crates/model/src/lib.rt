@@ -3,7 +3,7 @@ ghost use mathlib.Core.Path.{_≡_};
 ghost use Prim.Native.Nat.{_+_, _≤_, _<_};
 ghost use Rattle.model.specs.Geometry.{inBounds, tableSectors, reserveExtents, usable, entryAt, journalAt, tableAt, dataAt, extentAt, reserveAt, volumeSectors};
 ghost use Rattle.model.specs.Table.{tableSectorOf};
-ghost use Rattle.model.specs.Summary.{journalLocated, tableLocated, dataLocated, reserveLocated};
+ghost use Rattle.model.specs.Summary.{areaAt, located};
 ghost use Rattle.model.specs.Opened.{Bounded};
 
 // Sector, extent and file numbers are never mixed: each is its own kind.
@@ -26,6 +26,14 @@ pub enum State {
     Waiting(u64),
     Damaged,
     Unfinished,
+}
+
+// The areas whose first sector a summary gives.
+pub enum Area {
+    Journal,
+    Table,
+    Data,
+    Reserve,
 }
 
 pub struct Summary {
@@ -215,6 +223,18 @@ impl Geometry {
         self.extent_at(Extent(self.usable()))
     }
 
+    fn start_of(self, area: Area) -> Sector
+        requires { ⌜ Bounded self ⌝ }
+        ensures { λ r. ⌜ r .0 ≡ areaAt area self ⌝ }
+    {
+        match area {
+            Area::Journal => self.journal_at(),
+            Area::Table => self.table_at(),
+            Area::Data => self.data_at(),
+            Area::Reserve => self.reserve_at(),
+        }
+    }
+
     pub fn volume_sectors(self) -> u64
         requires { ⌜ Bounded self ⌝ }
         ensures { λ r. ⌜ r ≡ volumeSectors self ⌝ }
@@ -224,60 +244,43 @@ impl Geometry {
     }
 }
 
-fn starts_at(sector: Sector) -> Located
-    ensures { λ r. ⌜ r ≡ record { number = 0; sector = sector } ⌝ }
-{
-    Located { number: 0, sector }
-}
-
-fn out_of_bounds() -> Located
-    ensures { λ r. ⌜ r ≡ record { number = 3; sector = record { 0 = 0 } } ⌝ }
-{
-    Located {
-        number: 3,
-        sector: Sector(0),
-    }
-}
-
 // Once made, the summary alone answers where each area starts; one whose geometry breaks the bounds answers 3.
 impl Summary {
-    pub fn journal_at(self) -> Located
-        ensures { λ r. ⌜ r ≡ journalLocated self ⌝ }
+    fn start_of(self, area: Area) -> Located
+        ensures { λ r. ⌜ r ≡ located (areaAt area) self ⌝ }
     {
         let g = self.geometry;
         if g.in_bounds() {
-            return starts_at(g.journal_at());
+            let sector = g.start_of(area);
+            return Located { number: 0, sector };
         }
-        out_of_bounds()
+        Located {
+            number: 3,
+            sector: Sector(0),
+        }
+    }
+
+    pub fn journal_at(self) -> Located
+        ensures { λ r. ⌜ r ≡ located journalAt self ⌝ }
+    {
+        self.start_of(Area::Journal)
     }
 
     pub fn table_at(self) -> Located
-        ensures { λ r. ⌜ r ≡ tableLocated self ⌝ }
+        ensures { λ r. ⌜ r ≡ located tableAt self ⌝ }
     {
-        let g = self.geometry;
-        if g.in_bounds() {
-            return starts_at(g.table_at());
-        }
-        out_of_bounds()
+        self.start_of(Area::Table)
     }
 
     pub fn data_at(self) -> Located
-        ensures { λ r. ⌜ r ≡ dataLocated self ⌝ }
+        ensures { λ r. ⌜ r ≡ located dataAt self ⌝ }
     {
-        let g = self.geometry;
-        if g.in_bounds() {
-            return starts_at(g.data_at());
-        }
-        out_of_bounds()
+        self.start_of(Area::Data)
     }
 
     pub fn reserve_at(self) -> Located
-        ensures { λ r. ⌜ r ≡ reserveLocated self ⌝ }
+        ensures { λ r. ⌜ r ≡ located reserveAt self ⌝ }
     {
-        let g = self.geometry;
-        if g.in_bounds() {
-            return starts_at(g.reserve_at());
-        }
-        out_of_bounds()
+        self.start_of(Area::Reserve)
     }
 }

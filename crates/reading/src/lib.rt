@@ -59,7 +59,10 @@ pub fn not_listed(v: Verdict) -> Listed
 pub fn not_read(v: Verdict) -> BytesRead
     ensures { λ r. ⌜ r ≡ notRead v ⌝ }
 {
-    BytesRead { verdict: v, count: 0 }
+    BytesRead {
+        verdict: v,
+        count: 0,
+    }
 }
 
 pub fn find_in(img: &[u8], name: &[u8]) -> Found
@@ -126,7 +129,15 @@ fn least(a: u64, b: u64) -> u64
 }
 
 // Reads of file i, whose size is given: refusals 12 and 14, or the bytes.
-fn read_file(img: &[u8], g: Geometry, i: FileIndex, size: u64, offset: u64, asked: u64, out: &mut [u8]) -> BytesRead
+fn read_file(
+    img: &[u8],
+    g: Geometry,
+    i: FileIndex,
+    size: u64,
+    offset: u64,
+    asked: u64,
+    out: &mut [u8],
+) -> BytesRead
     requires { ⌜ Opened (now img) g ⌝ }
     requires { ⌜ (i .0 < freeFile) × (size < 2 ^ 62) × (asked ≤ longestTransfer) ⌝ }
     ensures { λ r. ⌜ r ≡ given (fileVerdict size offset asked (length (now (out .entry)))) (record { verdict = fileVerdict size offset asked (length (now (out .entry))); count = readCount size offset asked }) notRead ⌝ }

@@ -305,9 +305,9 @@ pub write-survives : {a : Format} {img img′ : List ℕ} {fs : List Feed} {rs r
     → Run a steady img fs rs → fileOn img name ≡ just old → Fits (write name offset bytes time room) → numberOf (volumeAnswer (write name offset bytes time room) img) ≡ 0 → 0 < length bytes
     → Run a steady img′ (gs ++ (whole (write name offset bytes time room) ∷ fs)) rs′ → NoneNames name gs
     → fileOn img′ name ≡ just (record {
-        entry = updatedEntry (max (old .entry .size) (offset + length bytes)) time (old .entry);
-        bytes = put (run (old .bytes) 0 (max (old .entry .size) (offset + length bytes))) offset bytes
-      })
+      entry = updatedEntry (max (old .entry .size) (offset + length bytes)) time (old .entry);
+      bytes = put (run (old .bytes) 0 (max (old .entry .size) (offset + length bytes))) offset bytes;
+    })
 write-survives {a} {img} {img′} {fs} name offset bytes time room old gs r e fit z some r′ h =
     let c = write name offset bytes time room in
     let L = ledgerAfter a fs in

@@ -59,7 +59,7 @@ module _ (x i o : ℕ) (s : List ℕ) (l : length s ≡ 512) where
 module _ (L : Ledger) (img out : List ℕ) (rep : Rep L img) (eg : geometryIn (view out superblockAt) ≡ L .geometry) (b : Bool) (x i n : ℕ)
     (bound : b ≡ true → x < L .geometry .extents) (few : i < freeFile) (small : n < 65536)
     (shows : (e : ℕ) → e < L .geometry .extents
-      → view out (tableSectorOf (L .geometry) e) ≡ cond (b && eqb (e / 128) (x / 128)) (takenIn x i n (view img (tableSectorOf (L .geometry) x))) (view img (tableSectorOf (L .geometry) e))) where
+    → view out (tableSectorOf (L .geometry) e) ≡ cond (b && eqb (e / 128) (x / 128)) (takenIn x i n (view img (tableSectorOf (L .geometry) x))) (view img (tableSectorOf (L .geometry) e))) where
   abbrev T : List ℕ
   T = view img (tableSectorOf (L .geometry) x)
 

@@ -42,10 +42,10 @@ nextExtent L = indexOf (freeExtent (catalogue L))
 -- file i with the bytes put in, where it was f; and f with other bytes, as where only some data sectors landed
 abbrev pub writtenFile : Ledger → ℕ → File → ℕ → List ℕ → ℕ → File
 writtenFile L i f offset bytes time = record {
-    entry = updatedEntry (sizeWritten L i offset bytes) time (f .entry);
-    bytes = put (run (f .bytes) 0 (sizeWritten L i offset bytes)) offset bytes;
-    extents = f .extents ++ cond (takesOne L i offset bytes) (nextExtent L ∷ []) []
-  }
+  entry = updatedEntry (sizeWritten L i offset bytes) time (f .entry);
+  bytes = put (run (f .bytes) 0 (sizeWritten L i offset bytes)) offset bytes;
+  extents = f .extents ++ cond (takesOne L i offset bytes) (nextExtent L ∷ []) [];
+}
 
 abbrev pub partFile : File → List ℕ → File
 partFile f landed = record { entry = f .entry; bytes = landed; extents = f .extents }
@@ -162,13 +162,15 @@ module _ (L : Ledger) (img : List ℕ) (rep : Rep L img) (i : ℕ) (f : File) (o
         ap (λ (o : Option File).
         let s = max (fileOr o .entry .size) (offset + length bytes) in
         record {
-          entry = updatedEntry s time (fileOr o .entry); bytes = put (run (fileOr o .bytes) 0 s) offset bytes;
+          entry = updatedEntry s time (fileOr o .entry);
+          bytes = put (run (fileOr o .bytes) 0 s) offset bytes;
           extents = fileOr o .extents ++ cond (grows (catalogue L) i s) (nextExtent L ∷ []) [];
         }) (w .has)
         ∙ ap (λ (m : ℕ).
         let s = max m (offset + length bytes) in
         record {
-          entry = updatedEntry s time (f .entry); bytes = put (run (f .bytes) 0 s) offset bytes;
+          entry = updatedEntry s time (f .entry);
+          bytes = put (run (f .bytes) 0 s) offset bytes;
           extents = f .extents ++ cond (grows (catalogue L) i s) (nextExtent L ∷ []) [];
         }) (sym size-is)
 

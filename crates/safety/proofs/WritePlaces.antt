@@ -217,7 +217,7 @@ module _ (L : Ledger) (img : List ℕ) (rep : Rep L img) (i : ℕ) (f : File) (o
   pub landed-byte : (k : ℕ) (m : List Bool) (s j : ℕ) → s / extentSectors (L .geometry) < extentsFor (L .geometry) (sizeWritten L i offset bytes) → j < 512
       → getD (over (partOf k m (writes L img i offset bytes)) (placeOf (catalogue L) i s) (view img (placeOf (catalogue L) i s))) j 0
       ≡ cond (leb offset (512 * s + j) && ltb (512 * s + j) (offset + length bytes) && dataBy k m (s - offset / 512)) (getD bytes (512 * s + j - offset) 0)
-        (getD (view img (placeOf (catalogue L) i s)) j 0)
+      (getD (view img (placeOf (catalogue L) i s)) j 0)
   landed-byte k m s j h l = go (decLe (offset / 512) s) (decLt (s - offset / 512) t)
     where
       old : List ℕ

@@ -41,7 +41,15 @@ fn most(a: u64, b: u64) -> u64
 // ---- reading
 
 // Copies those of the n bytes of file i from `offset` on that lie in one extent to `out` at `at`; the answer is how many.
-fn read_piece(img: &[u8], g: Geometry, i: FileIndex, offset: u64, out: &mut [u8], at: usize, n: usize) -> usize
+fn read_piece(
+    img: &[u8],
+    g: Geometry,
+    i: FileIndex,
+    offset: u64,
+    out: &mut [u8],
+    at: usize,
+    n: usize,
+) -> usize
     requires { ⌜ Opened (now img) g ⌝ }
     requires { ⌜ (i .0 < freeFile) × (0 < n) × (offset + n < 2 ^ 63) ⌝ }
     requires { ⌜ at + n ≤ length (now out) ⌝ }
@@ -57,7 +65,15 @@ fn read_piece(img: &[u8], g: Geometry, i: FileIndex, offset: u64, out: &mut [u8]
 }
 
 // Copies the n bytes of file i from `offset` on to `out` at `at`.
-pub fn read_span(img: &[u8], g: Geometry, i: FileIndex, offset: u64, out: &mut [u8], at: usize, n: usize)
+pub fn read_span(
+    img: &[u8],
+    g: Geometry,
+    i: FileIndex,
+    offset: u64,
+    out: &mut [u8],
+    at: usize,
+    n: usize,
+)
     requires { ⌜ Opened (now img) g ⌝ }
     requires { ⌜ (i .0 < freeFile) × (offset + n < 2 ^ 63) ⌝ }
     requires { ⌜ at + n ≤ length (now out) ⌝ }
@@ -73,7 +89,15 @@ pub fn read_span(img: &[u8], g: Geometry, i: FileIndex, offset: u64, out: &mut [
 // ---- writing
 
 // File sector s of the span, which stands at `place`: what the span doesn't cover keeps its old bytes.
-fn put_data_sector(list: &mut [u8], k: usize, img: &[u8], place: Sector, offset: u64, bytes: &[u8], s: u64) -> usize
+fn put_data_sector(
+    list: &mut [u8],
+    k: usize,
+    img: &[u8],
+    place: Sector,
+    offset: u64,
+    bytes: &[u8],
+    s: u64,
+) -> usize
     requires { ⌜ (k + 1) * 520 ≤ length (now list) ⌝ }
     requires { ⌜ 512 * place .0 + 512 ≤ length (now img) ⌝ }
     requires { ⌜ Touched offset (length (now bytes)) s 1 ⌝ }
@@ -86,12 +110,27 @@ fn put_data_sector(list: &mut [u8], k: usize, img: &[u8], place: Sector, offset:
         return lists::put_from(list, k, place, bytes, (from - offset) as usize);
     }
     let mut a = fields::sector(img, place);
-    fields::copy_run(bytes, (from - offset) as usize, &mut a, (from - base) as usize, (to - from) as usize);
+    fields::copy_run(
+        bytes,
+        (from - offset) as usize,
+        &mut a,
+        (from - base) as usize,
+        (to - from) as usize,
+    );
     lists::put_sector(list, k, place, a)
 }
 
 // The n sectors of the span from file sector s on, where they stand one after the other from `start` on.
-fn put_piece(list: &mut [u8], k: usize, img: &[u8], start: Sector, offset: u64, bytes: &[u8], s: u64, n: u64) -> usize
+fn put_piece(
+    list: &mut [u8],
+    k: usize,
+    img: &[u8],
+    start: Sector,
+    offset: u64,
+    bytes: &[u8],
+    s: u64,
+    n: u64,
+) -> usize
     requires { ⌜ (k + n) * 520 ≤ length (now list) ⌝ }
     requires { ⌜ 512 * (start .0 + n) ≤ length (now img) ⌝ }
     requires { ⌜ Touched offset (length (now bytes)) s n ⌝ }
@@ -120,7 +159,19 @@ fn extent_for(img: &[u8], g: Geometry, i: FileIndex, held: u64, next: Extent, o:
 }
 
 // The n data sectors of the span from file sector s on, in file order.
-pub fn put_data(list: &mut [u8], k: usize, img: &[u8], g: Geometry, i: FileIndex, held: u64, next: Extent, offset: u64, bytes: &[u8], s: u64, n: u64) -> usize
+pub fn put_data(
+    list: &mut [u8],
+    k: usize,
+    img: &[u8],
+    g: Geometry,
+    i: FileIndex,
+    held: u64,
+    next: Extent,
+    offset: u64,
+    bytes: &[u8],
+    s: u64,
+    n: u64,
+) -> usize
     requires { ⌜ Opened (now img) g ⌝ }
     requires { ⌜ Lent (now img) (i .0) held (next .0) ⌝ }
     requires { ⌜ (k + n) * 520 ≤ length (now list) ⌝ }

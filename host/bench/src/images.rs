@@ -54,7 +54,6 @@ pub fn full(name: fn(u64) -> Vec<u8>) -> Vec<u8> {
 }
 
 /// As full, but the last entry and one extent are free.
-#[cfg(feature = "changes")]
 pub fn almost_full() -> Vec<u8> {
     let geometry = largest();
     filled(
@@ -82,7 +81,6 @@ fn filled(files: u64, taken: u64, name: fn(u64) -> Vec<u8>) -> Vec<u8> {
 }
 
 /// One file with all usable extents, in falling order.
-#[cfg(feature = "changes")]
 pub fn one_file() -> Vec<u8> {
     let geometry = largest();
     let mut image = blank(geometry, geometry.end().0);

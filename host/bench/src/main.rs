@@ -8,13 +8,13 @@ mod timing;
 
 use std::hint::black_box;
 
+use oracle::lists::RECORD;
 use timing::Table;
 
 fn main() {
     let mut table = Table::new();
     table.heading();
     reading(&mut table);
-    #[cfg(feature = "changes")]
     changing(&mut table);
 }
 
@@ -116,10 +116,8 @@ fn sound(image: &[u8]) {
     assert_eq!((plain.code, plain.fault, plain.place), (0, 0, 0));
 }
 
-/// Create, write, delete, recovery and carrying out.
-#[cfg(feature = "changes")]
+/// Create, delete, recovery and carrying out.
 fn changing(table: &mut Table) {
-    const RECORD: usize = 520;
     let mut list = vec![0; 1_051 * RECORD];
     let data = vec![5; 65_536];
 
@@ -146,32 +144,8 @@ fn changing(table: &mut Table) {
         |list| goofs::create(black_box(&almost_full), b"new", 77, 1, 2, list).length,
         |list| oracle::create(black_box(&almost_full), b"new", 77, 1, 2, list).length,
     );
-    let last = images::short_name(1_022);
-    let end = oracle::find(&almost_full, &last).size;
-    for (input, image, name, offset) in [
-        ("sample", &sample, &b"empty"[..], 0),
-        (
-            "largest, one entry and extent free",
-            &almost_full,
-            &last,
-            end,
-        ),
-    ] {
-        table.compare_with(
-            "write, 65,536 bytes into a new extent",
-            input,
-            &mut list,
-            |list| goofs::write(black_box(image), name, offset, &data, 2, list).length,
-            |list| oracle::write(black_box(image), name, offset, &data, 2, list).length,
-        );
-        table.compare_with(
-            "resize, 65,536 bytes more",
-            input,
-            &mut list,
-            |list| goofs::resize(black_box(image), name, offset + 65_536, 2, list).length,
-            |list| oracle::resize(black_box(image), name, offset + 65_536, 2, list).length,
-        );
-    }
+    #[cfg(feature = "changes")]
+    writing(table, &sample, &almost_full);
     let length = oracle::write(&sample, b"empty", 0, &data, 2, &mut list).length as usize;
     table.compare_with(
         "carrying out the write, 139 records",
@@ -212,4 +186,37 @@ fn changing(table: &mut Table) {
         |image| goofs::carry_out(image, black_box(&list)),
         |image| oracle::carry_out(image, black_box(&list)),
     );
+}
+
+/// Write and resize.
+#[cfg(feature = "changes")]
+fn writing(table: &mut Table, sample: &[u8], almost_full: &[u8]) {
+    let mut list = vec![0; 139 * RECORD];
+    let data = vec![5; 65_536];
+    let last = images::short_name(1_022);
+    let end = oracle::find(almost_full, &last).size;
+    for (input, image, name, offset) in [
+        ("sample", sample, &b"empty"[..], 0),
+        (
+            "largest, one entry and extent free",
+            almost_full,
+            &last,
+            end,
+        ),
+    ] {
+        table.compare_with(
+            "write, 65,536 bytes into a new extent",
+            input,
+            &mut list,
+            |list| goofs::write(black_box(image), name, offset, &data, 2, list).length,
+            |list| oracle::write(black_box(image), name, offset, &data, 2, list).length,
+        );
+        table.compare_with(
+            "resize, 65,536 bytes more",
+            input,
+            &mut list,
+            |list| goofs::resize(black_box(image), name, offset + 65_536, 2, list).length,
+            |list| oracle::resize(black_box(image), name, offset + 65_536, 2, list).length,
+        );
+    }
 }

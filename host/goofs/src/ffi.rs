@@ -34,6 +34,15 @@ results! {
 
     /// `count` bytes stand at the start of the output.
     ReadAnswer { code, fault, place, count }
+
+    /// `length` bytes of the list are filled.
+    ChangeAnswer { code, fault, place, length }
+
+    /// `length` bytes of the list are filled.
+    RecoverAnswer { code, length }
+
+    /// `length` bytes of the output are filled, a whole record.
+    FormatRecordAnswer { code, length }
 }
 
 extern "C" {
@@ -62,6 +71,48 @@ extern "C" {
         output: *mut u8,
         output_length: usize,
     ) -> ReadAnswer;
+    fn goofs_create(
+        image: *const u8,
+        image_length: usize,
+        name: *const u8,
+        name_length: usize,
+        id: u64,
+        mode: u32,
+        time: u32,
+        list: *mut u8,
+        list_length: usize,
+    ) -> ChangeAnswer;
+    fn goofs_delete(
+        image: *const u8,
+        image_length: usize,
+        name: *const u8,
+        name_length: usize,
+        time: u32,
+        list: *mut u8,
+        list_length: usize,
+    ) -> ChangeAnswer;
+    fn goofs_recover(
+        image: *const u8,
+        image_length: usize,
+        list: *mut u8,
+        list_length: usize,
+    ) -> RecoverAnswer;
+    fn goofs_format_record(
+        sectors: u64,
+        files: u64,
+        id: u64,
+        mode: u32,
+        time: u32,
+        position: u64,
+        output: *mut u8,
+        output_length: usize,
+    ) -> FormatRecordAnswer;
+    fn goofs_carry_out(
+        image: *mut u8,
+        image_length: usize,
+        list: *const u8,
+        list_length: usize,
+    ) -> u64;
 }
 
 /// The geometry and the state.
@@ -108,41 +159,85 @@ pub fn read(image: &[u8], name: &[u8], offset: u64, count: u64, output: &mut [u8
     }
 }
 
-/// The calls that make write lists, the format's records, and carrying a list out.
-#[cfg(feature = "changes")]
-pub mod changes {
-    results! {
-        /// `length` bytes of the list are filled.
-        ChangeAnswer { code, fault, place, length }
-
-        /// `length` bytes of the list are filled.
-        RecoverAnswer { code, length }
-
-        /// `length` bytes of the output are filled, a whole record.
-        FormatRecordAnswer { code, length }
+/// A new empty file in the lowest free entry.
+pub fn create(
+    image: &[u8],
+    name: &[u8],
+    id: u64,
+    mode: u32,
+    time: u32,
+    list: &mut [u8],
+) -> ChangeAnswer {
+    unsafe {
+        goofs_create(
+            image.as_ptr(),
+            image.len(),
+            name.as_ptr(),
+            name.len(),
+            id,
+            mode,
+            time,
+            list.as_mut_ptr(),
+            list.len(),
+        )
     }
+}
+
+/// Frees the file's entry and its extents.
+pub fn delete(image: &[u8], name: &[u8], time: u32, list: &mut [u8]) -> ChangeAnswer {
+    unsafe {
+        goofs_delete(
+            image.as_ptr(),
+            image.len(),
+            name.as_ptr(),
+            name.len(),
+            time,
+            list.as_mut_ptr(),
+            list.len(),
+        )
+    }
+}
+
+/// The list that finishes an interrupted change; empty for a clean volume.
+pub fn recover(image: &[u8], list: &mut [u8]) -> RecoverAnswer {
+    unsafe { goofs_recover(image.as_ptr(), image.len(), list.as_mut_ptr(), list.len()) }
+}
+
+/// The record at this position of the format of a medium with so many sectors.
+pub fn format_record(
+    sectors: u64,
+    files: u64,
+    id: u64,
+    mode: u32,
+    time: u32,
+    position: u64,
+    output: &mut [u8],
+) -> FormatRecordAnswer {
+    unsafe {
+        goofs_format_record(
+            sectors,
+            files,
+            id,
+            mode,
+            time,
+            position,
+            output.as_mut_ptr(),
+            output.len(),
+        )
+    }
+}
+
+/// Does all the writes of a list in their order, or none: 1 for the image, 8 for the list.
+pub fn carry_out(image: &mut [u8], list: &[u8]) -> u64 {
+    unsafe { goofs_carry_out(image.as_mut_ptr(), image.len(), list.as_ptr(), list.len()) }
+}
+
+/// Resize and write.
+#[cfg(feature = "changes")]
+pub mod writes {
+    use super::ChangeAnswer;
 
     extern "C" {
-        fn goofs_create(
-            image: *const u8,
-            image_length: usize,
-            name: *const u8,
-            name_length: usize,
-            id: u64,
-            mode: u32,
-            time: u32,
-            list: *mut u8,
-            list_length: usize,
-        ) -> ChangeAnswer;
-        fn goofs_delete(
-            image: *const u8,
-            image_length: usize,
-            name: *const u8,
-            name_length: usize,
-            time: u32,
-            list: *mut u8,
-            list_length: usize,
-        ) -> ChangeAnswer;
         fn goofs_resize(
             image: *const u8,
             image_length: usize,
@@ -165,67 +260,7 @@ pub mod changes {
             list: *mut u8,
             list_length: usize,
         ) -> ChangeAnswer;
-        fn goofs_recover(
-            image: *const u8,
-            image_length: usize,
-            list: *mut u8,
-            list_length: usize,
-        ) -> RecoverAnswer;
-        fn goofs_format_record(
-            sectors: u64,
-            files: u64,
-            id: u64,
-            mode: u32,
-            time: u32,
-            position: u64,
-            output: *mut u8,
-            output_length: usize,
-        ) -> FormatRecordAnswer;
-        fn goofs_carry_out(
-            image: *mut u8,
-            image_length: usize,
-            list: *const u8,
-            list_length: usize,
-        ) -> u64;
-    }
 
-    /// A new empty file in the lowest free entry.
-    pub fn create(
-        image: &[u8],
-        name: &[u8],
-        id: u64,
-        mode: u32,
-        time: u32,
-        list: &mut [u8],
-    ) -> ChangeAnswer {
-        unsafe {
-            goofs_create(
-                image.as_ptr(),
-                image.len(),
-                name.as_ptr(),
-                name.len(),
-                id,
-                mode,
-                time,
-                list.as_mut_ptr(),
-                list.len(),
-            )
-        }
-    }
-
-    /// Frees the file's entry and its extents.
-    pub fn delete(image: &[u8], name: &[u8], time: u32, list: &mut [u8]) -> ChangeAnswer {
-        unsafe {
-            goofs_delete(
-                image.as_ptr(),
-                image.len(),
-                name.as_ptr(),
-                name.len(),
-                time,
-                list.as_mut_ptr(),
-                list.len(),
-            )
-        }
     }
 
     /// Gives the file another size; what is added at its end is zero.
@@ -274,40 +309,6 @@ pub mod changes {
             )
         }
     }
-
-    /// The list that finishes an interrupted change; empty for a clean volume.
-    pub fn recover(image: &[u8], list: &mut [u8]) -> RecoverAnswer {
-        unsafe { goofs_recover(image.as_ptr(), image.len(), list.as_mut_ptr(), list.len()) }
-    }
-
-    /// The record at this position of the format of a medium with so many sectors.
-    pub fn format_record(
-        sectors: u64,
-        files: u64,
-        id: u64,
-        mode: u32,
-        time: u32,
-        position: u64,
-        output: &mut [u8],
-    ) -> FormatRecordAnswer {
-        unsafe {
-            goofs_format_record(
-                sectors,
-                files,
-                id,
-                mode,
-                time,
-                position,
-                output.as_mut_ptr(),
-                output.len(),
-            )
-        }
-    }
-
-    /// Does all the writes of a list in their order, or none: 1 for the image, 8 for the list.
-    pub fn carry_out(image: &mut [u8], list: &[u8]) -> u64 {
-        unsafe { goofs_carry_out(image.as_mut_ptr(), image.len(), list.as_ptr(), list.len()) }
-    }
 }
 
 #[cfg(test)]
@@ -328,6 +329,18 @@ mod tests {
                 goofs_read(null(), 0, null(), 0, 0, 0, null_mut(), 0).code,
                 one
             );
+            assert_eq!(
+                goofs_create(null(), 0, null(), 0, 1, 0, 0, null_mut(), 0).code,
+                one
+            );
+            assert_eq!(
+                goofs_delete(null(), 0, null(), 0, 0, null_mut(), 0).code,
+                one
+            );
+            assert_eq!(goofs_recover(null(), 0, null_mut(), 0).code, one);
+            let too_short = goofs_format_record(1_313, 255, 1, 0, 0, 0, null_mut(), 0);
+            assert_eq!(too_short.code, 14);
+            assert_eq!(goofs_carry_out(null_mut(), 0, null(), 0), one);
         }
     }
 }

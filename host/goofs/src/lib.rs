@@ -13,10 +13,20 @@
 #[allow(unsafe_code)]
 mod ffi;
 
-pub use ffi::{check, find, list, read, summary};
-pub use ffi::{CheckAnswer, FindAnswer, ListAnswer, ReadAnswer, SummaryAnswer};
+// Over these calls: a volume on a device, with the types that a Rust program expects.
+pub mod change;
+pub mod device;
+pub mod error;
+pub mod image;
+pub mod volume;
+
+pub use ffi::{
+    carry_out, check, create, delete, find, format_record, list, read, recover, summary,
+};
+pub use ffi::{
+    ChangeAnswer, CheckAnswer, FindAnswer, FormatRecordAnswer, ListAnswer, ReadAnswer,
+    RecoverAnswer, SummaryAnswer,
+};
 
 #[cfg(feature = "changes")]
-pub use ffi::changes::{carry_out, create, delete, format_record, recover, resize, write};
-#[cfg(feature = "changes")]
-pub use ffi::changes::{ChangeAnswer, FormatRecordAnswer, RecoverAnswer};
+pub use ffi::writes::{resize, write};

@@ -29,7 +29,7 @@ refused-requires c κs = search needs
 
 returns-2 : tie.Need-returns-2
 unfolding deleteAnswer deleteList deleteDecision
-returns-2 c = 
+returns-2 c =
     let a = c .before .before .before .before .before .before .before .args in
     let d = view (a .img .now) in
     let h = refused-as-judged (length (a .img .now)) d (nameConditions (catalogueOf d) (a .name .now)) (just (deletePlan (catalogueOf d) d (indexOf (fileNamed (catalogueOf d) (a .name .now))) (a .time))) (a .list .now) (c .before .before .before .judge .result) (c .before .before .before .judge .ensures) (c .before .if1 .left) in

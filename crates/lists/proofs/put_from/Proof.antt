@@ -25,7 +25,7 @@ same-length : tie.Need-same-length
 same-length c = search needs
 
 returns : tie.Need-returns
-returns c = 
+returns c =
     let a = c .before .before .before .before .before .before .before .before .before .before .args in
     record { holds = rw (emit-run, run-all (run (a .src .now) (a .from) 512) 512 (length-run (a .src .now) (a .from) 512)) (cc); next = refl }
 

@@ -18,7 +18,7 @@ same-length c = search needs
 
 returns : tie.Need-returns
 unfolding listAnswer listOutput listCopies listVerdict
-returns c = 
+returns c =
     let t = eq-eqb _ _ (c .before .before .before .before .if1 .taken) in
     (rw (← c .before .before .before .before .before .before .judge .ensures, t) (c .before .before .list-in .ensures .0), rw (← c .before .before .before .before .before .before .judge .ensures, t) (c .before .before .list-in .ensures .1))
 
@@ -27,7 +27,7 @@ not-listed-requires c κs = search needs
 
 returns-2 : tie.Need-returns-2
 unfolding listAnswer listOutput listCopies listVerdict listedBy copiedBy
-returns-2 c = 
+returns-2 c =
     let t = ne-eqb _ _ (c .before .if1 .left) in
     (rw (← c .before .before .before .judge .ensures, t, t) (c .not-listed .ensures), rw (← c .before .before .before .judge .ensures, t, t) (sym (put-nil _ _)))
 

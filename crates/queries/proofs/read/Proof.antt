@@ -20,7 +20,7 @@ same-length c = search needs
 
 returns : tie.Need-returns
 unfolding readAnswer readOutput readGives
-returns c = 
+returns c =
     let t = eq-eqb _ _ (c .before .before .before .before .if1 .taken) in
     let e = c .before .before .read-in .ensures .0 in
     (rw (← c .before .before .before .before .before .before .judge .ensures, t) e, rw (← c .before .before .before .before .before .before .judge .ensures, t, ← e) (c .before .before .read-in .ensures .1))
@@ -30,7 +30,7 @@ not-read-requires c κs = search needs
 
 returns-2 : tie.Need-returns-2
 unfolding readAnswer readOutput readGives readBy fileBytes tab
-returns-2 c = 
+returns-2 c =
     let t = ne-eqb _ _ (c .before .if1 .left) in
     (rw (← c .before .before .before .judge .ensures, t, t) (c .not-read .ensures), rw (← c .before .before .before .judge .ensures, t, t) (sym (put-nil _ _)))
 

@@ -20,7 +20,7 @@ same-length : tie.Need-same-length
 same-length c = search needs
 
 returns : tie.Need-returns
-returns c = 
+returns c =
     let a = c .before .before .before .before .before .before .before .args in
     rw (← name-copied (a .img .now) (entryAt (a .i .0)) (a .n) (c .before .before .before .before .before .before .before .pre .1 .0) (c .before .before .before .before .before .before .before .pre .1 .1), ← c .before .before .before .before .sector .ensures) (c .before .before .copy-run .ensures)
 

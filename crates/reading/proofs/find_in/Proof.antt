@@ -34,7 +34,7 @@ enum-known-i : tie.Need-enum-known-i
 enum-known-i c = search needs
 
 fields-at-requires : tie.Need-fields-at-requires
-fields-at-requires c κs = 
+fields-at-requires c κs =
     let o = judged-opened _ _ (c .before .before .before .before .geometry-in .ensures) (omega arith) (c .before .before .before .before .before .before .before .before .before .pre) in
     let h = named-at (view (c .before .before .before .before .before .before .before .before .before .args .img .now)) (c .before .before .before .before .before .before .before .before .before .args .name .now) (c .before .i .given .0 .0) (sym (sym (c .before .before .before .file-named .ensures) ∙ c .before .i .given .1)) in
     let e = ap (λ (x : Geometry). x .files) (o .is) in
@@ -45,7 +45,7 @@ refusal-requires-2 c κs = search needs
 
 returns-2 : tie.Need-returns-2
 unfolding foundBy nameConditions verdictOf
-returns-2 c = 
+returns-2 c =
     let h = (sym (c .before .before .before .before .before .file-named .ensures) ∙ c .before .before .before .i .given .1) in
     rw (← c .before .before .before .before .before .before .before .before .bad-name .ensures, c .before .before .before .before .before .before .before .if1 .left, h, named-entry (view (c .before .before .before .before .before .before .before .before .before .before .before .args .img .now)) (c .before .before .before .before .before .before .before .before .before .before .before .args .name .now) _ (sym h), ← c .before .fields-at .ensures, c .refusal2 .ensures)
 

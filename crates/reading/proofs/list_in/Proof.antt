@@ -20,17 +20,17 @@ geometry-in-requires : tie.Need-geometry-in-requires
 geometry-in-requires c κs = image-length _ _ (judged-image _ _ (c .before .before .pre))
 
 is-occupied-requires : tie.Need-is-occupied-requires
-is-occupied-requires c κs = 
+is-occupied-requires c κs =
     let o = judged-opened _ _ (c .before .before .geometry-in .ensures) (omega arith) (c .before .before .before .before .before .pre) in
     omega arith
 
 fields-at-requires : tie.Need-fields-at-requires
-fields-at-requires c κs = 
+fields-at-requires c κs =
     let o = judged-opened _ _ (c .before .before .before .before .geometry-in .ensures) (omega arith) (c .before .before .before .before .before .before .before .pre) in
     omega arith
 
 copy-name-requires : tie.Need-copy-name-requires
-copy-name-requires c κs = 
+copy-name-requires c κs =
     let o = judged-opened _ _ (c .before .before .before .before .before .before .before .geometry-in .ensures) (omega arith) (c .before .before .before .before .before .before .before .before .before .before .pre) in
     let e = ap (λ (x : Geometry). x .files) (c .before .before .before .before .before .before .before .geometry-in .ensures) in
     let s = sound-name (view (c .before .before .before .before .before .before .before .before .before .before .args .img .now)) (judged-sound _ _ (c .before .before .before .before .before .before .before .before .before .before .pre)) (c .before .before .before .before .before .before .before .before .before .before .args .index) (omega arith) (sym (c .before .before .before .before .is-occupied .ensures) ∙ c .before .before .before .if2 .taken) in
@@ -45,15 +45,14 @@ same-length c = search needs
 
 returns : tie.Need-returns
 unfolding listedBy copiedBy
-returns c = 
+returns c =
     let e = ap (λ (x : Geometry). x .files) (c .before .before .before .before .before .before .before .before .before .before .before .geometry-in .ensures) in
     let h : c .before .before .before .before .before .before .before .before .before .before .before .before .before .before .args .index < geometryIn ((view (c .before .before .before .before .before .before .before .before .before .before .before .before .before .before .args .img .now)) superblockAt) .files = omega arith in
     let o = sym (c .before .before .before .before .before .before .before .before .is-occupied .ensures) ∙ c .before .before .before .before .before .before .before .if2 .taken in
     let l = name-length-of (c .before .before .before .before .before .before .before .before .before .before .before .before .before .before .args .img .now) (c .before .before .before .before .before .before .before .before .before .before .before .before .before .before .args .index) (c .before .before .before .before .before .before .fields-at .result) (c .before .before .before .before .before .before .fields-at .ensures) in
-    let v = list-done (view (c .before .before .before .before .before .before .before .before .before .before .before .before .before .before .args .img .now)) (c .before .before .before .before .before .before .before .before .before .before .before .before .before .before .args .index) (length (c .before .before .before .before .before .before .before .before .before .before .before .before .before .before .args .out .now)) h o (omega (arith, c .before .before .before .before .before .if3 .taken)) in
-    (
-    rw (v, entry-on (view (c .before .before .before .before .before .before .before .before .before .before .before .before .before .before .args .img .now)) (c .before .before .before .before .before .before .before .before .before .before .before .before .before .before .args .index) h o, ← c .before .before .before .before .before .before .fields-at .ensures, c .refusal .ensures),
-    rw (v, listed-name (view (c .before .before .before .before .before .before .before .before .before .before .before .before .before .before .args .img .now)) (c .before .before .before .before .before .before .before .before .before .before .before .before .before .before .args .index) (length (c .before .before .before .before .before .before .before .before .before .before .before .before .before .before .args .out .now)) h o) (c .before .before .before .copy-name .ensures)
+    let v = list-done (view (c .before .before .before .before .before .before .before .before .before .before .before .before .before .before .args .img .now)) (c .before .before .before .before .before .before .before .before .before .before .before .before .before .before .args .index) (length (c .before .before .before .before .before .before .before .before .before .before .before .before .before .before .args .out .now)) h o (omega (arith, c .before .before .before .before .before .if3 .taken)) in (
+      rw (v, entry-on (view (c .before .before .before .before .before .before .before .before .before .before .before .before .before .before .args .img .now)) (c .before .before .before .before .before .before .before .before .before .before .before .before .before .before .args .index) h o, ← c .before .before .before .before .before .before .fields-at .ensures, c .refusal .ensures),
+      rw (v, listed-name (view (c .before .before .before .before .before .before .before .before .before .before .before .before .before .before .args .img .now)) (c .before .before .before .before .before .before .before .before .before .before .before .before .before .before .args .index) (length (c .before .before .before .before .before .before .before .before .before .before .before .before .before .before .args .out .now)) h o) (c .before .before .before .copy-name .ensures),
     )
 
 refusal-requires-2 : tie.Need-refusal-requires-2
@@ -64,7 +63,7 @@ not-listed-requires c κs = search needs
 
 returns-2 : tie.Need-returns-2
 unfolding listedBy copiedBy
-returns-2 c = 
+returns-2 c =
     let e = ap (λ (x : Geometry). x .files) (c .before .before .before .before .before .before .before .before .geometry-in .ensures) in
     let h : c .before .before .before .before .before .before .before .before .before .before .before .args .index < geometryIn ((view (c .before .before .before .before .before .before .before .before .before .before .before .args .img .now)) superblockAt) .files = omega arith in
     let o = sym (c .before .before .before .before .before .is-occupied .ensures) ∙ c .before .before .before .before .if2 .taken in
@@ -80,7 +79,7 @@ not-listed-requires-2 c κs = search needs
 
 returns-3 : tie.Need-returns-3
 unfolding listedBy copiedBy
-returns-3 c = 
+returns-3 c =
     let e = ap (λ (x : Geometry). x .files) (c .before .before .before .before .before .before .geometry-in .ensures) in
     let v = list-free (view (c .before .before .before .before .before .before .before .before .before .args .img .now)) (c .before .before .before .before .before .before .before .before .before .args .index) (length (c .before .before .before .before .before .before .before .before .before .args .out .now)) (omega arith) (sym (c .before .before .before .is-occupied .ensures) ∙ c .before .before .if2 .left) in
     (rw (v, ← c .before .refusal3 .ensures) (c .not-listed2 .ensures), rw v (sym (put-nil _ _)))
@@ -93,7 +92,7 @@ not-listed-requires-3 c κs = search needs
 
 returns-4 : tie.Need-returns-4
 unfolding listedBy copiedBy
-returns-4 c = 
+returns-4 c =
     let e = ap (λ (x : Geometry). x .files) (c .before .before .before .before .geometry-in .ensures) in
     let v = list-past (view (c .before .before .before .before .before .before .before .args .img .now)) (c .before .before .before .before .before .before .before .args .index) (length (c .before .before .before .before .before .before .before .args .out .now)) (omega arith) in
     (rw (v, ← c .before .refusal4 .ensures) (c .not-listed3 .ensures), rw v (sym (put-nil _ _)))

@@ -33,7 +33,7 @@ same-length c = search needs
 
 returns-2 : tie.Need-returns-2
 unfolding fileVerdict verdictOf
-returns-2 c = 
+returns-2 c =
     let n = c .before .before .before .before .before .before .least .ensures in
     (rw (le-ltb _ _ (c .before .before .before .before .before .before .before .if1 .left), ← n, le-ltb _ _ (c .before .before .before .before .before .if2 .taken), c .refusal2 .ensures), c .before .before .before .read-span .ensures)
 
@@ -45,7 +45,7 @@ not-read-requires-2 c κs = search needs
 
 returns-3 : tie.Need-returns-3
 unfolding fileVerdict verdictOf fileBytes tab
-returns-3 c = 
+returns-3 c =
     let n = c .before .before .before .least .ensures in
     (rw (le-ltb _ _ (c .before .before .before .before .if1 .left), ← n, lt-ltb _ _ (c .before .before .if2 .left), ← c .before .refusal3 .ensures) (c .not-read2 .ensures), rw (c .not-read2 .ensures) (sym (put-nil _ _)))
 

@@ -29,7 +29,7 @@ not-read-requires c κs = search needs
 
 returns : tie.Need-returns
 unfolding readBy fileBytes tab
-returns c = 
+returns c =
     let v = read-bad-name (view (c .before .before .before .before .before .before .before .args .img .now)) (c .before .before .before .before .before .before .before .args .name .now) (c .before .before .before .before .before .before .before .args .offset) (c .before .before .before .before .before .before .before .args .asked) (length (c .before .before .before .before .before .before .before .args .out .now)) (sym (c .before .before .before .bad-name .ensures) ∙ c .before .before .if1 .taken) in
     (rw (v, ← c .before .refusal .ensures) (c .not-read .ensures), rw (c .not-read .ensures) (sym (put-nil _ _)))
 
@@ -41,7 +41,7 @@ not-read-requires-2 c κs = search needs
 
 returns-2 : tie.Need-returns-2
 unfolding readBy fileBytes tab
-returns-2 c = 
+returns-2 c =
     let v = read-long (view (c .before .before .before .before .before .before .before .before .args .img .now)) (c .before .before .before .before .before .before .before .before .args .name .now) (c .before .before .before .before .before .before .before .before .args .offset) (c .before .before .before .before .before .before .before .before .args .asked) (length (c .before .before .before .before .before .before .before .before .args .out .now)) (c .before .before .if2 .taken) in
     (rw (v, ← c .before .refusal2 .ensures) (c .not-read2 .ensures), rw (c .not-read2 .ensures) (sym (put-nil _ _)))
 
@@ -55,21 +55,21 @@ enum-known-i : tie.Need-enum-known-i
 enum-known-i c = search needs
 
 sector-requires : tie.Need-sector-requires
-sector-requires c κs = 
+sector-requires c κs =
     let o = judged-opened _ _ (c .before .before .before .before .geometry-in .ensures) (omega arith) (c .before .before .before .before .before .before .before .before .before .before .before .pre) in
     let e = ap (λ (x : Geometry). x .files) (c .before .before .before .before .geometry-in .ensures) in
     let h = named-at (view (c .before .before .before .before .before .before .before .before .before .before .before .args .img .now)) (c .before .before .before .before .before .before .before .before .before .before .before .args .name .now) (c .before .i .given .0 .0) (sym (sym (c .before .before .before .file-named .ensures) ∙ c .before .i .given .1)) in
     omega arith
 
 number-requires : tie.Need-number-requires
-number-requires c κs = 
+number-requires c κs =
     let o = judged-opened _ _ (c .before .before .before .before .before .geometry-in .ensures) (omega arith) (c .before .before .before .before .before .before .before .before .before .before .before .before .pre) in
     let e = ap (λ (x : Geometry). x .files) (c .before .before .before .before .before .geometry-in .ensures) in
     let h = named-at (view (c .before .before .before .before .before .before .before .before .before .before .before .before .args .img .now)) (c .before .before .before .before .before .before .before .before .before .before .before .before .args .name .now) (c .before .before .i .given .0 .0) (sym (sym (c .before .before .before .before .file-named .ensures) ∙ c .before .before .i .given .1)) in
     (omega arith, (omega arith, omega arith))
 
 read-file-requires : tie.Need-read-file-requires
-read-file-requires c κs = 
+read-file-requires c κs =
     let o = judged-opened _ _ (c .before .before .before .before .before .before .before .geometry-in .ensures) (omega arith) (c .before .before .before .before .before .before .before .before .before .before .before .before .before .before .pre) in
     let h = named-at (view (c .before .before .before .before .before .before .before .before .before .before .before .before .before .before .args .img .now)) (c .before .before .before .before .before .before .before .before .before .before .before .before .before .before .args .name .now) (c .before .before .before .before .i .given .0 .0) (sym (sym (c .before .before .before .before .before .before .file-named .ensures) ∙ c .before .before .before .before .i .given .1)) in
     let e = ap (λ (x : Geometry). x .files) (c .before .before .before .before .before .before .before .geometry-in .ensures) in
@@ -82,14 +82,13 @@ same-length c = search needs
 
 returns-3 : tie.Need-returns-3
 unfolding readBy
-returns-3 c = 
+returns-3 c =
     let q = sym (sym (c .before .before .before .before .before .before .before .before .before .file-named .ensures) ∙ c .before .before .before .before .before .before .before .i .given .1) in
     let g = (sym (c .before .before .before .before .before .before .before .before .before .before .before .before .before .bad-name .ensures) ∙ c .before .before .before .before .before .before .before .before .before .before .before .before .if1 .left) in
     let m = c .before .before .before .before .before .before .before .before .before .before .before .if2 .left in
-    let z : c .before .before .before .before .number .result ≡ beAt (view (c .before .before .before .before .before .before .before .before .before .before .before .before .before .before .before .before .before .args .img .now) (entryAt (c .before .before .before .before .before .before .before .i .given .0 .0))) 2 8 = rw (c .before .before .before .before .before .sector .ensures) at (c .before .before .before .before .number .ensures .0) in
-    (
-    rw (read-file (view (c .before .before .before .before .before .before .before .before .before .before .before .before .before .before .before .before .before .args .img .now)) (c .before .before .before .before .before .before .before .before .before .before .before .before .before .before .before .before .before .args .name .now) (c .before .before .before .before .before .before .before .before .before .before .before .before .before .before .before .before .before .args .offset) (c .before .before .before .before .before .before .before .before .before .before .before .before .before .before .before .before .before .args .asked) (length (c .before .before .before .before .before .before .before .before .before .before .before .before .before .before .before .before .before .args .out .now)) g m (c .before .before .before .before .before .before .before .i .given .0 .0) q, size-named (view (c .before .before .before .before .before .before .before .before .before .before .before .before .before .before .before .before .before .args .img .now)) (c .before .before .before .before .before .before .before .before .before .before .before .before .before .before .before .before .before .args .name .now) (c .before .before .before .before .before .before .before .before .before .before .before .before .before .before .before .before .before .args .offset) (c .before .before .before .before .before .before .before .before .before .before .before .before .before .before .before .before .before .args .asked) (length (c .before .before .before .before .before .before .before .before .before .before .before .before .before .before .before .before .before .args .out .now)) g m (c .before .before .before .before .before .before .before .i .given .0 .0) q, ← z) (c .before .before .read-file .ensures .0),
-    rw (← q) (c .before .before .read-file .ensures .1)
+    let z : c .before .before .before .before .number .result ≡ beAt (view (c .before .before .before .before .before .before .before .before .before .before .before .before .before .before .before .before .before .args .img .now) (entryAt (c .before .before .before .before .before .before .before .i .given .0 .0))) 2 8 = rw (c .before .before .before .before .before .sector .ensures) at (c .before .before .before .before .number .ensures .0) in (
+      rw (read-file (view (c .before .before .before .before .before .before .before .before .before .before .before .before .before .before .before .before .before .args .img .now)) (c .before .before .before .before .before .before .before .before .before .before .before .before .before .before .before .before .before .args .name .now) (c .before .before .before .before .before .before .before .before .before .before .before .before .before .before .before .before .before .args .offset) (c .before .before .before .before .before .before .before .before .before .before .before .before .before .before .before .before .before .args .asked) (length (c .before .before .before .before .before .before .before .before .before .before .before .before .before .before .before .before .before .args .out .now)) g m (c .before .before .before .before .before .before .before .i .given .0 .0) q, size-named (view (c .before .before .before .before .before .before .before .before .before .before .before .before .before .before .before .before .before .args .img .now)) (c .before .before .before .before .before .before .before .before .before .before .before .before .before .before .before .before .before .args .name .now) (c .before .before .before .before .before .before .before .before .before .before .before .before .before .before .before .before .before .args .offset) (c .before .before .before .before .before .before .before .before .before .before .before .before .before .before .before .before .before .args .asked) (length (c .before .before .before .before .before .before .before .before .before .before .before .before .before .before .before .before .before .args .out .now)) g m (c .before .before .before .before .before .before .before .i .given .0 .0) q, ← z) (c .before .before .read-file .ensures .0),
+      rw (← q) (c .before .before .read-file .ensures .1),
     )
 
 enum-told : tie.Need-enum-told
@@ -103,7 +102,7 @@ not-read-requires-3 c κs = search needs
 
 returns-4 : tie.Need-returns-4
 unfolding readBy fileBytes tab
-returns-4 c = 
+returns-4 c =
     let n = sym (c .before .before .before .before .file-named .ensures) ∙ c .before .before .enum-told .given .1 in
     let v = read-missing (view (c .before .before .before .before .before .before .before .before .before .before .before .before .args .img .now)) (c .before .before .before .before .before .before .before .before .before .before .before .before .args .name .now) (c .before .before .before .before .before .before .before .before .before .before .before .before .args .offset) (c .before .before .before .before .before .before .before .before .before .before .before .before .args .asked) (length (c .before .before .before .before .before .before .before .before .before .before .before .before .args .out .now)) (sym (c .before .before .before .before .before .before .before .before .bad-name .ensures) ∙ c .before .before .before .before .before .before .before .if1 .left) (c .before .before .before .before .before .before .if2 .left) (ap isAt n) in
     (rw (v, ← c .before .refusal3 .ensures) (c .not-read3 .ensures), rw (c .not-read3 .ensures) (sym (put-nil _ _)))

@@ -33,7 +33,7 @@ same-length : tie.Need-same-length
 same-length c = search needs
 
 returns : tie.Need-returns
-returns c = 
+returns c =
     let a = c .before .before .before .before .before .before .before .before .before .before .args in
     let v = view (a .img .now) (a .place .0) in
     rw (← splice-whole (a .offset) (a .s) (a .bytes .now) v (c .before .before .before .before .before .before .most .result) (c .before .before .before .before .before .least .result) (c .before .before .before .before .before .before .most .ensures) (c .before .before .before .before .before .least .ensures) (length-view (a .img .now) (a .place .0)) (c .before .before .before .before .if1 .taken))
@@ -64,7 +64,7 @@ same-length-2 : tie.Need-same-length-2
 same-length-2 c = search needs
 
 returns-2 : tie.Need-returns-2
-returns-2 c = 
+returns-2 c =
     let a = c .before .before .before .before .before .before .before .before .before .before .before .before .before .before .args in
     let v = view (a .img .now) (a .place .0) in
     rw (← splice-part (a .offset) (a .s) (a .bytes .now) v (c .before .before .before .before .before .before .before .before .before .before .most .result) (c .before .before .before .before .before .before .before .before .before .least .result) (c .before .before .before .before .before .before .before .before .before .before .most .ensures) (c .before .before .before .before .before .before .before .before .before .least .ensures), ← c .before .before .before .before .before .before .before .sector .ensures, ← c .before .before .before .before .before .copy-run .ensures)

@@ -52,12 +52,11 @@ loop-again c =
     let l = c .before .before .before .before .before .before .loop in
     let a = c .before .before .before .before .before .before .before .before .before .before .args in
     let e : a .start .0 + l .j ≡ a .start .0 + (a .s + l .j - a .s) = omega arith in
-    let n = c .before .before .put-data-sector .ensures .next in
-    (
-    omega arith,
-    omega arith,
-    rw tab-more (emitted-then (l .inv .2) (rw e at (c .before .before .put-data-sector .ensures))),
-    omega arith
+    let n = c .before .before .put-data-sector .ensures .next in (
+      omega arith,
+      omega arith,
+      rw tab-more (emitted-then (l .inv .2) (rw e at (c .before .before .put-data-sector .ensures))),
+      omega arith,
     )
 
 same-length : tie.Need-same-length Inv-loop μ-loop

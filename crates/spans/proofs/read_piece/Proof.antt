@@ -43,7 +43,7 @@ same-length : tie.Need-same-length
 same-length c = search needs
 
 returns : tie.Need-returns
-returns c = 
+returns c =
     let m = c .before .before .before .before .before .least .result in
     let e = extentBytes (c .before .before .before .before .before .before .before .before .before .before .before .args .g) in
     let w = offset-within (c .before .before .before .before .before .before .before .before .before .before .before .args .g) (c .before .before .before .before .before .before .before .before .before .before .before .pre .0 .bounded) (c .before .before .before .before .before .before .before .before .before .before .before .args .offset) in

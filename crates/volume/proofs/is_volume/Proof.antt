@@ -33,7 +33,7 @@ unfolding isVolume
 returns c = let d = c .before .before in
     let img = d .before .before .before .before .args .img .now in
     let m : same (run (view img 0) 8 8) magic ≡ d .starts-with .result =
-        rw (run-view img 0 8 8 (omega arith), ← run-part img 8 8 8 (omega arith)) (sym (d .starts-with .ensures)) in
+    rw (run-view img 0 8 8 (omega arith), ← run-part img 8 8 8 (omega arith)) (sym (d .starts-with .ensures)) in
     rw (m, c .before .if1 .taken, ← c .number .ensures .0)
 
 returns-2 : tie.Need-returns-2
@@ -41,7 +41,7 @@ unfolding isVolume
 returns-2 c = let d = c .before in
     let img = d .before .before .before .before .args .img .now in
     let m : same (run (view img 0) 8 8) magic ≡ d .starts-with .result =
-        rw (run-view img 0 8 8 (omega arith), ← run-part img 8 8 8 (omega arith)) (sym (d .starts-with .ensures)) in
+    rw (run-view img 0 8 8 (omega arith), ← run-part img 8 8 8 (omega arith)) (sym (d .starts-with .ensures)) in
     rw (m, c .if1 .left)
 
 pub is-volume-spec : {M : Type 1} → statement M

@@ -2,27 +2,18 @@
 //! number and every byte of a lent buffer must be the same. Each file says what it tries.
 
 mod arguments;
+mod carrying_out;
+mod cases;
+mod changes;
 mod cut_short;
 mod damage;
 mod faults;
+mod formats;
 mod full_volume;
 mod geometries;
+mod longest_lists;
+mod recoveries;
+mod runs;
 mod sample;
 mod shared;
-
-#[cfg(feature = "changes")]
-mod carrying_out;
-#[cfg(feature = "changes")]
-mod cases;
-#[cfg(feature = "changes")]
-mod changes;
-#[cfg(feature = "changes")]
-mod formats;
-#[cfg(feature = "changes")]
-mod longest_lists;
-#[cfg(feature = "changes")]
-mod recoveries;
-#[cfg(feature = "changes")]
-mod runs;
-#[cfg(feature = "changes")]
 mod shared_changes;

@@ -1,8 +1,8 @@
--- `delete::updated_entry` meets its contract.
+-- `rewrites::updated_entry` meets its contract.
 use Rattle.model.specs.Entry.{updatedEntrySector}
 use borrow.Author.Needs.{needs}
-use Rattle.delete.proofs.updated_entry.Statement.{statement}
-use Rattle.delete.proofs.updated_entry.Tie as tie
+use Rattle.rewrites.proofs.updated_entry.Statement.{statement}
+use Rattle.rewrites.proofs.updated_entry.Tie as tie
 
 sector-requires : tie.Need-sector-requires
 sector-requires c κs = search needs

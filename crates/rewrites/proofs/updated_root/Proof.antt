@@ -1,7 +1,8 @@
+-- `rewrites::updated_root` meets its contract.
 use Rattle.model.specs.Root.{updatedRootSector}
 use borrow.Author.Needs.{needs}
-use Rattle.create.proofs.updated_root.Statement.{statement}
-use Rattle.create.proofs.updated_root.Tie as tie
+use Rattle.rewrites.proofs.updated_root.Statement.{statement}
+use Rattle.rewrites.proofs.updated_root.Tie as tie
 
 sector-requires : tie.Need-sector-requires
 sector-requires c κs = search needs
@@ -12,8 +13,8 @@ slice-aggregate-be32 c = search needs
 be32-requires : tie.Need-be32-requires
 be32-requires c κs = search needs
 
-wrapping-add-u32-requires : tie.Need-wrapping-add-u32-requires
-wrapping-add-u32-requires c κs = search needs
+next-version-requires : tie.Need-next-version-requires
+next-version-requires c κs = search needs
 
 slice-aggregate-put-be : tie.Need-slice-aggregate-put-be
 slice-aggregate-put-be c = search needs
@@ -41,7 +42,7 @@ updated-root-spec =
     sector-requires
     slice-aggregate-be32
     be32-requires
-    wrapping-add-u32-requires
+    next-version-requires
     slice-aggregate-put-be
     cast-put-be
     put-be-requires

@@ -1,0 +1,237 @@
+-- What a write needs and how it is decided, from the tests that the code makes. Assumes nothing.
+use Prim.Native.Nat.{ℕ, _*_, _-_, _≤_, _<_, _/_}
+use mathlib.Core.Path.{_≡_, refl, sym, ap, ap₂, _∙_}
+use mathlib.Core.Bool.{Bool, true, false, cond, not, _&&_}
+use mathlib.Core.List.{List, [], _∷_}
+use mathlib.Core.Option.{Option, none, some as just}
+use native.Mathlib.Omega.{arith}
+use lib.Dec.{eqb, ltb}
+use lib.ListN.{length}
+use borrow.Author.Tests.{lt-ltb, le-ltb, eq-eqb, ne-eqb}
+use Rattle.model.specs.declared.Changed.{Changed}
+use Rattle.model.specs.declared.Geometry.{Geometry}
+use Rattle.model.specs.declared.Place.{Place}
+use Rattle.model.specs.declared.Place.the-variants.{At}
+use Rattle.model.specs.Search.{scan, tab, isAt, indexOf}
+use Rattle.model.specs.Geometry.{entryAt, extentsFor, usable}
+use Rattle.model.specs.Disk.{Disk, view}
+use Rattle.model.specs.Bytes.{beAt}
+use Rattle.model.specs.Entry.{Entry, entryIn, badName, updatedEntrySector}
+use Rattle.model.specs.Table.{tableFile, tableSectorOf, takenIn, freeFile}
+use Rattle.model.specs.Catalogue.{Catalogue, catalogueOf, fileNamed, freeExtent, entryOf}
+use Rattle.model.specs.Refusals.{Conditions, verdictOf, refusal, done, judged}
+use Rattle.model.specs.WriteList.{Plan, Record, Group, sectorWrite, recordSize, recordCount, groupsFor, listLength, closed, Emitted, decided}
+use Rattle.model.specs.Read.{longestTransfer, sizeNamed}
+use Rattle.model.specs.Write.{touchedSectors, heldExtents, grows, noRoom, sizeAfter, dataSector, writePlan, writePlanned, writeConditions, writeDecision, writeAnswer, writeList}
+use Rattle.model.specs.Opened.{Opened}
+use Rattle.laws.proofs.Search.{Hit, scan-hit, length-tab}
+use Rattle.laws.proofs.Booleans.{or-right}
+use Rattle.laws.proofs.Judged.{judged-sound}
+use Rattle.laws.proofs.Named.{named-at, named-entry, size-fits}
+use Rattle.table.proofs.Laws.{free-extent-is}
+use Rattle.commit.proofs.Records.{plan-needs, emitted-length}
+use Rattle.commit.proofs.Decided.{ComesTo, refused-by-own, refused-as-short, done-as-planned, done-with-nothing}
+use Rattle.write.specs.FileWrite.{Asked, fileConditions, fileDecision, roomDecision}
+
+-- ---- what a new size needs
+
+module _ (img : List ℕ) (g : Geometry) (o : Opened img g) where
+  pub held-is : (i size : ℕ) → size ≡ entryOf (catalogueOf (view img)) i .size → extentsFor g size ≡ heldExtents (catalogueOf (view img)) i
+  unfolding catalogueOf
+  held-is i size says = ap₂ extentsFor (o .is) says
+
+  pub more-is : (i size z : ℕ) → size ≡ entryOf (catalogueOf (view img)) i .size → ltb (extentsFor g size) (extentsFor g z) ≡ grows (catalogueOf (view img)) i z
+  unfolding grows catalogueOf
+  more-is i size z says = ap₂ ltb (held-is i size says) (ap (λ (x : Geometry). extentsFor x z) (o .is))
+
+  pub free-below : (e : ℕ) → At e ≡ freeExtent (catalogueOf (view img)) → e < g .extents
+  free-below e q =
+      let p : ℕ → Bool = λ x. eqb (tableFile g (view img) x) freeFile in
+      let s : scan p (usable g - 0) 0 ≡ At e = sym (q ∙ free-extent-is (view img) g (o .is)) in
+      let h : Hit p (usable g - 0) 0 (At e) = rw s at (scan-hit p (usable g - 0) 0) in
+      omega (arith, h .1)
+
+  -- the file of a name, as the code finds it
+  module _ (name : List ℕ) (i : ℕ) (e : At i ≡ fileNamed (catalogueOf (view img)) name) where
+    pub file-below : i < g .files
+    file-below = rw (o .is) (named-at (view img) name i e .0)
+
+    pub asked : judged (length img) (view img) .number ≡ 0 → (size n : ℕ) → size ≡ beAt (view img (entryAt i)) 2 8 → n ≤ longestTransfer → Asked img g i size n
+    unfolding entryIn
+    asked ok size n q short =
+        let h = named-at (view img) name i e in
+        record {
+          judgment = ok;
+          opened = o;
+          file = file-below;
+          says = q ∙ sym (ap (λ (x : Entry). x .size) (named-entry (view img) name i e));
+          fits = rw q (size-fits img g o (judged-sound (length img) (view img) ok) i (h .0) (h .1));
+          short = short;
+        }
+
+-- ---- the plan
+
+module _ (c : Catalogue) (i : ℕ) (d : Disk) (offset : ℕ) (bytes : List ℕ) (time : ℕ) where
+  abbrev pub sectorsOut : Group
+  sectorsOut = tab (dataSector c i d offset bytes) (offset / 512) (touchedSectors offset (length bytes))
+
+  abbrev pub entryOut : ℕ → Record
+  entryOut z = sectorWrite (entryAt i) (updatedEntrySector z time (d (entryAt i)))
+
+  abbrev pub tableOut : ℕ → Record
+  tableOut x = sectorWrite (tableSectorOf (c .geometry) x) (takenIn x i (heldExtents c i) (d (tableSectorOf (c .geometry) x)))
+
+  -- where an extent is taken, and where none is
+  pub plan-more : (z : ℕ) → z ≡ sizeAfter c i offset (length bytes) → grows c i z ≡ true
+      → writePlan c i d offset bytes time ≡ record { dataSectors = sectorsOut; targets = entryOut z ∷ tableOut (indexOf (freeExtent c)) ∷ [] }
+  unfolding writePlan
+  plan-more z e h = rw (← e, h)
+
+  pub plan-kept : (z : ℕ) → z ≡ sizeAfter c i offset (length bytes) → grows c i z ≡ false
+      → writePlan c i d offset bytes time ≡ record { dataSectors = sectorsOut; targets = entryOut z ∷ [] }
+  unfolding writePlan
+  plan-kept z e h = rw (← e, h)
+
+  pub write-needs : (z : ℕ) (b : Bool) → z ≡ sizeAfter c i offset (length bytes) → b ≡ grows c i z
+      → listLength (groupsFor d (just (writePlan c i d offset bytes time))) ≡ recordCount (touchedSectors offset (length bytes)) (cond b 2 1) * recordSize
+  write-needs z b e h = plan-needs d (writePlan c i d offset bytes time) ∙ go b (sym h)
+    where
+      many : length sectorsOut ≡ touchedSectors offset (length bytes)
+      many = length-tab (dataSector c i d offset bytes) (offset / 512) (touchedSectors offset (length bytes))
+
+      go : (b : Bool) → grows c i z ≡ b
+          → recordCount (length (writePlan c i d offset bytes time .dataSectors)) (length (writePlan c i d offset bytes time .targets)) * recordSize
+          ≡ recordCount (touchedSectors offset (length bytes)) (cond b 2 1) * recordSize
+      go true q = rw (plan-more z e q, many)
+      go false q = rw (plan-kept z e q, many)
+
+  pub planned-none : length bytes ≡ 0 → writePlanned c i d offset bytes time ≡ none
+  unfolding writePlanned
+  planned-none h = ap (λ (b : Bool). cond b none (just (writePlan c i d offset bytes time))) (eq-eqb (length bytes) 0 h)
+
+  pub planned-some : (length bytes ≡ 0 → ⊥) → writePlanned c i d offset bytes time ≡ just (writePlan c i d offset bytes time)
+  unfolding writePlanned
+  planned-some h = ap (λ (b : Bool). cond b none (just (writePlan c i d offset bytes time))) (ne-eqb (length bytes) 0 h)
+
+-- ---- decisions
+
+-- a decision rests on its conditions' verdict alone
+pub decided-same : (len : ℕ) (d : Disk) (cs ds : Conditions) (plan : Option Plan) (room : ℕ) → verdictOf cs ≡ verdictOf ds → decided len d cs plan room ≡ decided len d ds plan room
+unfolding decided
+decided-same len d cs ds plan room e = rw e
+
+abbrev pub refusedBy : ℕ → Changed
+refusedBy k = record { verdict = refusal k; length = 0 }
+
+-- n is not 0
+abbrev Some : ℕ → Type 0
+Some n = n ≡ 0 → ⊥
+
+module _ (img : List ℕ) (ok : judged (length img) (view img) .number ≡ 0) (list : List ℕ) where
+  pub own-refusal : (cs : Conditions) (plan : Option Plan) (k : ℕ) → Some k → verdictOf cs ≡ refusal k
+      → ComesTo (view img) (decided (length img) (view img) cs plan (length list)) list (refusedBy k) list
+  own-refusal cs plan k n e = refused-by-own (length img) (view img) cs plan list ok (refusal k) (sym e) n
+
+  module _ (i offset : ℕ) (bytes : List ℕ) (time : ℕ) where
+    abbrev c : Catalogue
+    c = catalogueOf (view img)
+
+    abbrev plan : Plan
+    plan = writePlan (catalogueOf (view img)) i (view img) offset bytes time
+
+    abbrev Room : Changed → List ℕ → Type 0
+    Room answer after = ComesTo (view img) (roomDecision (length img) (view img) i offset bytes time (length list)) list answer after
+
+    abbrev File : Changed → List ℕ → Type 0
+    File answer after = ComesTo (view img) (fileDecision (length img) (view img) i offset bytes time (length list)) list answer after
+
+    -- a write of 0 bytes
+    pub room-none : length bytes ≡ 0 → Room (refusedBy 0) list
+    unfolding roomDecision verdictOf
+    room-none h = rw (planned-none c i (view img) offset bytes time h) (done-with-nothing (length img) (view img) [] list ok done refl refl)
+
+    -- 14, or the list
+    module _ (some : Some (length bytes)) (z : ℕ) (b : Bool) (e : z ≡ sizeAfter c i offset (length bytes)) (h : b ≡ grows c i z) where
+      needs : listLength (groupsFor (view img) (just plan)) ≡ recordCount (touchedSectors offset (length bytes)) (cond b 2 1) * recordSize
+      needs = write-needs c i (view img) offset bytes time z b e h
+
+      -- how many records were emitted
+      pub room-count : {l m : List ℕ} {j : ℕ} → Emitted l 0 (closed (groupsFor (view img) (just plan))) m j
+          → j * recordSize ≡ recordCount (touchedSectors offset (length bytes)) (cond b 2 1) * recordSize
+      room-count q = emitted-length (groupsFor (view img) (just plan)) q ∙ needs
+
+      pub room-short : length list < recordCount (touchedSectors offset (length bytes)) (cond b 2 1) * recordSize → Room (refusedBy 14) list
+      unfolding roomDecision verdictOf
+      room-short l =
+          rw (planned-some c i (view img) offset bytes time some)
+          (refused-as-short (length img) (view img) [] (just plan) list ok done refl refl (rw needs l))
+
+      pub room-done : {m : List ℕ} {j : ℕ} → recordCount (touchedSectors offset (length bytes)) (cond b 2 1) * recordSize ≤ length list
+          → Emitted list 0 (closed (groupsFor (view img) (just plan))) m j → Room (record { verdict = done; length = j * recordSize }) m
+      unfolding roomDecision verdictOf
+      room-done l q =
+          rw (planned-some c i (view img) offset bytes time some, emitted-length (groupsFor (view img) (just plan)) q)
+          (done-as-planned (length img) (view img) [] (just plan) list ok done refl refl (rw needs l) q)
+
+    -- 12, 13
+    module _ (size : ℕ) (says : size ≡ entryOf c i .size) where
+      pub file-12 : size < offset → File (refusedBy 12) list
+      unfolding fileDecision fileConditions verdictOf
+      file-12 l =
+          own-refusal (fileConditions c i offset (length bytes)) (writePlanned c i (view img) offset bytes time) 12 (λ (e : _≡_ {A = ℕ} 12 0). omega arith)
+          (rw (← says, lt-ltb size offset l))
+
+      module _ (l : offset ≤ size) (z : ℕ) (e : z ≡ sizeAfter c i offset (length bytes)) where
+        pub file-13 : grows c i z ≡ true → isAt (freeExtent c) ≡ false → File (refusedBy 13) list
+        unfolding fileDecision fileConditions verdictOf noRoom
+        file-13 m f =
+            own-refusal (fileConditions c i offset (length bytes)) (writePlanned c i (view img) offset bytes time) 13 (λ (e : _≡_ {A = ℕ} 13 0). omega arith)
+            (rw (← says, le-ltb size offset l, says, ← e, m, f))
+
+        -- one is free, or none is needed
+        pub file-room : {answer : Changed} {after : List ℕ} → (grows c i z && not (isAt (freeExtent c))) ≡ false → Room answer after → File answer after
+        unfolding fileDecision roomDecision fileConditions verdictOf noRoom
+        file-room q r =
+            rw (decided-same (length img) (view img) (fileConditions c i offset (length bytes)) [] (writePlanned c i (view img) offset bytes time) (length list)
+            (rw (← says, le-ltb size offset l, says, ← e, q))) r
+
+  -- ---- 8, 9 of write
+
+  module _ (name : List ℕ) (offset : ℕ) (bytes : List ℕ) (time : ℕ) where
+    abbrev conditions : Conditions
+    conditions = writeConditions (catalogueOf (view img)) name offset (length bytes)
+
+    abbrev planned : Option Plan
+    planned = writePlanned (catalogueOf (view img)) (indexOf (fileNamed (catalogueOf (view img)) name)) (view img) offset bytes time
+
+    abbrev pub Written : Changed → List ℕ → Type 0
+    Written answer after =
+        (answer ≡ writeAnswer (length img) (view img) name offset bytes time (length list)) × (after ≡ writeList (length img) (view img) name offset bytes time list)
+
+    pub write-bad-name : badName name ≡ true → Written (refusedBy 8) list
+    unfolding writeAnswer writeList writeDecision writeConditions verdictOf
+    write-bad-name h = own-refusal conditions planned 8 (λ (e : _≡_ {A = ℕ} 8 0). omega arith) (rw h)
+
+    pub write-long : longestTransfer < length bytes → Written (refusedBy 8) list
+    unfolding writeAnswer writeList writeDecision writeConditions verdictOf
+    write-long h = own-refusal conditions planned 8 (λ (e : _≡_ {A = ℕ} 8 0). omega arith) (rw (or-right (badName name) _ (lt-ltb longestTransfer (length bytes) h)))
+
+    module _ (good : badName name ≡ false) (most : length bytes ≤ longestTransfer) where
+      pub write-missing : isAt (fileNamed (catalogueOf (view img)) name) ≡ false → Written (refusedBy 9) list
+      unfolding writeAnswer writeList writeDecision writeConditions verdictOf
+      write-missing h = own-refusal conditions planned 9 (λ (e : _≡_ {A = ℕ} 9 0). omega arith) (rw (good, le-ltb longestTransfer (length bytes) most, h))
+
+      sized : (i : ℕ) → At i ≡ fileNamed (catalogueOf (view img)) name → sizeNamed (catalogueOf (view img)) name ≡ entryOf (catalogueOf (view img)) i .size
+      unfolding sizeNamed
+      sized i e = ap (λ (p : Place). entryOf (catalogueOf (view img)) (indexOf p) .size) (sym e)
+
+      pub write-found : {answer : Changed} {after : List ℕ} (i : ℕ) → At i ≡ fileNamed (catalogueOf (view img)) name
+          → ComesTo (view img) (fileDecision (length img) (view img) i offset bytes time (length list)) list answer after → Written answer after
+      unfolding writeAnswer writeList writeDecision fileDecision writeConditions fileConditions verdictOf
+      write-found i e r =
+          rw (
+            decided-same (length img) (view img) conditions (fileConditions (catalogueOf (view img)) i offset (length bytes)) planned (length list)
+                (rw (good, le-ltb longestTransfer (length bytes) most, ← e, sized i e)),
+            ← e,
+          )
+          r

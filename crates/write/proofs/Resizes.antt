@@ -1,0 +1,180 @@
+-- How a resize is decided, from the tests that the code makes. Assumes nothing.
+use Prim.Native.Nat.{ℕ, _+_, _*_, _-_, _/_, _≤_, _<_, max}
+use mathlib.Core.Path.{_≡_, refl, sym, ap, _∙_}
+use mathlib.Core.Bool.{true, false}
+use mathlib.Core.List.{List, []}
+use mathlib.Core.Option.{Option, some as just}
+use native.Mathlib.Nat.{le-div-iff-mul-le, div-mul-le-self}
+use native.Mathlib.Omega.{arith}
+use lib.ListN.{length, take, replicate, getD-replicate, length-replicate}
+use lib.Seq.{getD-take, length-take-le}
+use borrow.Author.Tests.{lt-ltb, le-ltb}
+use Rattle.model.specs.declared.Changed.{Changed}
+use Rattle.model.specs.declared.Geometry.{Geometry}
+use Rattle.model.specs.declared.Place.{Place}
+use Rattle.model.specs.declared.Place.the-variants.{At}
+use Rattle.model.specs.Search.{isAt, indexOf}
+use Rattle.model.specs.Geometry.{extentBytes, extentsFor, superblockAt}
+use Rattle.model.specs.Disk.{view}
+use Rattle.model.specs.Superblock.{geometryIn}
+use Rattle.model.specs.Entry.{badName}
+use Rattle.model.specs.Catalogue.{Catalogue, catalogueOf, fileNamed, entryOf, sectorsBeyond}
+use Rattle.model.specs.Refusals.{Conditions, verdictOf, done, judged}
+use Rattle.model.specs.WriteList.{Plan, recordSize, recordCount, groupsFor, listLength, closed, Emitted}
+use Rattle.model.specs.Read.{longestTransfer, sizeNamed}
+use Rattle.model.specs.Write.{grows, noRoom, writePlanned}
+use Rattle.model.specs.Resize.{zeros, shrinkPlan, resizePlanned, resizeConditions, resizeDecision, resizeAnswer, resizeList}
+use Rattle.model.specs.Opened.{Bounded, Opened}
+use Rattle.laws.proofs.Bytes.{run-all, run-ext, length-run}
+use Rattle.commit.proofs.Records.{emitted-length}
+use Rattle.commit.proofs.Decided.{ComesTo, refused-as-short, done-as-planned}
+use Rattle.delete.proofs.Decisions.{shrink-needs}
+use Rattle.write.specs.FileWrite.{Asked, fileConditions, fileDecision}
+use Rattle.write.specs.FileResize.{sizeConditions, sizeDecision, shrinkDecision}
+use Rattle.write.proofs.Laws.{decided-same, refusedBy, own-refusal}
+
+-- the front of an array of m zeros
+module _ (m n : ℕ) (h : n ≤ m) where
+  abbrev array : List ℕ
+  array = replicate m 0
+
+  pub zeros-length : length (take n array) ≡ n
+  zeros-length = length-take-le n array (rw length-replicate h)
+
+  pub zeros-part : take n array ≡ zeros n
+  zeros-part =
+      sym (run-all (take n array) n zeros-length)
+      ∙ run-ext (take n array) [] 0 0 n
+      (λ i k. getD-take n array (0 + i) 0 (let q : 0 + i < n = omega arith in q) ∙ getD-replicate m (0 + i) 0 0 (let q : 0 + i < m = omega arith in q))
+
+-- bytes that are n zeros
+module _ (img bytes : List ℕ) (n i size : ℕ) (e : bytes ≡ zeros n) where
+  pub zeros-asked : (g : Geometry) → Asked img g i size n → Asked img g i size (length bytes)
+  zeros-asked g a = rw (e, length-run) a
+
+  pub zeros-decided : (list : List ℕ) (time : ℕ) {answer : Changed} {after : List ℕ}
+      → ComesTo (view img) (fileDecision (length img) (view img) i size bytes time (length list)) list answer after
+      → ComesTo (view img) (fileDecision (length img) (view img) i size (zeros n) time (length list)) list answer after
+  zeros-decided list time r = rw e at r
+
+-- a smaller size needs no more extents
+extents-less : (g : Geometry) → Bounded g → (a b : ℕ) → a ≤ b → extentsFor g a ≤ extentsFor g b
+extents-less g b x y h =
+    le-div-iff-mul-le (let q : 0 < extentBytes g = omega (arith, b .extent-low) in q) .1
+    (let q : (x + (extentBytes g - 1)) / extentBytes g * extentBytes g ≤ x + (extentBytes g - 1) = div-mul-le-self (x + (extentBytes g - 1)) (extentBytes g) in omega arith)
+
+module _ (img : List ℕ) (g : Geometry) (o : Opened img g) where
+  abbrev c : Catalogue
+  c = catalogueOf (view img)
+
+  shrunk : (i size z : ℕ) → size ≡ entryOf c i .size → z ≤ size → grows c i z ≡ false
+  unfolding grows catalogueOf
+  shrunk i size z says h =
+      rw (← says)
+      (le-ltb (extentsFor (geometryIn (view img superblockAt)) size) (extentsFor (geometryIn (view img superblockAt)) z)
+      (extents-less (geometryIn (view img superblockAt)) (rw (o .is) at (o .bounded)) z size h))
+
+  module _ (ok : judged (length img) (view img) .number ≡ 0) (list : List ℕ) where
+    module _ (i z time : ℕ) where
+      abbrev plan : Plan
+      plan = shrinkPlan c (view img) i z time
+
+      abbrev Shrunk : Changed → List ℕ → Type 0
+      Shrunk answer after = ComesTo (view img) (shrinkDecision (length img) (view img) i z time (length list)) list answer after
+
+      abbrev Sized : Changed → List ℕ → Type 0
+      Sized answer after = ComesTo (view img) (sizeDecision (length img) (view img) i z time (length list)) list answer after
+
+      needs : listLength (groupsFor (view img) (just plan)) ≡ recordCount 0 (1 + sectorsBeyond c i (extentsFor g z)) * recordSize
+      needs = shrink-needs (view img) g (o .is) i z time
+
+      pub shrink-count : {l m : List ℕ} {j : ℕ} → Emitted l 0 (closed (groupsFor (view img) (just plan))) m j
+          → j * recordSize ≡ recordCount 0 (1 + sectorsBeyond c i (extentsFor g z)) * recordSize
+      shrink-count q = emitted-length (groupsFor (view img) (just plan)) q ∙ needs
+
+      pub shrink-short : length list < recordCount 0 (1 + sectorsBeyond c i (extentsFor g z)) * recordSize → Shrunk (refusedBy 14) list
+      unfolding shrinkDecision verdictOf
+      shrink-short l = refused-as-short (length img) (view img) [] (just plan) list ok done refl refl (rw needs l)
+
+      pub shrink-done : {m : List ℕ} {j : ℕ} → recordCount 0 (1 + sectorsBeyond c i (extentsFor g z)) * recordSize ≤ length list
+          → Emitted list 0 (closed (groupsFor (view img) (just plan))) m j → Shrunk (record { verdict = done; length = j * recordSize }) m
+      unfolding shrinkDecision verdictOf
+      shrink-done l q =
+          rw (emitted-length (groupsFor (view img) (just plan)) q)
+          (done-as-planned (length img) (view img) [] (just plan) list ok done refl refl (rw needs l) q)
+
+      module _ (size : ℕ) (says : size ≡ entryOf c i .size) where
+        none-holds : z < size → verdictOf (sizeConditions c i z) ≡ verdictOf []
+        unfolding sizeConditions verdictOf noRoom
+        none-holds l = rw (← says, le-ltb (size + longestTransfer) z (omega arith), shrunk i size z says (omega arith))
+
+        less-planned : z < size → resizePlanned c (view img) i z time ≡ just plan
+        unfolding resizePlanned
+        less-planned l = rw (← says, lt-ltb z size l)
+
+        pub size-shrinks : {answer : Changed} {after : List ℕ} → z < size → Shrunk answer after → Sized answer after
+        unfolding sizeDecision shrinkDecision
+        size-shrinks l r =
+            rw (decided-same (length img) (view img) (sizeConditions c i z) [] (resizePlanned c (view img) i z time) (length list) (none-holds l), less-planned l) r
+
+        pub size-far : size + longestTransfer < z → Sized (refusedBy 8) list
+        unfolding sizeDecision sizeConditions verdictOf
+        size-far l =
+            own-refusal img ok list (sizeConditions c i z) (resizePlanned c (view img) i z time) 8 (λ (e : _≡_ {A = ℕ} 8 0). omega arith) (rw (← says, lt-ltb (size + longestTransfer) z l))
+
+        module _ (l : size ≤ z) (m : z ≤ size + longestTransfer) where
+          whole : max size (size + length (zeros (z - size))) ≡ z
+          whole = rw length-run (omega arith)
+
+          same-verdict : verdictOf (sizeConditions c i z) ≡ verdictOf (fileConditions c i size (length (zeros (z - size))))
+          unfolding sizeConditions fileConditions verdictOf
+          same-verdict = rw (← says, le-ltb (size + longestTransfer) z m, le-ltb size size (omega arith), whole)
+
+          more-planned : resizePlanned c (view img) i z time ≡ writePlanned c i (view img) size (zeros (z - size)) time
+          unfolding resizePlanned
+          more-planned = rw (← says, le-ltb z size l)
+
+          pub size-grows : {answer : Changed} {after : List ℕ}
+              → ComesTo (view img) (fileDecision (length img) (view img) i size (zeros (z - size)) time (length list)) list answer after → Sized answer after
+          unfolding sizeDecision fileDecision
+          size-grows r =
+              rw (
+                decided-same (length img) (view img) (sizeConditions c i z) (fileConditions c i size (length (zeros (z - size)))) (resizePlanned c (view img) i z time) (length list) same-verdict,
+                more-planned,
+              )
+              r
+
+-- ---- 8 for the name, 9
+
+module _ (img : List ℕ) (ok : judged (length img) (view img) .number ≡ 0) (list : List ℕ) where
+  abbrev cat : Catalogue
+  cat = catalogueOf (view img)
+
+  module _ (name : List ℕ) (z time : ℕ) where
+    abbrev conditions : Conditions
+    conditions = resizeConditions cat name z
+
+    abbrev planned : Option Plan
+    planned = resizePlanned cat (view img) (indexOf (fileNamed cat name)) z time
+
+    abbrev Resized : Changed → List ℕ → Type 0
+    Resized answer after =
+        (answer ≡ resizeAnswer (length img) (view img) name z time (length list)) × (after ≡ resizeList (length img) (view img) name z time list)
+
+    pub resize-bad-name : badName name ≡ true → Resized (refusedBy 8) list
+    unfolding resizeAnswer resizeList resizeDecision resizeConditions verdictOf
+    resize-bad-name h = own-refusal img ok list conditions planned 8 (λ (e : _≡_ {A = ℕ} 8 0). omega arith) (rw h)
+
+    module _ (good : badName name ≡ false) where
+      pub resize-missing : isAt (fileNamed cat name) ≡ false → Resized (refusedBy 9) list
+      unfolding resizeAnswer resizeList resizeDecision resizeConditions verdictOf
+      resize-missing h = own-refusal img ok list conditions planned 9 (λ (e : _≡_ {A = ℕ} 9 0). omega arith) (rw (good, h))
+
+      sized : (i : ℕ) → At i ≡ fileNamed cat name → sizeNamed cat name ≡ entryOf cat i .size
+      unfolding sizeNamed
+      sized i e = ap (λ (p : Place). entryOf cat (indexOf p) .size) (sym e)
+
+      pub resize-found : {answer : Changed} {after : List ℕ} (i : ℕ) → At i ≡ fileNamed cat name → ComesTo (view img) (sizeDecision (length img) (view img) i z time (length list)) list answer after → Resized answer after
+      unfolding resizeAnswer resizeList resizeDecision sizeDecision resizeConditions sizeConditions verdictOf
+      resize-found i e r =
+          rw (decided-same (length img) (view img) conditions (sizeConditions cat i z) planned (length list) (rw (good, ← e, sized i e)), ← e) r

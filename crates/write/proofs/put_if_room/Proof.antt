@@ -1,0 +1,87 @@
+use Rattle.write.proofs.Laws.{room-none, room-short, room-count, room-done}
+use native.Mathlib.Omega.{arith}
+use borrow.Author.Needs.{needs}
+use Rattle.write.proofs.put_if_room.Statement.{statement}
+use Rattle.write.proofs.put_if_room.Tie as tie
+
+refusal-requires : tie.Need-refusal-requires
+refusal-requires c κs = search needs
+
+refused-requires : tie.Need-refused-requires
+refused-requires c κs = search needs
+
+returns : tie.Need-returns
+returns c =
+    let s = c .before .before .before .before .before .before in
+    let a = s .args in
+    rw (c .refused .ensures, c .before .refusal .ensures) (room-none (a .img .now) (s .pre .0) (a .list .now) (a .i .0) (a .offset) (a .bytes .now) (a .time) (c .before .before .if1 .taken))
+
+records-requires : tie.Need-records-requires
+records-requires c κs = search needs
+
+mul-if2 : tie.Need-mul-if2
+mul-if2 c = search needs
+
+refusal-requires-2 : tie.Need-refusal-requires-2
+refusal-requires-2 c κs = search needs
+
+refused-requires-2 : tie.Need-refused-requires-2
+refused-requires-2 c κs = search needs
+
+returns-2 : tie.Need-returns-2
+returns-2 c =
+    let s = c .before .before .before .before .before .before .before .before in
+    let a = s .args in
+    rw (c .refused2 .ensures, c .before .refusal2 .ensures)
+    (room-short (a .img .now) (s .pre .0) (a .list .now) (a .i .0) (a .offset) (a .bytes .now) (a .time) (c .before .before .before .before .if1 .left) (a .z) (a .w .more) (s .pre .1 .1 .1 .1) (s .pre .1 .1 .0 .0 .needs-one)
+    (rw (c .before .before .before .records .ensures .0) at (c .before .before .if2 .taken)))
+
+put-write-requires : tie.Need-put-write-requires
+put-write-requires c κs =
+    let s = c .before .before .before .before .before .before .before in
+    let h = s .pre .1 .1 .1 .0 in
+    (s .pre .1 .0, (s .pre .1 .1 .0, ((h .0, omega (arith, c .before .before .before .if1 .left), h .2), (s .pre .1 .1 .1 .1, omega (arith, c .before .before .records .ensures .0, c .before .if2 .left)))))
+
+refusal-requires-3 : tie.Need-refusal-requires-3
+refusal-requires-3 c κs = search needs
+
+mul-t22 : tie.Need-mul-t22
+mul-t22 c =
+    let s = c .before .before .before .before .before .before .before .before .before .before .before in
+    let a = s .args in
+    omega (
+      arith,
+      c .before .before .before .before .before .before .records .ensures .0,
+      c .before .before .before .before .before .before .records .ensures .1,
+      room-count (a .img .now) (s .pre .0) (a .list .now) (a .i .0) (a .offset) (a .bytes .now) (a .time) (c .before .before .before .before .before .before .before .if1 .left) (a .z) (a .w .more) (s .pre .1 .1 .1 .1) (s .pre .1 .1 .0 .0 .needs-one)
+          (c .before .before .before .put-write .ensures),
+    )
+
+same-length : tie.Need-same-length
+same-length c = search needs
+
+returns-3 : tie.Need-returns-3
+returns-3 c =
+    let s = c .before .before .before .before .before .before .before .before .before .before .before in
+    let a = s .args in
+    rw (c .refusal3 .ensures)
+    (room-done (a .img .now) (s .pre .0) (a .list .now) (a .i .0) (a .offset) (a .bytes .now) (a .time) (c .before .before .before .before .before .before .before .if1 .left) (a .z) (a .w .more) (s .pre .1 .1 .1 .1) (s .pre .1 .1 .0 .0 .needs-one)
+    (omega (arith, c .before .before .before .before .before .before .records .ensures .0, c .before .before .before .before .before .if2 .left)) (c .before .before .before .put-write .ensures))
+
+pub put-if-room-spec : {M : Type 1} → statement M
+put-if-room-spec =
+    tie.close
+    (tie.spec
+    refusal-requires
+    refused-requires
+    returns
+    records-requires
+    mul-if2
+    refusal-requires-2
+    refused-requires-2
+    returns-2
+    put-write-requires
+    refusal-requires-3
+    mul-t22
+    same-length
+    returns-3)

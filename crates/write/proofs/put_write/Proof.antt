@@ -1,0 +1,152 @@
+use Rattle.write.proofs.Lists.{written-more, written-kept}
+use lib.ListN.{replicate}
+use mathlib.Core.Path.{sym, _∙_}
+use native.Mathlib.Omega.{arith}
+use borrow.Author.Needs.{needs}
+use Rattle.write.proofs.put_write.Statement.{statement}
+use Rattle.write.proofs.put_write.Tie as tie
+
+add-touched : tie.Need-add-touched
+add-touched c = search needs
+
+add-touched-2 : tie.Need-add-touched-2
+add-touched-2 c = search needs
+
+sub-touched : tie.Need-sub-touched
+sub-touched c = search needs
+
+put-data-requires : tie.Need-put-data-requires
+put-data-requires c κs =
+    let s = c .before .before .before .before in
+    let w = s .pre .1 .0 .0 in
+    let h = s .pre .1 .1 .0 in (
+      s .pre .0,
+      (
+        record { file = omega (arith, h .0, s .pre .0 .bounded .files-high); extents = w .extents; taken = w .taken },
+        (
+          omega (arith, s .pre .1 .1 .1 .1),
+          record { small = omega (arith, h .2); low = omega arith; high = omega (arith, h .1) },
+        ),
+      ),
+    )
+
+updated-entry-requires : tie.Need-updated-entry-requires
+updated-entry-requires c κs = search needs
+
+slice-aggregate-put-copy : tie.Need-slice-aggregate-put-copy
+slice-aggregate-put-copy c = search needs
+
+sector-requires : tie.Need-sector-requires
+sector-requires c κs = search needs
+
+put-copy-requires : tie.Need-put-copy-requires
+put-copy-requires c κs = search needs
+
+taken-sector-requires : tie.Need-taken-sector-requires
+taken-sector-requires c κs = search needs
+
+slice-aggregate-put-copy-2 : tie.Need-slice-aggregate-put-copy-2
+slice-aggregate-put-copy-2 c = search needs
+
+table-sector-of-requires : tie.Need-table-sector-of-requires
+table-sector-of-requires c κs =
+    let s = c .before .before .before .before .before .before .before .before .before .before .before .before .before .before .before .before .before .before .before in
+    (s .pre .0 .bounded, s .pre .1 .0 .1)
+
+put-copy-requires-2 : tie.Need-put-copy-requires-2
+put-copy-requires-2 c κs =
+    let s = c .before .before .before .before .before .before .before .before .before .before .before .before .before .before .before .before .before .before .before .before in
+    let room = rw (c .before .before .before .before .if1 .taken) at (s .pre .1 .1 .1 .1) in
+    (omega (arith, room, c .before .before .before .before .before .before .before .before .put-copy .ensures .0 .next, c .before .before .before .before .before .before .before .before .before .before .before .before .before .before .before .put-data .ensures .0, c .before .before .before .before .before .before .before .list2 .given, c .before .before .before .before .before .before .before .before .before .before .before .before .before .before .list .given), (s .pre .0 .bounded, (omega (arith, c .before .before .before .before .before .before .before .before .put-copy .ensures .0 .next), omega arith)))
+
+slice-aggregate-put-commit : tie.Need-slice-aggregate-put-commit
+slice-aggregate-put-commit c = search needs
+
+put-commit-requires : tie.Need-put-commit-requires
+put-commit-requires c κs =
+    let s = c .before .before .before .before .before .before .before .before .before .before .before .before .before .before .before .before .before .before .before .before .before .before .before .before .before .before in
+    let room = rw (c .before .before .before .before .before .before .before .before .before .before .if1 .taken) at (s .pre .1 .1 .1 .1) in
+    let n1 = c .before .before .before .before .before .before .before .before .before .before .before .before .before .before .put-copy .ensures .0 .next in
+    let n2 = c .before .before .before .before .before .put-copy2 .ensures .0 .next in (
+      omega (arith, room, n1, n2, c .before .before .before .before .before .before .before .before .before .before .before .before .before .before .before .before .before .before .before .before .before .put-data .ensures .0, c .before .before .before .before .list3 .given, c .before .before .before .before .before .before .before .before .before .before .before .before .before .list2 .given, c .before .before .before .before .before .before .before .before .before .before .before .before .before .before .before .before .before .before .before .before .list .given),
+      (
+        omega (arith, s .pre .0 .held),
+        (
+          s .pre .0 .bounded,
+          (omega arith, omega arith, omega (arith, n1, n2)),
+        ),
+      ),
+    )
+
+same-length : tie.Need-same-length
+same-length c = c .before .list4 .given ∙ c .before .before .before .before .before .before .before .list3 .given ∙ c .before .before .before .before .before .before .before .before .before .before .before .before .before .before .before .before .list2 .given ∙ c .before .before .before .before .before .before .before .before .before .before .before .before .before .before .before .before .before .before .before .before .before .before .before .list .given
+
+returns : tie.Need-returns
+returns c =
+    let s = c .before .before .before .before .before .before .before .before .before .before .before .before .before .before .before .before .before .before .before .before .before .before .before .before .before .before .before .before .before in
+    let a = s .args in
+    let w = s .pre .1 .0 .0 in
+    let room = rw (c .before .before .before .before .before .before .before .before .before .before .before .before .before .if1 .taken) at (s .pre .1 .1 .1 .1) in
+    written-more (a .img .now) (a .g) (s .pre .0) (a .i .0) (a .offset) (a .bytes .now) (a .time) (a .z) (s .pre .1 .1 .1 .0) (replicate 2 0) (c .before .before .before .before .before .before .before .before .before .before .before .before .before .before .before .before .before .before .sector .result .0) (c .before .before .before .before .before .before .before .before .before .before .before .before .before .before .before .before .before .before .before .before .before .updated-entry .result)
+    (c .before .before .before .before .before .before .before .before .before .before .before .before .before .before .before .before .before .before .before .before .before .before .before .before .put-data .ensures .1) (c .before .before .before .before .before .before .before .before .before .before .before .before .before .before .before .before .before .before .sector .ensures) (c .before .before .before .before .before .before .before .before .before .before .before .before .before .before .before .before .before .before .before .before .before .updated-entry .ensures) (c .before .before .before .before .before .before .before .before .before .before .before .before .before .before .before .before .before .put-copy .ensures .0) (c .before .before .before .before .before .before .before .before .before .before .before .before .before .before .before .before .before .put-copy .ensures .1)
+    (a .w .next .0) (a .w .held) (c .before .before .before .before .before .before .before .before .before .table-sector-of .result .0) (c .before .before .before .before .before .before .before .before .before .before .before .before .taken-sector .result) (sym (w .needs-one) ∙ c .before .before .before .before .before .before .before .before .before .before .before .before .before .if1 .taken) (omega arith)
+    (omega (arith, room, c .before .before .before .before .before .before .before .before .before .before .before .before .before .before .before .before .before .put-copy .ensures .0 .next, c .before .before .before .before .before .before .before .before .put-copy2 .ensures .0 .next, c .before .before .before .before .before .before .before .before .before .before .before .before .before .before .before .before .before .before .before .before .before .before .before .before .put-data .ensures .0))
+    (w .taken) (w .extents) (c .before .before .before .before .before .before .before .before .before .table-sector-of .ensures) (c .before .before .before .before .before .before .before .before .before .before .before .before .taken-sector .ensures) (c .before .before .before .before .before .before .before .before .put-copy2 .ensures .0) (c .before .before .before .before .before .before .before .before .put-copy2 .ensures .1) (c .before .before .put-commit .ensures .0)
+
+slice-aggregate-put-commit-2 : tie.Need-slice-aggregate-put-commit-2
+slice-aggregate-put-commit-2 c = search needs
+
+put-commit-requires-2 : tie.Need-put-commit-requires-2
+put-commit-requires-2 c κs =
+    let s = c .before .before .before .before .before .before .before .before .before .before .before .before .before .before .before .before .before .before in
+    let room = rw (c .before .before .if1 .left) at (s .pre .1 .1 .1 .1) in
+    let n1 = c .before .before .before .before .before .before .put-copy .ensures .0 .next in (
+      omega (arith, room, n1, c .before .before .before .before .before .before .before .before .before .before .before .before .before .put-data .ensures .0, c .before .before .before .before .before .list2 .given, c .before .before .before .before .before .before .before .before .before .before .before .before .list .given),
+      (
+        omega (arith, s .pre .0 .held),
+        (
+          s .pre .0 .bounded,
+          (omega arith, omega arith, omega (arith, n1)),
+        ),
+      ),
+    )
+
+same-length-2 : tie.Need-same-length-2
+same-length-2 c = search needs
+
+returns-2 : tie.Need-returns-2
+returns-2 c =
+    let s = c .before .before .before .before .before .before .before .before .before .before .before .before .before .before .before .before .before .before .before .before .before in
+    let a = s .args in
+    let w = s .pre .1 .0 .0 in
+    let room = rw (c .before .before .before .before .before .if1 .left) at (s .pre .1 .1 .1 .1) in
+    written-kept (a .img .now) (a .g) (s .pre .0) (a .i .0) (a .offset) (a .bytes .now) (a .time) (a .z) (s .pre .1 .1 .1 .0) (replicate 2 0) (c .before .before .before .before .before .before .before .before .before .before .sector .result .0) (c .before .before .before .before .before .before .before .before .before .before .before .before .before .updated-entry .result)
+    (c .before .before .before .before .before .before .before .before .before .before .before .before .before .before .before .before .put-data .ensures .1) (c .before .before .before .before .before .before .before .before .before .before .sector .ensures) (c .before .before .before .before .before .before .before .before .before .before .before .before .before .updated-entry .ensures) (c .before .before .before .before .before .before .before .before .before .put-copy .ensures .0) (c .before .before .before .before .before .before .before .before .before .put-copy .ensures .1)
+    (sym (w .needs-one) ∙ c .before .before .before .before .before .if1 .left) (omega arith)
+    (omega (arith, room, c .before .before .before .before .before .before .before .before .before .put-copy .ensures .0 .next, c .before .before .before .before .before .before .before .before .before .before .before .before .before .before .before .before .put-data .ensures .0))
+    (c .before .before .put-commit2 .ensures .0)
+
+pub put-write-spec : {M : Type 1} → statement M
+put-write-spec =
+    tie.close
+    (tie.spec
+    add-touched
+    add-touched-2
+    sub-touched
+    put-data-requires
+    updated-entry-requires
+    slice-aggregate-put-copy
+    sector-requires
+    put-copy-requires
+    taken-sector-requires
+    slice-aggregate-put-copy-2
+    table-sector-of-requires
+    put-copy-requires-2
+    slice-aggregate-put-commit
+    put-commit-requires
+    same-length
+    returns
+    slice-aggregate-put-commit-2
+    put-commit-requires-2
+    same-length-2
+    returns-2)

@@ -1,0 +1,108 @@
+use Rattle.write.proofs.Resizes.{resize-bad-name, resize-missing, resize-found}
+use Rattle.write.proofs.Laws.{file-below, asked}
+use Rattle.laws.proofs.Named.{short-name}
+use Rattle.laws.proofs.Judged.{judged-image, judged-opened}
+use Rattle.laws.proofs.Refusals.{image-length}
+use Rattle.model.specs.Disk.{view}
+use Rattle.model.specs.Search.{isAt}
+use Rattle.model.specs.Bytes.{beAt}
+use native.Mathlib.Omega.{arith}
+use mathlib.Core.Path.{sym, ap, _∙_}
+use Prim.Native.Nat.{ℕ}
+use borrow.Author.Needs.{needs}
+use Rattle.write.proofs.resize_in.Statement.{statement}
+use Rattle.write.proofs.resize_in.Tie as tie
+
+bad-name-requires : tie.Need-bad-name-requires
+bad-name-requires c κs = search needs
+
+refusal-requires : tie.Need-refusal-requires
+refusal-requires c κs = search needs
+
+refused-requires : tie.Need-refused-requires
+refused-requires c κs = search needs
+
+returns : tie.Need-returns
+returns c =
+    let s = c .before .before .before .before .before .before .before in
+    let a = s .args in
+    rw (c .refused .ensures, c .before .refusal .ensures)
+    (resize-bad-name (a .img .now) (s .pre) (a .list .now) (a .name .now) (a .size) (a .time) (sym (c .before .before .before .bad-name .ensures) ∙ c .before .before .if1 .taken))
+
+geometry-in-requires : tie.Need-geometry-in-requires
+geometry-in-requires c κs = image-length _ _ (judged-image _ _ (c .before .before .before .before .before .pre))
+
+file-named-requires : tie.Need-file-named-requires
+file-named-requires c κs = (judged-opened _ _ (c .geometry-in .ensures) (omega arith) (c .before .before .before .before .before .before .pre), short-name _ (sym (c .before .before .bad-name .ensures) ∙ c .before .if1 .left))
+
+enum-known-i : tie.Need-enum-known-i
+enum-known-i c = search needs
+
+sector-requires : tie.Need-sector-requires
+sector-requires c κs =
+    let s = c .before .before .before .before .before .before .before .before .before .before in
+    let o = judged-opened _ _ (c .before .before .before .before .geometry-in .ensures) (omega arith) (s .pre) in
+    omega (arith, o .bounded .files-high, file-below (s .args .img .now) _ o (s .args .name .now) (c .before .i .given .0 .0) (sym (c .before .i .given .1) ∙ c .before .before .before .file-named .ensures))
+
+number-requires : tie.Need-number-requires
+number-requires c κs =
+    let s = c .before .before .before .before .before .before .before .before .before .before .before in
+    let o = judged-opened _ _ (c .before .before .before .before .before .geometry-in .ensures) (omega arith) (s .pre) in
+    let h = file-below (s .args .img .now) _ o (s .args .name .now) (c .before .before .i .given .0 .0) (sym (c .before .before .i .given .1) ∙ c .before .before .before .before .file-named .ensures) in
+    (omega (arith, o .held, h, c .sector .ensures), (omega arith, omega arith))
+
+resize-file-requires : tie.Need-resize-file-requires
+resize-file-requires c κs =
+    let s = c .before .before .before .before .before .before .before .before .before .before .before .before .before in
+    let img = s .args .img .now in
+    let o = judged-opened _ _ (c .before .before .before .before .before .before .before .geometry-in .ensures) (omega arith) (s .pre) in
+    asked img _ o (s .args .name .now) (c .before .before .before .before .i .given .0 .0) (sym (c .before .before .before .before .i .given .1) ∙ c .before .before .before .before .before .before .file-named .ensures) (s .pre) (c .before .number .result) 0
+    (c .before .number .ensures .0 ∙ ap (λ (k : ℕ). beAt (view img k) 2 8) (c .before .before .sector .ensures)) (omega arith)
+
+same-length : tie.Need-same-length
+same-length c = search needs
+
+returns-2 : tie.Need-returns-2
+returns-2 c =
+    let s = c .before .before .before .before .before .before .before .before .before .before .before .before .before .before .before .before in
+    let a = s .args in
+    resize-found (a .img .now) (s .pre) (a .list .now) (a .name .now) (a .size) (a .time) (sym (c .before .before .before .before .before .before .before .before .before .before .before .before .bad-name .ensures) ∙ c .before .before .before .before .before .before .before .before .before .before .before .if1 .left)
+    (c .before .before .before .before .before .before .before .i .given .0 .0) (sym (c .before .before .before .before .before .before .before .i .given .1) ∙ c .before .before .before .before .before .before .before .before .before .file-named .ensures) (c .before .before .resize-file .ensures)
+
+enum-told : tie.Need-enum-told
+enum-told c = search needs
+
+refusal-requires-2 : tie.Need-refusal-requires-2
+refusal-requires-2 c κs = search needs
+
+refused-requires-2 : tie.Need-refused-requires-2
+refused-requires-2 c κs = search needs
+
+returns-3 : tie.Need-returns-3
+returns-3 c =
+    let s = c .before .before .before .before .before .before .before .before .before .before .before in
+    let a = s .args in
+    rw (c .refused2 .ensures, c .before .refusal2 .ensures)
+    (resize-missing (a .img .now) (s .pre) (a .list .now) (a .name .now) (a .size) (a .time) (sym (c .before .before .before .before .before .before .before .bad-name .ensures) ∙ c .before .before .before .before .before .before .if1 .left)
+    (ap isAt (sym (c .before .before .before .before .file-named .ensures) ∙ c .before .before .enum-told .given .1)))
+
+pub resize-in-spec : {M : Type 1} → statement M
+resize-in-spec =
+    tie.close
+    (tie.spec
+    bad-name-requires
+    refusal-requires
+    refused-requires
+    returns
+    geometry-in-requires
+    file-named-requires
+    enum-known-i
+    sector-requires
+    number-requires
+    resize-file-requires
+    same-length
+    returns-2
+    enum-told
+    refusal-requires-2
+    refused-requires-2
+    returns-3)

@@ -1,0 +1,107 @@
+use Rattle.model.specs.Write.{grows}
+use Rattle.model.specs.Catalogue.{catalogueOf}
+use Rattle.model.specs.Disk.{view}
+use Rattle.write.proofs.Laws.{file-12, file-13, file-room}
+use Rattle.laws.proofs.Booleans.{and-false}
+use lib.ListN.{length}
+use native.Mathlib.Omega.{arith}
+use mathlib.Core.Path.{sym, ap, _∙_}
+use Prim.Native.Nat.{ℕ, _+_, max}
+use borrow.Author.Needs.{needs}
+use Rattle.write.proofs.write_file.Statement.{statement}
+use Rattle.write.proofs.write_file.Tie as tie
+
+refusal-requires : tie.Need-refusal-requires
+refusal-requires c κs = search needs
+
+refused-requires : tie.Need-refused-requires
+refused-requires c κs = search needs
+
+returns : tie.Need-returns
+returns c =
+    let s = c .before .before .before .before .before .before in
+    let a = s .args in
+    rw (c .refused .ensures, c .before .refusal .ensures) (file-12 (a .img .now) (s .pre .judgment) (a .list .now) (a .i .0) (a .offset) (a .bytes .now) (a .time) (a .size) (s .pre .says) (c .before .before .if1 .taken))
+
+add-most : tie.Need-add-most
+add-most c = search needs
+
+most-requires : tie.Need-most-requires
+most-requires c κs = search needs
+
+need-for-requires : tie.Need-need-for-requires
+need-for-requires c κs = search needs
+
+put-if-room-requires : tie.Need-put-if-room-requires
+put-if-room-requires c κs =
+    let s = c .before .before .before .before .before .before .before .before .before in
+    let a = s .args in
+    let e = c .before .before .before .before .most .ensures ∙ ap (λ (x : ℕ). max x (a .offset + length (a .bytes .now))) (s .pre .says) in
+    (s .pre .judgment, (s .pre .opened, (c .before .before .before .need-for .ensures, ((s .pre .file, s .pre .short, omega (arith, s .pre .fits, s .pre .short, c .before .before .before .before .before .if1 .left)), e))))
+
+same-length : tie.Need-same-length
+same-length c = search needs
+
+returns-2 : tie.Need-returns-2
+returns-2 c =
+    let s = c .before .before .before .before .before .before .before .before .before .before .before .before in
+    let a = s .args in
+    let w = c .before .before .before .before .before .before .need-for .ensures .0 in
+    let e = c .before .before .before .before .before .before .before .most .ensures ∙ ap (λ (x : ℕ). max x (a .offset + length (a .bytes .now))) (s .pre .says) in
+    file-room (a .img .now) (s .pre .judgment) (a .list .now) (a .i .0) (a .offset) (a .bytes .now) (a .time) (a .size) (s .pre .says) (c .before .before .before .before .before .before .before .before .if1 .left) (c .before .before .before .before .before .before .before .most .result) e
+    (rw (← w .has-one, c .before .before .before .before .if3 .taken) (and-false (grows (catalogueOf (view (a .img .now))) (a .i .0) (c .before .before .before .before .before .before .before .most .result)))) (c .before .before .put-if-room .ensures)
+
+refusal-requires-2 : tie.Need-refusal-requires-2
+refusal-requires-2 c κs = search needs
+
+refused-requires-2 : tie.Need-refused-requires-2
+refused-requires-2 c κs = search needs
+
+returns-3 : tie.Need-returns-3
+returns-3 c =
+    let s = c .before .before .before .before .before .before .before .before .before .before in
+    let a = s .args in
+    let w = c .before .before .before .before .need-for .ensures .0 in
+    let e = c .before .before .before .before .before .most .ensures ∙ ap (λ (x : ℕ). max x (a .offset + length (a .bytes .now))) (s .pre .says) in
+    rw (c .refused2 .ensures, c .before .refusal2 .ensures)
+    (file-13 (a .img .now) (s .pre .judgment) (a .list .now) (a .i .0) (a .offset) (a .bytes .now) (a .time) (a .size) (s .pre .says) (c .before .before .before .before .before .before .if1 .left) (c .before .before .before .before .before .most .result) e
+    (sym (w .needs-one) ∙ c .before .before .before .if2 .taken) (sym (w .has-one) ∙ c .before .before .if3 .left))
+
+put-if-room-requires-2 : tie.Need-put-if-room-requires-2
+put-if-room-requires-2 c κs =
+    let s = c .before .before .before .before .before .before .before .before in
+    let a = s .args in
+    let e = c .before .before .before .most .ensures ∙ ap (λ (x : ℕ). max x (a .offset + length (a .bytes .now))) (s .pre .says) in
+    (s .pre .judgment, (s .pre .opened, (c .before .before .need-for .ensures, ((s .pre .file, s .pre .short, omega (arith, s .pre .fits, s .pre .short, c .before .before .before .before .if1 .left)), e))))
+
+same-length-2 : tie.Need-same-length-2
+same-length-2 c = search needs
+
+returns-4 : tie.Need-returns-4
+returns-4 c =
+    let s = c .before .before .before .before .before .before .before .before .before .before .before in
+    let a = s .args in
+    let w = c .before .before .before .before .before .need-for .ensures .0 in
+    let e = c .before .before .before .before .before .before .most .ensures ∙ ap (λ (x : ℕ). max x (a .offset + length (a .bytes .now))) (s .pre .says) in
+    file-room (a .img .now) (s .pre .judgment) (a .list .now) (a .i .0) (a .offset) (a .bytes .now) (a .time) (a .size) (s .pre .says) (c .before .before .before .before .before .before .before .if1 .left) (c .before .before .before .before .before .before .most .result) e
+    (rw (← w .needs-one, c .before .before .before .before .if2 .left)) (c .before .before .put-if-room2 .ensures)
+
+pub write-file-spec : {M : Type 1} → statement M
+write-file-spec =
+    tie.close
+    (tie.spec
+    refusal-requires
+    refused-requires
+    returns
+    add-most
+    most-requires
+    need-for-requires
+    put-if-room-requires
+    same-length
+    returns-2
+    refusal-requires-2
+    refused-requires-2
+    returns-3
+    put-if-room-requires-2
+    same-length-2
+    returns-4)

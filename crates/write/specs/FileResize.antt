@@ -1,0 +1,24 @@
+-- A resize of a file that was found: the part of the decision that rests on the file alone.
+use Prim.Native.Nat.{ℕ, _+_}
+use mathlib.Core.List.{[], _∷_}
+use mathlib.Core.Option.{some as just}
+use lib.Dec.{ltb}
+use Rattle.model.specs.Geometry.{FileNumber}
+use Rattle.model.specs.Disk.{Disk}
+use Rattle.model.specs.Catalogue.{Catalogue, catalogueOf, entryOf}
+use Rattle.model.specs.Refusals.{Conditions, refusal}
+use Rattle.model.specs.Read.{longestTransfer}
+use Rattle.model.specs.WriteList.{Decision, decided}
+use Rattle.model.specs.Write.{noRoom}
+use Rattle.model.specs.Resize.{shrinkPlan, resizePlanned}
+
+-- 8 "a resize that grows a file by more than 65,536", 13
+unfoldable pub sizeConditions : Catalogue → FileNumber → ℕ → Conditions
+sizeConditions c i z = (ltb (entryOf c i .size + longestTransfer) z, refusal 8) ∷ (noRoom c i z, refusal 13) ∷ []
+
+unfoldable pub sizeDecision : ℕ → Disk → FileNumber → ℕ → ℕ → ℕ → Decision
+sizeDecision len d i z time room = decided len d (sizeConditions (catalogueOf d) i z) (resizePlanned (catalogueOf d) d i z time) room
+
+-- where the file shrinks: 14, or the plan
+unfoldable pub shrinkDecision : ℕ → Disk → FileNumber → ℕ → ℕ → ℕ → Decision
+shrinkDecision len d i z time room = decided len d [] (just (shrinkPlan (catalogueOf d) d i z time)) room

@@ -1,0 +1,2 @@
+pub mod FileWrite
+pub mod FileResize

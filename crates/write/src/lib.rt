@@ -1,0 +1,310 @@
+// The calls write and resize on a volume that the refusals 1 to 7 let pass: their refusals and their write lists.
+use model::Changed;
+use model::Extent;
+use model::FileIndex;
+use model::Geometry;
+use model::Place;
+ghost use mathlib.Core.Path.{_≡_};
+ghost use mathlib.Core.Bool.{cond};
+ghost use mathlib.Core.Option.{some as just};
+ghost use Prim.Native.Nat.{_+_, _*_, _≤_, _<_, _^_, max};
+ghost use lib.ListN.{length};
+ghost use Rattle.model.specs.Disk.{view};
+ghost use Rattle.model.specs.Table.{tableSectorOf, takenIn};
+ghost use Rattle.model.specs.Catalogue.{catalogueOf, entryOf};
+ghost use Rattle.model.specs.Refusals.{judged};
+ghost use Rattle.model.specs.Read.{longestTransfer};
+ghost use Rattle.model.specs.WriteList.{recordSize, recordCount, groupsFor, closed, Emitted, answerOf, listAfter};
+ghost use Rattle.model.specs.Write.{touchedSectors, sizeAfter, writePlan, writeAnswer, writeList};
+ghost use Rattle.model.specs.Resize.{zeros, resizeAnswer, resizeList};
+ghost use Rattle.model.specs.Opened.{Opened};
+ghost use Rattle.write.specs.FileWrite.{Grown, Asked, fileDecision, roomDecision};
+ghost use Rattle.write.specs.FileResize.{shrinkDecision, sizeDecision};
+
+// What a new size needs: the extents that the file has, whether it takes one more, whether a usable one is free, and which.
+pub struct Growth {
+    pub held: u64,
+    pub more: bool,
+    pub found: bool,
+    pub next: Extent,
+}
+
+fn most(a: u64, b: u64) -> u64
+    ensures { λ r. ⌜ r ≡ max a b ⌝ }
+{
+    if a <= b {
+        return b;
+    }
+    a
+}
+
+// The table sector of extent x, in which x is given to file i as its extent of that offset.
+fn taken_sector(img: &[u8], g: Geometry, x: Extent, i: FileIndex, offset: u64) -> [u8; 512]
+    requires { ⌜ Opened (now img) g ⌝ }
+    requires { ⌜ x .0 < g .extents ⌝ }
+    ensures { λ r. ⌜ r ≡ takenIn (x .0) (i .0) offset (view (now (img .entry)) (tableSectorOf g (x .0))) ⌝ }
+{
+    let mut a = fields::sector(img, g.table_sector_of(x));
+    let at = (4 * (x.0 % 128)) as usize;
+    fields::put_be(&mut a, at, 2, i.0);
+    fields::put_be(&mut a, at + 2, 2, offset);
+    a
+}
+
+// ---- what a write needs
+
+// What file i, whose size is given, needs for the new size z.
+fn need_for(img: &[u8], g: Geometry, i: FileIndex, size: u64, z: u64) -> Growth
+    requires { ⌜ Opened (now img) g ⌝ }
+    requires { ⌜ size ≡ entryOf (catalogueOf (view (now img))) (i .0) .size ⌝ }
+    ensures { λ r. ⌜ Grown (catalogueOf (view (now (img .entry)))) (i .0) z r ⌝ }
+    ensures { λ r. ⌜ r .next .0 < g .extents ⌝ }
+{
+    let held = table::extents_for(g, size);
+    let more = held < table::extents_for(g, z);
+    if let Place::At(e) = table::free_extent(img, g) {
+        return Growth {
+            held,
+            more,
+            found: true,
+            next: Extent(e as u64),
+        };
+    }
+    Growth {
+        held,
+        more,
+        found: false,
+        next: Extent(0),
+    }
+}
+
+// How many records the list of a write of n bytes has: data sectors, one or two targets and what goes with them.
+fn records(more: bool, offset: u64, n: u64) -> usize
+    requires { ⌜ (offset + n < 2 ^ 63) × (n ≤ longestTransfer) ⌝ }
+    ensures { λ r. ⌜ (r ≡ recordCount (touchedSectors offset n) (cond more 2 1)) × (r ≤ 200) ⌝ }
+{
+    let touched = ((offset + n + 511) / 512 - offset / 512) as usize;
+    if more {
+        return touched + 11;
+    }
+    touched + 9
+}
+
+// ---- the list
+
+// The whole list of a write that makes the size z, from position 0 on: data sectors, the copies of the entry and, if the file
+// takes an extent, of its table sector, and the commit.
+fn put_write(
+    list: &mut [u8],
+    img: &[u8],
+    g: Geometry,
+    i: FileIndex,
+    w: Growth,
+    offset: u64,
+    bytes: &[u8],
+    z: u64,
+    time: u32,
+) -> usize
+    requires { ⌜ Opened (now img) g ⌝ }
+    requires { ⌜ Grown (catalogueOf (view (now img))) (i .0) z w × (w .next .0 < g .extents) ⌝ }
+    requires { ⌜ (i .0 < g .files) × (0 < length (now bytes)) × (offset + length (now bytes) < 2 ^ 63) ⌝ }
+    requires { ⌜ z ≡ sizeAfter (catalogueOf (view (now img))) (i .0) offset (length (now bytes)) ⌝ }
+    requires { ⌜ recordCount (touchedSectors offset (length (now bytes))) (cond (w .more) 2 1) * recordSize ≤ length (now list) ⌝ }
+    ensures { λ r. ⌜ Emitted (now (list .entry)) 0 (closed (groupsFor (view (now (img .entry))) (just (writePlan (catalogueOf (view (now (img .entry)))) (i .0) (view (now (img .entry))) offset (now (bytes .entry)) time)))) (now (list .exit)) r ⌝ }
+{
+    let first = offset / 512;
+    let touched = (offset + bytes.len() as u64 + 511) / 512 - first;
+    let k = spans::put_data(
+        list,
+        0,
+        img,
+        g,
+        i,
+        w.held,
+        w.next,
+        offset,
+        bytes,
+        first,
+        touched,
+    );
+    let mut numbers = [0u64; 2];
+    let entry = rewrites::updated_entry(img, i, z, time);
+    let k1 = commit::put_copy(list, k, g, &mut numbers, 0, i.sector(), entry);
+    if w.more {
+        let t = taken_sector(img, g, w.next, i, w.held);
+        let k2 = commit::put_copy(list, k1, g, &mut numbers, 1, g.table_sector_of(w.next), t);
+        return commit::put_commit(list, k2, img, g, &numbers, 2);
+    }
+    commit::put_commit(list, k1, img, g, &numbers, 1)
+}
+
+// A write that has its extent: refusal 14, or the list. A write of 0 bytes has an empty one.
+fn put_if_room(
+    list: &mut [u8],
+    img: &[u8],
+    g: Geometry,
+    i: FileIndex,
+    w: Growth,
+    offset: u64,
+    bytes: &[u8],
+    z: u64,
+    time: u32,
+) -> Changed
+    requires { ⌜ judged (length (now img)) (view (now img)) .number ≡ 0 ⌝ }
+    requires { ⌜ Opened (now img) g ⌝ }
+    requires { ⌜ Grown (catalogueOf (view (now img))) (i .0) z w × (w .next .0 < g .extents) ⌝ }
+    requires { ⌜ (i .0 < g .files) × (length (now bytes) ≤ longestTransfer) × (offset + length (now bytes) < 2 ^ 63) ⌝ }
+    requires { ⌜ z ≡ sizeAfter (catalogueOf (view (now img))) (i .0) offset (length (now bytes)) ⌝ }
+    ensures { λ r. ⌜ r ≡ answerOf (view (now (img .entry))) (roomDecision (length (now (img .entry))) (view (now (img .entry))) (i .0) offset (now (bytes .entry)) time (length (now (list .entry)))) ⌝ }
+    ensures { λ _. ⌜ now (list .exit) ≡ listAfter (view (now (img .entry))) (roomDecision (length (now (img .entry))) (view (now (img .entry))) (i .0) offset (now (bytes .entry)) time (length (now (list .entry)))) (now (list .entry)) ⌝ }
+{
+    if bytes.len() == 0 {
+        return commit::refused(volume::refusal(0));
+    }
+    if list.len() < records(w.more, offset, bytes.len() as u64) * 520 {
+        return commit::refused(volume::refusal(14));
+    }
+    let n = put_write(list, img, g, i, w, offset, bytes, z, time);
+    let verdict = volume::refusal(0);
+    Changed {
+        verdict,
+        length: n as u64 * 520,
+    }
+}
+
+// A write to file i, whose size is given: refusals 12 to 14, or the list.
+fn write_file(
+    img: &[u8],
+    g: Geometry,
+    i: FileIndex,
+    size: u64,
+    offset: u64,
+    bytes: &[u8],
+    time: u32,
+    list: &mut [u8],
+) -> Changed
+    requires { ⌜ Asked (now img) g (i .0) size (length (now bytes)) ⌝ }
+    ensures { λ r. ⌜ r ≡ answerOf (view (now (img .entry))) (fileDecision (length (now (img .entry))) (view (now (img .entry))) (i .0) offset (now (bytes .entry)) time (length (now (list .entry)))) ⌝ }
+    ensures { λ _. ⌜ now (list .exit) ≡ listAfter (view (now (img .entry))) (fileDecision (length (now (img .entry))) (view (now (img .entry))) (i .0) offset (now (bytes .entry)) time (length (now (list .entry)))) (now (list .entry)) ⌝ }
+{
+    if size < offset {
+        return commit::refused(volume::refusal(12));
+    }
+    let z = most(size, offset + bytes.len() as u64);
+    let w = need_for(img, g, i, size, z);
+    if w.more {
+        if w.found {
+            return put_if_room(list, img, g, i, w, offset, bytes, z, time);
+        }
+        return commit::refused(volume::refusal(13));
+    }
+    put_if_room(list, img, g, i, w, offset, bytes, z, time)
+}
+
+// ---- write
+
+pub fn write_in(
+    img: &[u8],
+    name: &[u8],
+    offset: u64,
+    bytes: &[u8],
+    time: u32,
+    list: &mut [u8],
+) -> Changed
+    requires { ⌜ judged (length (now img)) (view (now img)) .number ≡ 0 ⌝ }
+    ensures { λ r. ⌜ r ≡ writeAnswer (length (now (img .entry))) (view (now (img .entry))) (now (name .entry)) offset (now (bytes .entry)) time (length (now (list .entry))) ⌝ }
+    ensures { λ _. ⌜ now (list .exit) ≡ writeList (length (now (img .entry))) (view (now (img .entry))) (now (name .entry)) offset (now (bytes .entry)) time (now (list .entry)) ⌝ }
+{
+    if directory::bad_name(name) {
+        return commit::refused(volume::refusal(8));
+    }
+    if 65536 < bytes.len() {
+        return commit::refused(volume::refusal(8));
+    }
+    let g = volume::geometry_in(img);
+    if let Place::At(i) = directory::file_named(img, g, name) {
+        let index = FileIndex(i as u64);
+        let size = fields::number(img, index.sector(), 2, 8);
+        return write_file(img, g, index, size, offset, bytes, time, list);
+    }
+    commit::refused(volume::refusal(9))
+}
+
+// ---- resize
+
+// File i is shrunk to z: refusal 14, or the list.
+fn shrink_file(img: &[u8], g: Geometry, i: FileIndex, z: u64, time: u32, list: &mut [u8]) -> Changed
+    requires { ⌜ judged (length (now img)) (view (now img)) .number ≡ 0 ⌝ }
+    requires { ⌜ Opened (now img) g ⌝ }
+    requires { ⌜ i .0 < g .files ⌝ }
+    ensures { λ r. ⌜ r ≡ answerOf (view (now (img .entry))) (shrinkDecision (length (now (img .entry))) (view (now (img .entry))) (i .0) z time (length (now (list .entry)))) ⌝ }
+    ensures { λ _. ⌜ now (list .exit) ≡ listAfter (view (now (img .entry))) (shrinkDecision (length (now (img .entry))) (view (now (img .entry))) (i .0) z time (length (now (list .entry)))) (now (list .entry)) ⌝ }
+{
+    if list.len() < delete::shrink_count(img, g, i, z) * 520 {
+        return commit::refused(volume::refusal(14));
+    }
+    let n = delete::shrink(img, g, i, z, time, list);
+    let verdict = volume::refusal(0);
+    Changed {
+        verdict,
+        length: n as u64 * 520,
+    }
+}
+
+// A write of n zeros at the end of file i, whose size is given.
+fn write_zeros(
+    img: &[u8],
+    g: Geometry,
+    i: FileIndex,
+    size: u64,
+    n: u64,
+    time: u32,
+    list: &mut [u8],
+) -> Changed
+    requires { ⌜ Asked (now img) g (i .0) size n ⌝ }
+    ensures { λ r. ⌜ r ≡ answerOf (view (now (img .entry))) (fileDecision (length (now (img .entry))) (view (now (img .entry))) (i .0) size (zeros n) time (length (now (list .entry)))) ⌝ }
+    ensures { λ _. ⌜ now (list .exit) ≡ listAfter (view (now (img .entry))) (fileDecision (length (now (img .entry))) (view (now (img .entry))) (i .0) size (zeros n) time (length (now (list .entry)))) (now (list .entry)) ⌝ }
+{
+    let zeros = [0u8; 65536];
+    write_file(img, g, i, size, size, &zeros[..n as usize], time, list)
+}
+
+// A resize of file i, whose size is given, to z: refusals 8, 13 and 14, or the list.
+fn resize_file(
+    img: &[u8],
+    g: Geometry,
+    i: FileIndex,
+    size: u64,
+    z: u64,
+    time: u32,
+    list: &mut [u8],
+) -> Changed
+    requires { ⌜ Asked (now img) g (i .0) size 0 ⌝ }
+    ensures { λ r. ⌜ r ≡ answerOf (view (now (img .entry))) (sizeDecision (length (now (img .entry))) (view (now (img .entry))) (i .0) z time (length (now (list .entry)))) ⌝ }
+    ensures { λ _. ⌜ now (list .exit) ≡ listAfter (view (now (img .entry))) (sizeDecision (length (now (img .entry))) (view (now (img .entry))) (i .0) z time (length (now (list .entry)))) (now (list .entry)) ⌝ }
+{
+    if z < size {
+        return shrink_file(img, g, i, z, time, list);
+    }
+    if 65536 < z - size {
+        return commit::refused(volume::refusal(8));
+    }
+    write_zeros(img, g, i, size, z - size, time, list)
+}
+
+pub fn resize_in(img: &[u8], name: &[u8], size: u64, time: u32, list: &mut [u8]) -> Changed
+    requires { ⌜ judged (length (now img)) (view (now img)) .number ≡ 0 ⌝ }
+    ensures { λ r. ⌜ r ≡ resizeAnswer (length (now (img .entry))) (view (now (img .entry))) (now (name .entry)) size time (length (now (list .entry))) ⌝ }
+    ensures { λ _. ⌜ now (list .exit) ≡ resizeList (length (now (img .entry))) (view (now (img .entry))) (now (name .entry)) size time (now (list .entry)) ⌝ }
+{
+    if directory::bad_name(name) {
+        return commit::refused(volume::refusal(8));
+    }
+    let g = volume::geometry_in(img);
+    if let Place::At(i) = directory::file_named(img, g, name) {
+        let index = FileIndex(i as u64);
+        let old = fields::number(img, index.sector(), 2, 8);
+        return resize_file(img, g, index, old, size, time, list);
+    }
+    commit::refused(volume::refusal(9))
+}

@@ -1,0 +1,205 @@
+//! Changes of a volume and the write lists that they come to: what is to be done is a `Change`, how
+//! it is done a `List` of sector writes and barriers.
+
+use crate::device::SECTOR;
+use crate::error::Refusal;
+use crate::image::Image;
+
+/// Bytes of a list's record: the sector number, then the contents.
+pub const RECORD: usize = 8 + SECTOR;
+const BARRIER: [u8; 8] = [255; 8];
+
+/// The longest list of each call, in records.
+const CREATE_RECORDS: usize = 11;
+const DELETE_RECORDS: usize = 1_051;
+#[cfg(feature = "changes")]
+const RESIZE_RECORDS: usize = 1_049;
+#[cfg(feature = "changes")]
+const WRITE_RECORDS: usize = 140;
+const RECOVERY_RECORDS: usize = 1_027;
+
+/// One change. It goes through whole or not at all, but for bytes that a write puts in the place of
+/// old ones: after a cut each such sector is the old or the new one.
+#[derive(Clone, Copy, Debug, PartialEq, Eq)]
+pub enum Change<'c> {
+    /// A new, empty file.
+    Create {
+        name: &'c [u8],
+        id: u64,
+        mode: u32,
+        time: u32,
+    },
+    Delete {
+        name: &'c [u8],
+        time: u32,
+    },
+    /// Another size; what is added, at most 65,536 bytes, is zero.
+    #[cfg(feature = "changes")]
+    Resize {
+        name: &'c [u8],
+        size: u64,
+        time: u32,
+    },
+    /// At most 65,536 bytes at an offset up to the size.
+    #[cfg(feature = "changes")]
+    Write {
+        name: &'c [u8],
+        offset: u64,
+        data: &'c [u8],
+        time: u32,
+    },
+}
+
+/// A write list.
+#[derive(Clone, Debug, PartialEq, Eq)]
+pub struct List {
+    bytes: Vec<u8>,
+}
+
+/// One step of a list.
+#[derive(Clone, Copy, Debug, PartialEq, Eq)]
+pub enum Step<'l> {
+    Write(Write<'l>),
+    /// Nothing behind it may reach the medium before all that stands before it has.
+    Barrier,
+}
+
+#[derive(Clone, Copy, Debug, PartialEq, Eq)]
+pub struct Write<'l> {
+    pub sector: u64,
+    pub contents: &'l [u8; SECTOR],
+}
+
+/// A record as a step.
+pub(crate) fn step(record: &[u8]) -> Step<'_> {
+    let (number, contents) = record.split_at(8);
+    let number: [u8; 8] = number.try_into().expect("a record starts with eight bytes");
+    if number == BARRIER {
+        return Step::Barrier;
+    }
+    Step::Write(Write {
+        sector: u64::from_be_bytes(number),
+        contents: contents.try_into().expect("a record holds a sector"),
+    })
+}
+
+impl List {
+    pub fn bytes(&self) -> &[u8] {
+        &self.bytes
+    }
+
+    pub fn is_empty(&self) -> bool {
+        self.bytes.is_empty()
+    }
+
+    pub fn steps(&self) -> impl Iterator<Item = Step<'_>> {
+        self.bytes.chunks_exact(RECORD).map(step)
+    }
+
+    /// The writes between the barriers.
+    pub fn groups(&self) -> Vec<Vec<Write<'_>>> {
+        let mut groups = Vec::new();
+        let mut open = Vec::new();
+        for step in self.steps() {
+            match step {
+                Step::Write(write) => open.push(write),
+                Step::Barrier => groups.push(std::mem::take(&mut open)),
+            }
+        }
+        groups
+    }
+}
+
+impl Image {
+    /// The list that does this change; empty if there is nothing to do.
+    pub fn list_of(&self, change: &Change) -> Result<List, Refusal> {
+        let records = match change {
+            Change::Create { .. } => CREATE_RECORDS,
+            Change::Delete { .. } => DELETE_RECORDS,
+            #[cfg(feature = "changes")]
+            Change::Resize { .. } => RESIZE_RECORDS,
+            #[cfg(feature = "changes")]
+            Change::Write { .. } => WRITE_RECORDS,
+        };
+        let mut bytes = vec![0; records * RECORD];
+        let (image, list) = (&self.bytes, &mut bytes[..]);
+        let answer = match *change {
+            Change::Create {
+                name,
+                id,
+                mode,
+                time,
+            } => crate::create(image, name, id, mode, time, list),
+            Change::Delete { name, time } => crate::delete(image, name, time, list),
+            #[cfg(feature = "changes")]
+            Change::Resize { name, size, time } => crate::resize(image, name, size, time, list),
+            #[cfg(feature = "changes")]
+            Change::Write {
+                name,
+                offset,
+                data,
+                time,
+            } => crate::write(image, name, offset, data, time, list),
+        };
+        Refusal::judge(answer.code, answer.fault, answer.place)?;
+        bytes.truncate(answer.length as usize);
+        Ok(List { bytes })
+    }
+
+    /// The list that finishes a change that was cut; empty if none was.
+    pub fn recovery(&self) -> Result<List, Refusal> {
+        let mut bytes = vec![0; RECOVERY_RECORDS * RECORD];
+        let answer = crate::recover(&self.bytes, &mut bytes);
+        Refusal::judge(answer.code, 0, 0)?;
+        bytes.truncate(answer.length as usize);
+        Ok(List { bytes })
+    }
+
+    /// Does the writes of a list on the image.
+    pub fn carry_out(&mut self, list: &List) -> Result<(), Refusal> {
+        Refusal::judge(crate::carry_out(&mut self.bytes, &list.bytes), 0, 0)
+    }
+
+    /// Puts one sector in its place, as a power cut may leave it, and gives the one that was there.
+    pub fn land(&mut self, write: Write) -> Option<[u8; SECTOR]> {
+        let at = usize::try_from(write.sector).ok()?.checked_mul(SECTOR)?;
+        let place: &mut [u8; SECTOR] = self
+            .bytes
+            .get_mut(at..at.checked_add(SECTOR)?)?
+            .try_into()
+            .ok()?;
+        Some(std::mem::replace(place, *write.contents))
+    }
+}
+
+/// The arguments of a format.
+#[derive(Clone, Copy, Debug, PartialEq, Eq)]
+pub struct Format {
+    pub sectors: u64,
+    pub files: u64,
+    /// The root's id, mode and time.
+    pub id: u64,
+    pub mode: u32,
+    pub time: u32,
+}
+
+impl Format {
+    /// The record at this position; none past the last.
+    pub fn record(&self, position: u64) -> Result<Option<[u8; RECORD]>, Refusal> {
+        let mut record = [0; RECORD];
+        let answer = crate::format_record(
+            self.sectors,
+            self.files,
+            self.id,
+            self.mode,
+            self.time,
+            position,
+            &mut record,
+        );
+        match Refusal::judge(answer.code, 0, 0) {
+            Err(Refusal::NotThere) => Ok(None),
+            Err(refusal) => Err(refusal),
+            Ok(()) => Ok(Some(record)),
+        }
+    }
+}

@@ -1,0 +1,257 @@
+//! A volume's image in memory: the reading calls with Rust's types. An `Image` always has a valid
+//! geometry; whether it is clean and sound, each call finds out.
+
+use crate::device::{Device, SECTOR};
+use crate::error::{Error, Refusal};
+
+/// The longest image that is taken into memory, in bytes.
+pub const LARGEST: u64 = 4 << 30;
+/// The longest name.
+pub const LONGEST_NAME: usize = 476;
+/// The most bytes that one read or write moves.
+pub const LONGEST_TRANSFER: usize = 65_536;
+
+const JOURNAL_SECTORS: u64 = 32;
+const ENTRIES_IN_TABLE_SECTOR: u64 = 128;
+const NO_FILE: [u8; 2] = [255, 255];
+const FREE: [u8; 2] = [0, 0];
+
+#[derive(Clone, Debug, PartialEq, Eq)]
+pub struct Image {
+    pub(crate) bytes: Vec<u8>,
+}
+
+#[derive(Clone, Copy, Debug, PartialEq, Eq)]
+pub enum State {
+    Clean,
+    /// A change was cut; so many sectors are still to be put in their places.
+    Waiting(u64),
+    Damaged,
+    Unfinished,
+}
+
+/// The geometry and the state, and what follows from them.
+#[derive(Clone, Copy, Debug, PartialEq, Eq)]
+pub struct Summary {
+    pub files: u64,
+    pub extents: u64,
+    pub extent_sectors: u64,
+    pub state: State,
+}
+
+impl Summary {
+    pub fn extent_bytes(&self) -> u64 {
+        self.extent_sectors * SECTOR as u64
+    }
+
+    pub fn table_sectors(&self) -> u64 {
+        self.extents.div_ceil(ENTRIES_IN_TABLE_SECTOR)
+    }
+
+    pub fn journal_at(&self) -> u64 {
+        2 + self.files
+    }
+
+    pub fn table_at(&self) -> u64 {
+        self.journal_at() + JOURNAL_SECTORS
+    }
+
+    pub fn data_at(&self) -> u64 {
+        self.table_at() + self.table_sectors()
+    }
+
+    /// The extents at the end that hold the copies of a change and never belong to a file.
+    pub fn reserve_extents(&self) -> u64 {
+        (self.table_sectors() + 2).div_ceil(self.extent_sectors)
+    }
+
+    pub fn usable_extents(&self) -> u64 {
+        self.extents.saturating_sub(self.reserve_extents())
+    }
+
+    pub fn reserve_at(&self) -> u64 {
+        self.data_at() + self.usable_extents() * self.extent_sectors
+    }
+
+    /// The volume's sectors; a medium may have more.
+    pub fn sectors(&self) -> u64 {
+        self.data_at() + self.extents * self.extent_sectors
+    }
+}
+
+/// The root record.
+#[derive(Clone, Copy, Debug, PartialEq, Eq)]
+pub struct Root {
+    pub version: u32,
+    pub id: u64,
+    pub mode: u32,
+    pub access_time: u32,
+    pub change_time: u32,
+}
+
+/// A file's directory entry.
+#[derive(Clone, Debug, PartialEq, Eq)]
+pub struct Entry {
+    pub index: u64,
+    pub name: Vec<u8>,
+    pub size: u64,
+    pub version: u32,
+    pub id: u64,
+    pub mode: u32,
+    pub access_time: u32,
+    pub change_time: u32,
+}
+
+fn number(bytes: &[u8]) -> u64 {
+    bytes
+        .iter()
+        .fold(0, |sum, byte| sum << 8 | u64::from(*byte))
+}
+
+/// How many sectors the superblock says the volume has. Only a measure of what to read: the volume
+/// code judges what was read.
+fn claimed_sectors(superblock: &[u8]) -> u64 {
+    Summary {
+        files: number(&superblock[0..2]),
+        extents: number(&superblock[2..4]),
+        extent_sectors: number(&superblock[4..8]),
+        state: State::Clean,
+    }
+    .sectors()
+}
+
+impl Image {
+    /// An image of these bytes; refused with 1 to 3.
+    pub fn new(bytes: Vec<u8>) -> Result<Image, Refusal> {
+        Refusal::judge(crate::summary(&bytes).code, 0, 0)?;
+        Ok(Image { bytes })
+    }
+
+    /// Reads the volume, and no more than it, from a device.
+    pub fn load(device: &dyn Device) -> Result<Image, Error> {
+        let length = device.length();
+        if length == 0 || !length.is_multiple_of(SECTOR as u64) {
+            return Err(Refusal::NotWholeSectors.into());
+        }
+        let mut bytes = vec![0; SECTOR];
+        device.read(0, &mut bytes).map_err(Error::Unreadable)?;
+        // A first sector that is no volume's, or whose volume is longer than the device, is refused
+        // for what it is; nothing else needs to be read for that.
+        let claimed = claimed_sectors(&bytes).saturating_mul(SECTOR as u64);
+        if crate::summary(&bytes).code != Refusal::NotAVolume.number() && claimed <= length {
+            if claimed > LARGEST {
+                return Err(Error::TooLarge { bytes: claimed });
+            }
+            bytes.resize(claimed as usize, 0);
+            device.read(0, &mut bytes).map_err(Error::Unreadable)?;
+        }
+        Ok(Image::new(bytes)?)
+    }
+
+    pub fn bytes(&self) -> &[u8] {
+        &self.bytes
+    }
+
+    pub fn summary(&self) -> Summary {
+        let answer = crate::summary(&self.bytes);
+        Summary {
+            files: answer.files,
+            extents: answer.extents,
+            extent_sectors: answer.extent_sectors,
+            state: match answer.state {
+                0 => State::Clean,
+                1 => State::Waiting(answer.entries),
+                2 => State::Damaged,
+                _ => State::Unfinished,
+            },
+        }
+    }
+
+    /// Whether the volume is clean and sound.
+    pub fn check(&self) -> Result<(), Refusal> {
+        let answer = crate::check(&self.bytes);
+        Refusal::judge(answer.code, answer.fault, answer.place)
+    }
+
+    /// What the root record says.
+    pub fn root(&self) -> Root {
+        let root = &self.bytes[SECTOR..2 * SECTOR];
+        Root {
+            version: number(&root[0..4]) as u32,
+            id: number(&root[4..12]),
+            mode: number(&root[12..16]) as u32,
+            access_time: number(&root[16..20]) as u32,
+            change_time: number(&root[20..24]) as u32,
+        }
+    }
+
+    /// How many extents the allocation table gives to files.
+    pub fn used_extents(&self) -> u64 {
+        let summary = self.summary();
+        let table = &self.bytes[summary.table_at() as usize * SECTOR..];
+        table
+            .chunks_exact(4)
+            .take(summary.extents as usize)
+            .filter(|entry| entry[..2] != NO_FILE)
+            .count() as u64
+    }
+
+    pub fn find(&self, name: &[u8]) -> Result<Entry, Refusal> {
+        let answer = crate::find(&self.bytes, name);
+        Refusal::judge(answer.code, answer.fault, answer.place)?;
+        Ok(Entry {
+            index: answer.index,
+            name: name.to_vec(),
+            size: answer.size,
+            version: answer.version as u32,
+            id: answer.id,
+            mode: answer.mode as u32,
+            access_time: answer.access_time as u32,
+            change_time: answer.change_time as u32,
+        })
+    }
+
+    /// All files, in the directory's order.
+    pub fn entries(&self) -> Result<Vec<Entry>, Refusal> {
+        self.check()?;
+        let mut entries = Vec::new();
+        let mut name = [0; LONGEST_NAME];
+        for index in 0..self.summary().files {
+            // In a sound volume the mark 0 says that the entry is free. Each call judges the volume
+            // anew, so asking for free entries too would take most of the time.
+            let at = (2 + index as usize) * SECTOR;
+            if self.bytes[at..at + 2] == FREE {
+                continue;
+            }
+            let answer = crate::list(&self.bytes, index, &mut name);
+            Refusal::judge(answer.code, answer.fault, answer.place)?;
+            entries.push(Entry {
+                index,
+                name: name[..answer.name_length as usize].to_vec(),
+                size: answer.size,
+                version: answer.version as u32,
+                id: answer.id,
+                mode: answer.mode as u32,
+                access_time: answer.access_time as u32,
+                change_time: answer.change_time as u32,
+            });
+        }
+        Ok(entries)
+    }
+
+    /// Fills the start of the output with bytes of the file, and says how many.
+    pub fn read(&self, name: &[u8], offset: u64, output: &mut [u8]) -> Result<usize, Refusal> {
+        let answer = crate::read(&self.bytes, name, offset, output.len() as u64, output);
+        Refusal::judge(answer.code, answer.fault, answer.place)?;
+        Ok(answer.count as usize)
+    }
+
+    /// The whole file.
+    pub fn contents(&self, name: &[u8]) -> Result<Vec<u8>, Refusal> {
+        let mut contents = vec![0; self.find(name)?.size as usize];
+        for (i, part) in contents.chunks_mut(LONGEST_TRANSFER).enumerate() {
+            self.read(name, (i * LONGEST_TRANSFER) as u64, part)?;
+        }
+        Ok(contents)
+    }
+}

@@ -37,6 +37,7 @@ pub mod Write
 pub mod Resize
 pub mod Theorem
 pub mod Order
+pub mod GroupOrder
 pub mod Bridge
 pub mod CallLists
 pub mod Naming

@@ -111,7 +111,8 @@ module _ (L : Ledger) (img : List ℕ) (rep : Rep L img) (i : ℕ) (f : File) (o
       → (dataAt (L .geometry) ≤ placeOf (catalogue L) i s) × (placeOf (catalogue L) i s < reserveAt (L .geometry))
   place-usable s h = rw (place-is s) (extent-sector (L .geometry) (rep .bounded) (ext (s / S)) (s % S) (ext-usable (s / S) h) (rest-lt (L .geometry) (rep .bounded) s))
 
-  place-apart : (s t : ℕ) → Held (s / S) → Held (t / S) → placeOf (catalogue L) i s ≡ placeOf (catalogue L) i t → s ≡ t
+  pub place-apart : (s t : ℕ) → s / extentSectors (L .geometry) < extentsFor (L .geometry) (sizeWritten L i offset bytes)
+      → t / extentSectors (L .geometry) < extentsFor (L .geometry) (sizeWritten L i offset bytes) → placeOf (catalogue L) i s ≡ placeOf (catalogue L) i t → s ≡ t
   place-apart s t h k e =
       let q = same-extent (L .geometry) (rep .bounded) (ext (s / S)) (ext (t / S)) s t (sym (place-is s) ∙ e ∙ place-is t) in
       same-sector (L .geometry) (rep .bounded) s t (ext-apart (s / S) (t / S) h k (q .0)) (q .1)
@@ -177,6 +178,13 @@ module _ (L : Ledger) (img : List ℕ) (rep : Rep L img) (i : ℕ) (f : File) (o
   touched-held : (j : ℕ) → j < t → Held ((offset / 512 + j) / S)
   touched-held j l = sector-held (L .geometry) (rep .bounded) z (offset / 512 + j) (omega arith)
 
+  -- no two of them are for one sector
+  pub touched-apart : (j k : ℕ) → j < touchedSectors offset (length bytes) → k < touchedSectors offset (length bytes)
+      → placeOf (catalogue L) i (offset / 512 + j) ≡ placeOf (catalogue L) i (offset / 512 + k) → j ≡ k
+  touched-apart j k l m e =
+      let d : offset / 512 + j ≡ offset / 512 + k = place-apart (offset / 512 + j) (offset / 512 + k) (touched-held j l) (touched-held k m) e in
+      omega arith
+
   pub writes-usable : All (UsableSector (L .geometry)) (writes L img i offset bytes)
   unfolding dataSector
   writes-usable = all-tab (UsableSector (L .geometry)) (dataSector (catalogue L) i (view img) offset bytes) (offset / 512) t (λ k l. place-usable (offset / 512 + k) (touched-held k l))
@@ -203,8 +211,7 @@ module _ (L : Ledger) (img : List ℕ) (rep : Rep L img) (i : ℕ) (f : File) (o
   at-touched k m s v p q =
       let e : offset / 512 + (s - offset / 512) ≡ s = omega arith in
       subst (λ (u : ℕ). over (partOf k m ds) (placeOf (catalogue L) i u) v ≡ cond (dataBy k m (s - offset / 512)) (spliced offset bytes u (view img (placeOf (catalogue L) i u))) v) e
-      (part-tab k m (dataSector (catalogue L) i (view img) offset bytes) (offset / 512) t (s - offset / 512) v
-      (λ j l u y r. let d : offset / 512 + j ≡ offset / 512 + l = place-apart (offset / 512 + j) (offset / 512 + l) (touched-held j u) (touched-held l y) r in omega arith) q)
+      (part-tab k m (dataSector (catalogue L) i (view img) offset bytes) (offset / 512) t (s - offset / 512) v touched-apart q)
 
   at-missed : (k : ℕ) (m : List Bool) (s : ℕ) (v : List ℕ) → Held (s / S) → (offset / 512 ≤ s → s - offset / 512 < t → ⊥) → over (partOf k m ds) (placeOf (catalogue L) i s) v ≡ v
   unfolding dataSector

@@ -12,9 +12,7 @@ const BARRIER: [u8; 8] = [255; 8];
 /// The longest list of each call, in records.
 const CREATE_RECORDS: usize = 11;
 const DELETE_RECORDS: usize = 1_051;
-#[cfg(feature = "changes")]
 const RESIZE_RECORDS: usize = 1_049;
-#[cfg(feature = "changes")]
 const WRITE_RECORDS: usize = 140;
 const RECOVERY_RECORDS: usize = 1_027;
 
@@ -34,14 +32,12 @@ pub enum Change<'c> {
         time: u32,
     },
     /// Another size; what is added, at most 65,536 bytes, is zero.
-    #[cfg(feature = "changes")]
     Resize {
         name: &'c [u8],
         size: u64,
         time: u32,
     },
     /// At most 65,536 bytes at an offset up to the size.
-    #[cfg(feature = "changes")]
     Write {
         name: &'c [u8],
         offset: u64,
@@ -116,9 +112,7 @@ impl Image {
         let records = match change {
             Change::Create { .. } => CREATE_RECORDS,
             Change::Delete { .. } => DELETE_RECORDS,
-            #[cfg(feature = "changes")]
             Change::Resize { .. } => RESIZE_RECORDS,
-            #[cfg(feature = "changes")]
             Change::Write { .. } => WRITE_RECORDS,
         };
         let mut bytes = vec![0; records * RECORD];
@@ -131,9 +125,7 @@ impl Image {
                 time,
             } => crate::create(image, name, id, mode, time, list),
             Change::Delete { name, time } => crate::delete(image, name, time, list),
-            #[cfg(feature = "changes")]
             Change::Resize { name, size, time } => crate::resize(image, name, size, time, list),
-            #[cfg(feature = "changes")]
             Change::Write {
                 name,
                 offset,

@@ -91,6 +91,28 @@ extern "C" {
         list: *mut u8,
         list_length: usize,
     ) -> ChangeAnswer;
+    fn goofs_resize(
+        image: *const u8,
+        image_length: usize,
+        name: *const u8,
+        name_length: usize,
+        size: u64,
+        time: u32,
+        list: *mut u8,
+        list_length: usize,
+    ) -> ChangeAnswer;
+    fn goofs_write(
+        image: *const u8,
+        image_length: usize,
+        name: *const u8,
+        name_length: usize,
+        offset: u64,
+        data: *const u8,
+        data_length: usize,
+        time: u32,
+        list: *mut u8,
+        list_length: usize,
+    ) -> ChangeAnswer;
     fn goofs_recover(
         image: *const u8,
         image_length: usize,
@@ -198,6 +220,47 @@ pub fn delete(image: &[u8], name: &[u8], time: u32, list: &mut [u8]) -> ChangeAn
     }
 }
 
+/// Gives the file another size; what is added at its end is zero.
+pub fn resize(image: &[u8], name: &[u8], size: u64, time: u32, list: &mut [u8]) -> ChangeAnswer {
+    unsafe {
+        goofs_resize(
+            image.as_ptr(),
+            image.len(),
+            name.as_ptr(),
+            name.len(),
+            size,
+            time,
+            list.as_mut_ptr(),
+            list.len(),
+        )
+    }
+}
+
+/// Writes the data at an offset up to the size.
+pub fn write(
+    image: &[u8],
+    name: &[u8],
+    offset: u64,
+    data: &[u8],
+    time: u32,
+    list: &mut [u8],
+) -> ChangeAnswer {
+    unsafe {
+        goofs_write(
+            image.as_ptr(),
+            image.len(),
+            name.as_ptr(),
+            name.len(),
+            offset,
+            data.as_ptr(),
+            data.len(),
+            time,
+            list.as_mut_ptr(),
+            list.len(),
+        )
+    }
+}
+
 /// The list that finishes an interrupted change; empty for a clean volume.
 pub fn recover(image: &[u8], list: &mut [u8]) -> RecoverAnswer {
     unsafe { goofs_recover(image.as_ptr(), image.len(), list.as_mut_ptr(), list.len()) }
@@ -232,85 +295,6 @@ pub fn carry_out(image: &mut [u8], list: &[u8]) -> u64 {
     unsafe { goofs_carry_out(image.as_mut_ptr(), image.len(), list.as_ptr(), list.len()) }
 }
 
-/// Resize and write.
-#[cfg(feature = "changes")]
-pub mod writes {
-    use super::ChangeAnswer;
-
-    extern "C" {
-        fn goofs_resize(
-            image: *const u8,
-            image_length: usize,
-            name: *const u8,
-            name_length: usize,
-            size: u64,
-            time: u32,
-            list: *mut u8,
-            list_length: usize,
-        ) -> ChangeAnswer;
-        fn goofs_write(
-            image: *const u8,
-            image_length: usize,
-            name: *const u8,
-            name_length: usize,
-            offset: u64,
-            data: *const u8,
-            data_length: usize,
-            time: u32,
-            list: *mut u8,
-            list_length: usize,
-        ) -> ChangeAnswer;
-
-    }
-
-    /// Gives the file another size; what is added at its end is zero.
-    pub fn resize(
-        image: &[u8],
-        name: &[u8],
-        size: u64,
-        time: u32,
-        list: &mut [u8],
-    ) -> ChangeAnswer {
-        unsafe {
-            goofs_resize(
-                image.as_ptr(),
-                image.len(),
-                name.as_ptr(),
-                name.len(),
-                size,
-                time,
-                list.as_mut_ptr(),
-                list.len(),
-            )
-        }
-    }
-
-    /// Writes the data at an offset up to the size.
-    pub fn write(
-        image: &[u8],
-        name: &[u8],
-        offset: u64,
-        data: &[u8],
-        time: u32,
-        list: &mut [u8],
-    ) -> ChangeAnswer {
-        unsafe {
-            goofs_write(
-                image.as_ptr(),
-                image.len(),
-                name.as_ptr(),
-                name.len(),
-                offset,
-                data.as_ptr(),
-                data.len(),
-                time,
-                list.as_mut_ptr(),
-                list.len(),
-            )
-        }
-    }
-}
-
 #[cfg(test)]
 mod tests {
     use super::*;
@@ -335,6 +319,14 @@ mod tests {
             );
             assert_eq!(
                 goofs_delete(null(), 0, null(), 0, 0, null_mut(), 0).code,
+                one
+            );
+            assert_eq!(
+                goofs_resize(null(), 0, null(), 0, 1, 0, null_mut(), 0).code,
+                one
+            );
+            assert_eq!(
+                goofs_write(null(), 0, null(), 0, 0, null(), 0, 0, null_mut(), 0).code,
                 one
             );
             assert_eq!(goofs_recover(null(), 0, null_mut(), 0).code, one);

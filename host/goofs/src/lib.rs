@@ -21,12 +21,10 @@ pub mod image;
 pub mod volume;
 
 pub use ffi::{
-    carry_out, check, create, delete, find, format_record, list, read, recover, summary,
+    carry_out, check, create, delete, find, format_record, list, read, recover, resize, summary,
+    write,
 };
 pub use ffi::{
     ChangeAnswer, CheckAnswer, FindAnswer, FormatRecordAnswer, ListAnswer, ReadAnswer,
     RecoverAnswer, SummaryAnswer,
 };
-
-#[cfg(feature = "changes")]
-pub use ffi::writes::{resize, write};

@@ -262,7 +262,6 @@ mod tests {
     }
 
     /// The image in memory stays what the device holds, and a refused batch writes nothing.
-    #[cfg(feature = "changes")]
     #[test]
     fn image_and_device_in_step() {
         let mut volume = Volume::open(formatted()).unwrap();

@@ -114,19 +114,16 @@ fn ask_change(request: &Request, image: &[u8], buffer: &mut [u8]) -> Answer {
             time,
         } => of_change(goofs::create(image, name, *id, *mode, *time, buffer)),
         Request::Delete { name, time } => of_change(goofs::delete(image, name, *time, buffer)),
-        #[cfg(feature = "changes")]
         Request::Resize { name, size, time } => {
             of_change(goofs::resize(image, name, *size, *time, buffer))
         }
-        #[cfg(feature = "changes")]
         Request::Write {
             name,
             offset,
             data,
             time,
         } => of_change(goofs::write(image, name, *offset, data, *time, buffer)),
-        // Without them the oracle stands in, so that runs reach everything else.
-        _ => return request.ask(image, buffer),
+        _ => unreachable!("the other calls change nothing"),
     };
     Answer::Change(answer)
 }

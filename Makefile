@@ -1,11 +1,10 @@
-# make demo   the small program on the sample volume's superblock
+# make demo   a card formatted, a calibration set saved, the power cut at each point of a save, and what the box would load
 # make test   proves every crate from nothing, tries the must-fail edits, runs the programs and the tests of the host side
 # make bench  each call beside plain Rust in one run
 .PHONY: demo test bench
 
 demo:
-	@tests/build superblock
-	@target/bin/superblock < crates/superblock/stdin
+	@tests/demo
 
 test:
 	@tests/run

@@ -144,7 +144,6 @@ fn changing(table: &mut Table) {
         |list| goofs::create(black_box(&almost_full), b"new", 77, 1, 2, list).length,
         |list| oracle::create(black_box(&almost_full), b"new", 77, 1, 2, list).length,
     );
-    #[cfg(feature = "changes")]
     writing(table, &sample, &almost_full);
     let length = oracle::write(&sample, b"empty", 0, &data, 2, &mut list).length as usize;
     table.compare_with(
@@ -189,7 +188,6 @@ fn changing(table: &mut Table) {
 }
 
 /// Write and resize.
-#[cfg(feature = "changes")]
 fn writing(table: &mut Table, sample: &[u8], almost_full: &[u8]) {
     let mut list = vec![0; 139 * RECORD];
     let data = vec![5; 65_536];

@@ -1,0 +1,46 @@
+//! Progress of long work: one line on the terminal that is written over, and nothing elsewhere.
+
+use std::io::{stderr, IsTerminal};
+use std::time::{Duration, Instant};
+
+pub struct Progress {
+    what: &'static str,
+    all: u64,
+    next: Instant,
+    terminal: bool,
+    written: bool,
+}
+
+/// Work that is done within this time shows nothing.
+const FIRST: Duration = Duration::from_millis(500);
+const EACH: Duration = Duration::from_millis(200);
+
+impl Progress {
+    pub fn new(what: &'static str, all: u64) -> Progress {
+        Progress {
+            what,
+            all,
+            next: Instant::now() + FIRST,
+            terminal: stderr().is_terminal(),
+            written: false,
+        }
+    }
+
+    pub fn at(&mut self, done: u64) {
+        let now = Instant::now();
+        if self.terminal && now >= self.next {
+            eprint!("\r{}: {done} of {}   ", self.what, self.all);
+            self.next = now + EACH;
+            self.written = true;
+        }
+    }
+}
+
+/// The line goes away when the work is over, also by an error.
+impl Drop for Progress {
+    fn drop(&mut self) {
+        if self.written {
+            eprint!("\r{:60}\r", "");
+        }
+    }
+}

@@ -1,0 +1,230 @@
+//! The commands that change a volume without writing to a file on it: format, rm, recover and trial;
+//! what they refuse, and a recovery after a cut that is made by hand.
+
+mod shared;
+
+use std::fs::{self, File};
+use std::path::Path;
+
+use goofs::change::Change;
+use goofs::image::Image;
+use shared::{bad, formatted, good, numbers_of_trial, on_failing_medium, Folder};
+
+/// Puts an empty file on the card with the library, as put does for an empty file.
+fn create(card: &Path, name: &[u8], id: u64) {
+    let mut image = Image::new(fs::read(card).unwrap()).unwrap();
+    let list = image.list_of(&new(name, id)).unwrap();
+    image.carry_out(&list).unwrap();
+    let mut bytes = fs::read(card).unwrap();
+    bytes[..image.bytes().len()].copy_from_slice(image.bytes());
+    fs::write(card, bytes).unwrap();
+}
+
+fn new(name: &[u8], id: u64) -> Change<'_> {
+    Change::Create {
+        name,
+        id,
+        mode: 0o644,
+        time: 5,
+    }
+}
+
+#[test]
+fn format_makes_an_empty_volume() {
+    let folder = Folder::new("format");
+    let card = formatted(&folder);
+    assert_eq!(fs::metadata(&card).unwrap().len(), 1_313 * 512);
+    assert_eq!(good("ls", &card, &[]), "");
+    assert_eq!(good("check", &card, &[]), "sound, 0 files\n");
+    let info = good("info", &card, &[]);
+    assert!(
+        info.contains("id 1, mode 755, version 0, changed 1000"),
+        "{info}"
+    );
+
+    let other = folder.file("other");
+    let options = [
+        "--sectors=3000",
+        "--files",
+        "300",
+        "--id",
+        "77",
+        "--mode",
+        "700",
+        "--time",
+        "9",
+    ];
+    good("format", &other, &options);
+    let info = good("info", &other, &[]);
+    assert!(info.contains("files at most    300"), "{info}");
+    assert!(
+        info.contains("id 77, mode 700, version 0, changed 9"),
+        "{info}"
+    );
+}
+
+#[test]
+fn format_takes_care_of_what_is_there() {
+    let folder = Folder::new("care");
+    let card = formatted(&folder);
+    let err = bad("format", &card, &["--sectors", "1313"], 1);
+    assert!(
+        err.contains("already holds a volume") && err.contains("--yes"),
+        "{err}"
+    );
+    for wrong in [
+        ["--sectors", "1056"],
+        ["--files", "254"],
+        ["--files", "1025"],
+    ] {
+        let said = bad("format", &card, &[wrong[0], wrong[1], "--yes"], 1);
+        assert!(said.contains("refused (8)"), "{said}");
+    }
+    let none = folder.file("none");
+    bad("format", &none, &["--sectors", "1056"], 1);
+    bad("format", &none, &[], 2);
+    assert!(!none.exists());
+    let other = folder.write("other", &[1; 1_313 * 512]);
+    assert!(bad("format", &other, &[], 1).contains("other data"));
+    good("format", &other, &["--yes"]);
+    // Zeros are nothing that could be lost.
+    let zeros = folder.write("zeros", &[0; 1_400 * 512]);
+    good("format", &zeros, &[]);
+    create(&card, b"f", 2);
+    assert_eq!(good("check", &card, &[]), "sound, 1 files\n");
+    good("format", &card, &["--yes"]);
+    assert_eq!(good("check", &card, &[]), "sound, 0 files\n");
+}
+
+#[test]
+fn files_are_removed() {
+    let folder = Folder::new("removed");
+    let card = formatted(&folder);
+    create(&card, b"f", 2);
+    create(&card, b"g", 3);
+    assert!(bad("rm", &card, &["h"], 1).contains("refused (9)"));
+    bad("rm", &card, &["f", "--time", "4294967296"], 2);
+    bad("rm", &card, &["f", "g"], 2);
+    good("rm", &card, &["f", "--time", "11"]);
+    let ls = good("ls", &card, &[]);
+    assert!(ls.ends_with("  g\n") && ls.lines().count() == 1, "{ls}");
+    assert!(good("info", &card, &[]).contains("changed 11"));
+
+    let holder = File::open(&card).unwrap();
+    holder.lock_shared().unwrap();
+    for (command, rest) in [("rm", &["g"][..]), ("recover", &[]), ("format", &["--yes"])] {
+        let err = bad(command, &card, rest, 1);
+        assert!(err.contains("another program has it open"), "{err}");
+    }
+}
+
+#[test]
+fn recovery_after_a_cut_by_hand() {
+    let folder = Folder::new("cut");
+    let card = formatted(&folder);
+    create(&card, b"f", 2);
+    let image = Image::new(fs::read(&card).unwrap()).unwrap();
+    let list = image.list_of(&new(b"g", 3)).unwrap();
+    let groups = list.groups();
+    // Before the start mark the change is not done; after it, it is.
+    for (whole, part, done) in [(0, 2, false), (1, 0, false), (2, 0, true), (2, 1, true)] {
+        let mut cut = image.clone();
+        for write in groups[..whole]
+            .iter()
+            .flatten()
+            .chain(&groups[whole][..part])
+        {
+            cut.land(*write).unwrap();
+        }
+        fs::write(&card, cut.bytes()).unwrap();
+        if done {
+            let err = bad("get", &card, &["f"], 1);
+            assert!(
+                err.contains("refused (5)") && err.contains("goofs recover"),
+                "{err}"
+            );
+            bad("rm", &card, &["f"], 1);
+            assert!(good("recover", &card, &[]).starts_with("recovered"));
+        }
+        assert!(good("recover", &card, &[]).starts_with("nothing to do"));
+        let files = if done { 2 } else { 1 };
+        assert_eq!(good("check", &card, &[]), format!("sound, {files} files\n"));
+    }
+}
+
+/// The copies of a change stand behind sector 674 of the sample, so its first write fails.
+#[test]
+fn a_failing_medium_is_told() {
+    let folder = Folder::new("failing");
+    let card = formatted(&folder);
+    create(&card, b"f", 2);
+    let before = fs::read(&card).unwrap();
+    let said = on_failing_medium(300, "rm", &card, &["f"]);
+    assert_eq!(said.status, 1);
+    for part in [
+        "the medium failed",
+        "of 7 sector writes 0 are on it",
+        "goofs recover",
+    ] {
+        assert!(said.err.contains(part), "{}", said.err);
+    }
+    assert!(fs::read(&card).unwrap() == before);
+
+    // A format fails behind the superblock that says that it is unfinished.
+    let said = on_failing_medium(100, "format", &card, &["--yes"]);
+    assert_eq!(said.status, 1);
+    assert!(said.err.contains("format again with --yes"), "{}", said.err);
+    assert!(bad("ls", &card, &[], 1).contains("refused (4)"));
+    // A file that was made for a format does not stay behind.
+    let new = folder.file("new");
+    let said = on_failing_medium(100, "format", &new, &["--sectors", "1313"]);
+    assert_eq!(said.status, 1);
+    assert!(!new.exists());
+}
+
+#[test]
+fn a_cut_format_is_unfinished() {
+    let folder = Folder::new("unfinished");
+    let card = formatted(&folder);
+    let mut bytes = fs::read(&card).unwrap();
+    bytes[18..20].fill(255);
+    fs::write(&card, bytes).unwrap();
+    let err = bad("recover", &card, &[], 1);
+    assert!(
+        err.contains("refused (4)") && err.contains("format again"),
+        "{err}"
+    );
+    assert!(good("info", &card, &[]).contains("unfinished"));
+    bad("format", &card, &[], 1);
+    good("format", &card, &["--yes"]);
+}
+
+#[test]
+fn trials_of_create_and_rm() {
+    let folder = Folder::new("trials");
+    let card = formatted(&folder);
+    create(&card, b"f", 2);
+    for change in [&["create", "g"], &["rm", "f"]] {
+        let [writes, cuts, recoveries, before, part, after, different] =
+            numbers_of_trial(&card, change);
+        // Groups of 3, 1, 2 and 1 writes: 8 + 2 + 4 + 2 cuts.
+        assert_eq!((writes, cuts), (7, 16), "{change:?}");
+        assert!(recoveries > cuts && before > 0 && after > 0, "{change:?}");
+        assert_eq!((part, different), (0, 0), "{change:?}");
+    }
+    let left = folder.file("left");
+    let words = ["create", "g", "--leave", left.to_str().unwrap()];
+    numbers_of_trial(&card, &words);
+    assert!(bad("ls", &left, &[], 1).contains("refused (5)"));
+    good("recover", &left, &[]);
+    assert_eq!(good("check", &left, &[]), "sound, 2 files\n");
+    // The file to be left must be new.
+    let held = fs::read(&left).unwrap();
+    bad("trial", &card, &words, 1);
+    assert!(fs::read(&left).unwrap() == held);
+
+    assert!(bad("trial", &card, &["rm", "g"], 1).contains("refused (9)"));
+    assert!(bad("trial", &card, &["create", "f"], 1).contains("refused (10)"));
+    bad("trial", &card, &["shake", "g"], 2);
+    bad("trial", &card, &["rm", "g", "h"], 2);
+}

@@ -1,0 +1,133 @@
+//! What the tests share: a folder of their own, and the command run as a user would.
+
+// Each test program uses a part of it.
+#![allow(dead_code)]
+
+use std::ffi::OsStr;
+use std::fs;
+use std::path::{Path, PathBuf};
+use std::process::{Command, Output, Stdio};
+
+/// A folder that goes away with the test.
+pub struct Folder(PathBuf);
+
+impl Folder {
+    pub fn new(test: &str) -> Folder {
+        let path = Path::new(env!("CARGO_TARGET_TMPDIR"))
+            .join(format!("goofs-{test}-{}", std::process::id()));
+        let _ = fs::remove_dir_all(&path);
+        fs::create_dir_all(&path).expect("the folder is made");
+        Folder(path)
+    }
+
+    pub fn file(&self, name: &str) -> PathBuf {
+        self.0.join(name)
+    }
+
+    pub fn write(&self, name: &str, contents: &[u8]) -> PathBuf {
+        let path = self.file(name);
+        fs::write(&path, contents).expect("the file is written");
+        path
+    }
+}
+
+impl Drop for Folder {
+    fn drop(&mut self) {
+        let _ = fs::remove_dir_all(&self.0);
+    }
+}
+
+/// What the command said.
+#[derive(Debug)]
+pub struct Said {
+    pub status: i32,
+    pub out: Vec<u8>,
+    pub err: String,
+}
+
+impl Said {
+    pub fn text(&self) -> String {
+        String::from_utf8_lossy(&self.out).into_owned()
+    }
+}
+
+pub fn goofs<W: AsRef<OsStr>>(words: &[W]) -> Said {
+    run(Command::new(env!("CARGO_BIN_EXE_goofs")).args(words))
+}
+
+/// Runs the command on a medium that fails: writes past this many blocks of a file are errors. A
+/// block has 512 or 1,024 bytes, as the shell likes.
+pub fn on_failing_medium(blocks: u64, command: &str, card: &Path, rest: &[&str]) -> Said {
+    let script = format!("trap '' XFSZ; ulimit -f {blocks}; exec \"$@\"");
+    run(Command::new("sh")
+        .args(["-c", &script, "sh", env!("CARGO_BIN_EXE_goofs"), command])
+        .arg(card)
+        .args(rest))
+}
+
+fn run(command: &mut Command) -> Said {
+    let Output {
+        status,
+        stdout,
+        stderr,
+    } = command
+        .stdin(Stdio::null())
+        .output()
+        .expect("the command runs");
+    Said {
+        status: status.code().expect("it ends by itself"),
+        out: stdout,
+        err: String::from_utf8_lossy(&stderr).into_owned(),
+    }
+}
+
+/// Runs the command on a card; it must succeed.
+pub fn good(command: &str, card: &Path, rest: &[&str]) -> String {
+    let said = on(command, card, rest);
+    assert_eq!(said.status, 0, "{command} {rest:?}: {}", said.err);
+    said.text()
+}
+
+/// Runs the command on a card; it must fail with this status and change no byte of the card.
+pub fn bad(command: &str, card: &Path, rest: &[&str], status: i32) -> String {
+    let before = fs::read(card).ok();
+    let said = on(command, card, rest);
+    assert_eq!(said.status, status, "{command} {rest:?}: {}", said.err);
+    assert!(
+        fs::read(card).ok() == before,
+        "{command} {rest:?} changed the card"
+    );
+    said.err
+}
+
+pub fn on(command: &str, card: &Path, rest: &[&str]) -> Said {
+    let mut words = vec![OsStr::new(command), card.as_os_str()];
+    words.extend(rest.iter().map(OsStr::new));
+    goofs(&words)
+}
+
+/// The sample volume, empty.
+pub fn formatted(folder: &Folder) -> PathBuf {
+    let card = folder.file("card");
+    let said = good("format", &card, &["--sectors", "1313", "--time", "1000"]);
+    assert_eq!(
+        said,
+        "formatted: 255 files at most, 196608 bytes for them\n"
+    );
+    card
+}
+
+/// The numbers of a trial's last line. The trial must find no difference and leave the card alone.
+pub fn numbers_of_trial(card: &Path, rest: &[&str]) -> [u64; 7] {
+    let before = fs::read(card).unwrap();
+    let said = good("trial", card, rest);
+    assert!(
+        fs::read(card).unwrap() == before,
+        "a trial only reads the card"
+    );
+    let last = said.lines().last().unwrap();
+    let words: Vec<&str> = last.split_whitespace().collect();
+    let numbers = words[words.len() - 7..].iter();
+    let numbers: Vec<u64> = numbers.map(|word| word.parse().unwrap()).collect();
+    numbers.try_into().unwrap()
+}

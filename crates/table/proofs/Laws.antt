@@ -11,15 +11,16 @@ use lib.Arith.{digits-div}
 use lib.Dec.{eqb, leb, ltb}
 use borrow.Author.Tests.{le-ltb, eqb-true, ne-eqb}
 use Rattle.model.specs.declared.Geometry.{Geometry}
-use Rattle.model.specs.Bytes.{put}
+use Rattle.model.specs.Bytes.{beAt, put}
 use Rattle.model.specs.Search.{first, count, indexOf}
-use Rattle.model.specs.Geometry.{usable, entryAt, tableSectors}
-use Rattle.model.specs.Disk.{Disk}
+use Rattle.model.specs.Geometry.{usable, entryAt, tableAt, tableSectors}
+use Rattle.model.specs.Disk.{Disk, view}
 use Rattle.model.specs.Superblock.{geometryIn}
 use Rattle.model.specs.Entry.{isOccupied}
 use Rattle.model.specs.Table.{freeFile, tableFile, tableOffset, tableEntryBytes, freedIn}
 use Rattle.model.specs.Catalogue.{Owner, catalogueOf, isFree, isPart, isBeyond, freeExtent, extentOf, holdsBeyond, sectorsBeyond}
 use Rattle.model.specs.Faults.{fault25}
+use Rattle.laws.proofs.Disk.{beAt-view}
 use Rattle.laws.proofs.Search.{first-ext}
 use Rattle.laws.proofs.Catalogue.{table-on, part-is, fault25-is}
 
@@ -96,3 +97,17 @@ pub few-extents : (z e : ℕ) → 65536 ≤ e → z < 18446744073709551616 → z
 few-extents z e big h =
     let p : 281474976710656 * 65536 ≤ 281474976710656 * e = mul-le-mul-left 281474976710656 big in
     div-lt-iff-lt-mul {k = e} (omega arith) .1 (omega arith)
+
+-- where an extent's entry stands in the image
+module _ (img : List ℕ) (g : Geometry) (e : ℕ) where
+  pub file-at : beAt img (512 * tableAt g + 4 * e) 2 ≡ tableFile g (view img) e
+  unfolding tableFile
+  file-at =
+      let k : 512 * (tableAt g + e / 128) + 4 * (e % 128) ≡ 512 * tableAt g + 4 * e = omega arith in
+      sym (beAt-view img (tableAt g + e / 128) (4 * (e % 128)) 2 (omega arith) ∙ ap (λ n. beAt img n 2) k)
+
+  pub offset-at : beAt img (512 * tableAt g + 4 * e + 2) 2 ≡ tableOffset g (view img) e
+  unfolding tableOffset
+  offset-at =
+      let k : 512 * (tableAt g + e / 128) + (4 * (e % 128) + 2) ≡ 512 * tableAt g + 4 * e + 2 = omega arith in
+      sym (beAt-view img (tableAt g + e / 128) (4 * (e % 128) + 2) 2 (omega arith) ∙ ap (λ n. beAt img n 2) k)

@@ -18,15 +18,16 @@ ghost use Rattle.model.specs.Table.{tableFile, tableOffset, tableEntryBytes, fr
 ghost use Rattle.model.specs.Catalogue.{catalogueOf, freeExtent, extentOf, isPart, isBeyond, holdsBeyond, sectorsBeyond};
 ghost use Rattle.model.specs.Faults.{fault25};
 
-// The file that extent e's entry names; 65535 where it is free.
+// The file that extent e's entry names; 65535 where it is free. Table sectors follow one another, 128 entries in each, so an
+// entry's place in the image is a product.
 pub fn table_file(img: &[u8], g: Geometry, e: Extent) -> u64
     requires { ⌜ Opened (now img) g ⌝ }
     requires { ⌜ e .0 < g .extents ⌝ }
     ensures { λ r. ⌜ r ≡ tableFile g (view (now (img .entry))) (e .0) ⌝ }
     ensures { λ r. ⌜ r < 65536 ⌝ }
 {
-    let at = (4 * (e.0 % 128)) as usize;
-    fields::number(img, g.table_sector_of(e), at, 2)
+    let t = g.table_at();
+    fields::be(img, (512 * t.0 + 4 * e.0) as usize, 2)
 }
 
 // The offset, counted in extents, that extent e's entry says.
@@ -36,8 +37,8 @@ pub fn table_offset(img: &[u8], g: Geometry, e: Extent) -> u64
     ensures { λ r. ⌜ r ≡ tableOffset g (view (now (img .entry))) (e .0) ⌝ }
     ensures { λ r. ⌜ r < 65536 ⌝ }
 {
-    let at = (4 * (e.0 % 128) + 2) as usize;
-    fields::number(img, g.table_sector_of(e), at, 2)
+    let t = g.table_at();
+    fields::be(img, (512 * t.0 + 4 * e.0 + 2) as usize, 2)
 }
 
 // The lowest usable free extent.

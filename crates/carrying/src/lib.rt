@@ -12,19 +12,18 @@ ghost use Rattle.model.specs.CarryOut.{recordIn, recordsIn, badRecord, carryAns
 
 // ---- the judgement
 
-// Whether one of the 512 bytes from `at` on is not 0.
+// Whether one of the 512 bytes from `at` on is not 0: their sum tells, and takes fewer tests than byte by byte.
 fn has_other(list: &[u8], at: usize) -> bool
     requires { ⌜ at + 512 ≤ length (now list) ⌝ }
     ensures { λ r. ⌜ r ≡ not (every (λ b. eqb (getD (now (list .entry)) (at + b) 0) 0) 512) ⌝ }
 {
+    let mut sum: u32 = 0;
     let mut i: usize = 0;
     while i < 512 {
-        if list[at + i] != 0 {
-            return true;
-        }
+        sum += list[at + i] as u32;
         i += 1;
     }
-    false
+    sum != 0
 }
 
 // Whether record k is a barrier with other bytes, or lies outside an image of so many sectors.

@@ -1,43 +1,19 @@
--- Searches of the catalogue, by id and for fault 22, as searches of the directory; and a counting loop as a search. Rests on the crate
--- `laws`.
-use Prim.Native.Nat.{ℕ, _+_, _-_, _*_, _≤_, _<_}
-use mathlib.Core.Path.{_≡_, refl, sym, ap, _∙_}
+-- Searches of the catalogue, by id and for fault 22, as searches of the directory. Rests on the crate `laws`.
+use Prim.Native.Nat.{ℕ, _*_}
+use mathlib.Core.Path.{_≡_, refl, ap, _∙_}
 use mathlib.Core.Bool.{Bool, true, false, cond, _&&_, _||_}
 use mathlib.Core.Option.{none, some as just}
-use native.Mathlib.Omega.{arith}
 use lib.Dec.{eqb, ltb}
-use Rattle.model.specs.declared.Place.the-variants.{At, Nowhere}
 use Rattle.model.specs.Bytes.{beAt}
-use Rattle.model.specs.Search.{scan, first, some}
+use Rattle.model.specs.Search.{first, some}
 use Rattle.model.specs.Geometry.{usable, extentBytes, entryAt}
 use Rattle.model.specs.Disk.{Disk}
 use Rattle.model.specs.Superblock.{geometryIn}
 use Rattle.model.specs.Entry.{Entry, entryIn, isOccupied, nameIn, badName}
 use Rattle.model.specs.Catalogue.{catalogueOf, hasId}
 use Rattle.model.specs.Faults.{fault22}
-use Rattle.laws.proofs.Search.{scan-here, scan-next, scan-end, first-ext, some-ext}
+use Rattle.laws.proofs.Search.{first-ext, some-ext}
 use Rattle.laws.proofs.Catalogue.{slot-on, fault22-is}
-
--- ---- a loop that has passed the indexes below i in search of p
-
-pub record Seeking (p : ℕ → Bool) (n i : ℕ) : Type 0 where
-  pub within : i ≤ n
-  pub rest : scan p (n - i) i ≡ first p n
-
-pub seek-start : {p : ℕ → Bool} {n : ℕ} → Seeking p n 0
-seek-start = record { within = omega arith; rest = refl }
-
-module _ {p : ℕ → Bool} {n i : ℕ} (S : Seeking p n i) where
-  pub seek-here : i < n → p i ≡ true → At i ≡ first p n
-  seek-here l e = sym (scan-here p n i l e) ∙ S .rest
-
-  pub seek-next : i < n → p i ≡ false → Seeking p n (i + 1)
-  seek-next l e = record { within = omega arith; rest = sym (scan-next p n i l e) ∙ S .rest }
-
-  pub seek-end : n ≤ i → Nowhere ≡ first p n
-  seek-end l = sym (scan-end p n i l) ∙ S .rest
-
--- ---- the catalogue's entries by sector
 
 id-if : (b : Bool) (e : Entry) (n : ℕ) → hasId n (cond b (just e) none) ≡ (b && eqb (e .id) n)
 id-if true e n = refl

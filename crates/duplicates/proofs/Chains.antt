@@ -9,7 +9,7 @@ use native.Mathlib.Nat.{eq-or-lt-of-le}
 use native.Mathlib.Numerals.{add-one}
 use native.Mathlib.Omega.{arith}
 use lib.Dec.{eqb}
-use lib.ListN.{length, getD, set, replicate, length-set, length-replicate, getD-replicate}
+use lib.ListN.{length, getD, set, length-set}
 use lib.Seq.{getD-set-same, getD-set-other}
 use borrow.Author.Tests.{eqb-true, eqb-false}
 use Rattle.model.specs.Search.{some}
@@ -50,9 +50,6 @@ module _ (q : ℕ → Bool) where
 pub chains-none : (member : ℕ → ℕ → Bool) (head next : List ℕ) → ((b : ℕ) → b < length head → getD head b 0 ≡ 0) → Chains member 0 head next
 unfolding lastBelow
 chains-none member head next h = record { chain = λ b l. record { last = h b l; before = λ j k. absurd (omega arith) } }
-
-pub zeros-at : (n b : ℕ) → b < length (replicate {A = ℕ} n 0) → getD (replicate {A = ℕ} n 0) b 0 ≡ 0
-zeros-at n b l = getD-replicate n b 0 0 (omega (arith, length-replicate {A = ℕ} n 0))
 
 -- ---- one index more: it is in no bucket, or joins one
 

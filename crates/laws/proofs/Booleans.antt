@@ -52,3 +52,7 @@ range-no a b j h = go (leb a j) (ltb j b) refl refl
     go true true e f = absurd (h (leb-true a j e) (ltb-true j b f))
     go true false e f = refl
     go false y e f = refl
+
+pub or-none : (a b : Bool) → (a || b) ≡ false → (a ≡ false) × (b ≡ false)
+or-none true b e = absurd (true≢false e)
+or-none false b e = (refl, e)

@@ -83,6 +83,11 @@ beBytes-more (suc w) v h = rw sub-one
 pub replicate-more : (n x : ℕ) → replicate (n + 1) x ≡ replicate n x ++ (x ∷ [])
 replicate-more n x = sym (replicate-append-replicate n 1 x)
 
+pub zeros-at : (n p : ℕ) → getD (replicate {A = ℕ} n 0) p 0 ≡ 0
+zeros-at zero p = refl
+zeros-at (suc n) zero = refl
+zeros-at (suc n) (suc p) = zeros-at n p
+
 -- a number of w bytes is below 256 ^ w
 pub pow-more : (i v b : ℕ) → v < 256 ^ i → b < 256 → v * 256 + b < 256 ^ (i + 1)
 pow-more i v b h k = rw (add-one, pow-suc) (omega arith)

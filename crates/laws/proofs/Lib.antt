@@ -2,6 +2,8 @@
 pub mod Booleans
 pub mod Bytes
 pub mod Search
+pub mod Seeking
+pub mod Count
 pub mod Disk
 pub mod Entry
 pub mod Refusals

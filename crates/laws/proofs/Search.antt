@@ -8,7 +8,7 @@ use mathlib.Core.List.{List, [], _∷_, _++_, append-nil, append-assoc}
 use native.Mathlib.Numerals.{add-one}
 use native.Mathlib.Omega.{arith}
 use native.Mathlib.Decide.{decLt}
-use native.Mathlib.Nat.{eq-or-lt-of-le, add-zero, add-suc, zero-add, not-suc-le-zero}
+use native.Mathlib.Nat.{eq-or-lt-of-le, le-of-suc-le-suc, add-zero, add-suc, zero-add, not-suc-le-zero}
 use lib.ListN.{length, getD, length-append, List·getD-append}
 use lib.Seq.{getD-at}
 use lib.Dec.{eqb}
@@ -17,7 +17,7 @@ use Rattle.model.specs.declared.Place.{Place}
 use Rattle.model.specs.declared.Place.the-variants.{At, Nowhere}
 use Rattle.model.specs.Bytes.{run}
 use Rattle.model.specs.Search.{scan, first, some, every, count, tab, flat, same}
-use Rattle.laws.proofs.Booleans.{and-left, and-right, and-yes, and-false, or-right}
+use Rattle.laws.proofs.Booleans.{and-left, and-right, and-yes, and-false, or-right, or-none}
 use Rattle.laws.proofs.Bytes.{length-run, getD-run}
 
 -- ---- a loop's turns: the search from i on
@@ -129,6 +129,14 @@ some-true p i zero h e = absurd (omega arith)
 some-true p i (suc n) h e =
     let le : i ≤ n = omega arith in
     ⊎-elim (λ (q : i ≡ n). rw (← q, e)) (λ (l : i < n). or-right (p n) (some p n) (some-true p i n l e)) (eq-or-lt-of-le le)
+
+-- where none passes, each fails
+pub none-at : (p : ℕ → Bool) (n : ℕ) → some p n ≡ false → (j : ℕ) → j < n → p j ≡ false
+unfolding some
+none-at p zero e j h = absurd (omega arith)
+none-at p (suc n) e j h =
+    let b = or-none (p n) (some p n) e in
+    ⊎-elim (λ (q : j ≡ n). rw q (b .0)) (λ (l : j < n). none-at p n (b .1) j l) (eq-or-lt-of-le (le-of-suc-le-suc h))
 
 pub some-no : (p : ℕ → Bool) (n : ℕ) → ((k : ℕ) → k < n → p k ≡ false) → some p n ≡ false
 unfolding some

@@ -1,4 +1,3 @@
 -- Laws that belong to no one function.
-pub mod Search
 pub mod Index
 pub mod Answer

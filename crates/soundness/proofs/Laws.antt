@@ -1,8 +1,7 @@
 -- The first fault, one pass after the other. Assumes nothing.
 use Prim.Native.Nat.{ℕ}
-use mathlib.Core.Path.{_≡_, refl, ap, _∙_}
+use mathlib.Core.Path.{_≡_}
 use Rattle.model.specs.declared.Geometry.{Geometry}
-use Rattle.model.specs.declared.Place.{Place}
 use Rattle.model.specs.declared.Place.the-variants.{At, Nowhere}
 use Rattle.model.specs.declared.Soundness.{Soundness}
 use Rattle.model.specs.declared.Soundness.the-variants.{Sound, Faulty}
@@ -12,29 +11,32 @@ use Rattle.model.specs.Superblock.{geometryIn}
 use Rattle.model.specs.Catalogue.{catalogueOf}
 use Rattle.model.specs.Faults.{fault21, fault22, fault23, fault24, fault25, fault26, orElse, firstFault}
 
--- a pass that found its fault, and one that found none
-pub here : (n : ℕ) (later : Soundness) {p : Place} {i : ℕ} → p ≡ At i → orElse n p later ≡ Faulty n i
-here n later e = ap (λ (q : Place). orElse n q later) e
-
-pub past : (n : ℕ) (later : Soundness) {p : Place} → p ≡ Nowhere → orElse n p later ≡ later
-past n later e = ap (λ (q : Place). orElse n q later) e
-
-module _ (d : Disk) (g : Geometry) where
-  abbrev pub from26 : Soundness
-  from26 = orElse 26 (first (fault26 (catalogueOf d)) (g .files)) Sound
-
-  abbrev pub from25 : Soundness
-  from25 = orElse 25 (first (fault25 (catalogueOf d)) (g .extents)) from26
-
-  abbrev pub from24 : Soundness
-  from24 = orElse 24 (first (fault24 (catalogueOf d)) (g .files)) from25
-
-  abbrev pub from23 : Soundness
-  from23 = orElse 23 (first (fault23 (catalogueOf d)) (g .files)) from24
-
-  abbrev pub from22 : Soundness
-  from22 = orElse 22 (first (fault22 (catalogueOf d)) (g .files)) from23
-
-  pub from21 : g ≡ geometryIn (d 0) → firstFault d ≡ orElse 21 (first (fault21 d) (g .files)) from22
+module _ (d : Disk) (g : Geometry) (is : g ≡ geometryIn (d 0)) where
+  in-order : firstFault d
+      ≡ orElse 21 (first (fault21 d) (g .files))
+      (orElse 22 (first (fault22 (catalogueOf d)) (g .files))
+      (orElse 23 (first (fault23 (catalogueOf d)) (g .files))
+      (orElse 24 (first (fault24 (catalogueOf d)) (g .files))
+      (orElse 25 (first (fault25 (catalogueOf d)) (g .extents)) (orElse 26 (first (fault26 (catalogueOf d)) (g .files)) Sound)))))
   unfolding firstFault catalogueOf
-  from21 is = rw is
+  in-order = rw is
+
+  -- each pass finds its fault, or none and the next pass goes on
+  pub at-21 : (i : ℕ) → first (fault21 d) (g .files) ≡ At i → Faulty 21 i ≡ firstFault d
+  at-21 i e = rw (in-order, e)
+
+  module _ (no21 : first (fault21 d) (g .files) ≡ Nowhere) where
+    pub at-22 : (i : ℕ) → first (fault22 (catalogueOf d)) (g .files) ≡ At i → Faulty 22 i ≡ firstFault d
+    at-22 i e = rw (in-order, no21, e)
+
+    module _ (no22 : first (fault22 (catalogueOf d)) (g .files) ≡ Nowhere) where
+      pub at-23 : (i : ℕ) → first (fault23 (catalogueOf d)) (g .files) ≡ At i → Faulty 23 i ≡ firstFault d
+      at-23 i e = rw (in-order, no21, no22, e)
+
+      module _ (no23 : first (fault23 (catalogueOf d)) (g .files) ≡ Nowhere) where
+        pub at-24 : (i : ℕ) → first (fault24 (catalogueOf d)) (g .files) ≡ At i → Faulty 24 i ≡ firstFault d
+        at-24 i e = rw (in-order, no21, no22, no23, e)
+
+        pub from-25 : first (fault24 (catalogueOf d)) (g .files) ≡ Nowhere → (r : Soundness)
+            → r ≡ orElse 25 (first (fault25 (catalogueOf d)) (g .extents)) (orElse 26 (first (fault26 (catalogueOf d)) (g .files)) Sound) → r ≡ firstFault d
+        from-25 no24 r e = rw (in-order, no21, no22, no23, no24) e

@@ -29,13 +29,7 @@ pub fn first_fault(img: &[u8], g: Geometry) -> Soundness
     if let Place::At(i) = duplicates::fault24(img, g) {
         return Soundness::Faulty(24, i as u64);
     }
-    if let Place::At(e) = table::fault25(img, g) {
-        return Soundness::Faulty(25, e as u64);
-    }
-    if let Place::At(i) = exact::fault26(img, g) {
-        return Soundness::Faulty(26, i as u64);
-    }
-    Soundness::Sound
+    allocation::faults(img, g)
 }
 
 fn state_number(s: State) -> u64

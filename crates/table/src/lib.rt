@@ -1,4 +1,4 @@
-// The allocation table: its entries, the searches of it, fault 25, and its sectors with a file's extents freed.
+// The allocation table: its entries, the searches of it, the test of fault 25, and its sectors with a file's extents freed.
 use model::Extent;
 use model::FileIndex;
 use model::Geometry;
@@ -9,7 +9,6 @@ ghost use mathlib.Core.Bool.{cond};
 ghost use Prim.Native.Nat.{_+_, _*_, _≤_, _<_};
 ghost use lib.ListN.{length};
 ghost use Rattle.model.specs.Bytes.{put};
-ghost use Rattle.model.specs.Search.{first};
 ghost use Rattle.model.specs.Geometry.{tableAt, tableSectors, entryAt, extentsFor, usable};
 ghost use Rattle.model.specs.Disk.{view};
 ghost use Rattle.model.specs.Opened.{Bounded, Opened};
@@ -182,7 +181,7 @@ pub fn is_occupied(img: &[u8], g: Geometry, i: FileIndex) -> bool
 }
 
 // Extent e's entry names no occupied file and isn't free, or is the reserve's and isn't free; u extents are usable.
-fn is_misplaced(img: &[u8], g: Geometry, u: u64, e: Extent) -> bool
+pub fn is_misplaced(img: &[u8], g: Geometry, u: u64, e: Extent) -> bool
     requires { ⌜ Opened (now img) g ⌝ }
     requires { ⌜ (u ≡ usable g) × (e .0 < g .extents) ⌝ }
     ensures { λ r. ⌜ r ≡ fault25 (catalogueOf (view (now (img .entry)))) (e .0) ⌝ }
@@ -201,23 +200,6 @@ fn is_misplaced(img: &[u8], g: Geometry, u: u64, e: Extent) -> bool
         return true;
     }
     true
-}
-
-// The lowest extent of fault 25.
-pub fn fault25(img: &[u8], g: Geometry) -> Place
-    requires { ⌜ Opened (now img) g ⌝ }
-    ensures { λ r. ⌜ r ≡ first (fault25 (catalogueOf (view (now (img .entry))))) (g .extents) ⌝ }
-{
-    let u = g.usable();
-    let n = g.extents as usize;
-    let mut e: usize = 0;
-    while e < n {
-        if is_misplaced(img, g, u, Extent(e as u64)) {
-            return Place::At(e);
-        }
-        e += 1;
-    }
-    Place::Nowhere
 }
 
 // How many extents a size needs: z / E rounded up. In this order no sum can overflow, whatever an entry says.

@@ -1,13 +1,22 @@
-//! The images that are timed: the sample volume, and the largest directory and table. An image of
-//! the largest has 4.3 GB, of which only the pages that are used take up memory.
+//! The images that are timed: the sample volume, and volumes up to the largest directory and table,
+//! more or less filled. An image of the largest has 4.3 GB, of which only the pages that are used
+//! take up memory.
 
 use oracle::draw::Draw;
 use oracle::layout::{
     entry, put16, put32, put64, root, superblock, Extent, FileIndex, Geometry, SECTOR,
 };
 
-fn largest() -> Geometry {
-    Geometry::new(1_024, 65_535, 128).expect("within the bounds")
+pub const SAMPLE_SECTORS: u64 = 1_313;
+
+/// The most files and extents that a volume has.
+pub fn largest() -> Geometry {
+    geometry(1_024, 65_535)
+}
+
+/// A geometry with the shortest extents.
+pub fn geometry(files: u64, extents: u64) -> Geometry {
+    Geometry::new(files, extents, 128).expect("within the bounds")
 }
 
 pub fn short_name(index: u64) -> Vec<u8> {
@@ -23,8 +32,8 @@ pub fn long_name(index: u64) -> Vec<u8> {
 
 /// The sample of 1,313 sectors: "calibration" with two extents, "empty", and one extent free.
 pub fn sample() -> Vec<u8> {
-    let geometry = Geometry::new(255, 4, 128).expect("within the bounds");
-    let mut image = blank(geometry, 1_313);
+    let geometry = geometry(255, 4);
+    let mut image = blank(geometry, SAMPLE_SECTORS);
     put_file(&mut image, geometry, 0, b"calibration", 131_072, &[2, 0]);
     put_file(&mut image, geometry, 1, b"empty", 0, &[]);
     fill_extents(&mut image, geometry, &[2, 0]);
@@ -47,36 +56,38 @@ pub fn nearly_empty() -> Vec<u8> {
     image
 }
 
-/// All entries and all usable extents are taken, and the extents of a file are scattered.
+/// All entries and all usable extents are taken.
 pub fn full(name: fn(u64) -> Vec<u8>) -> Vec<u8> {
     let geometry = largest();
-    filled(geometry.files(), geometry.usable_extents(), name)
+    filled(geometry, geometry.files(), geometry.usable_extents(), name)
 }
 
 /// As full, but the last entry and one extent are free.
 pub fn almost_full() -> Vec<u8> {
     let geometry = largest();
     filled(
+        geometry,
         geometry.files() - 1,
         geometry.usable_extents() - 1,
         short_name,
     )
 }
 
-fn filled(files: u64, taken: u64, name: fn(u64) -> Vec<u8>) -> Vec<u8> {
-    let geometry = largest();
+/// The first entries are occupied and the first extents taken, The extents of a file are scattered, and the last file begins in the last of them.
+pub fn filled(geometry: Geometry, occupied: u64, taken: u64, name: fn(u64) -> Vec<u8>) -> Vec<u8> {
     let mut image = blank(geometry, geometry.end().0);
-    let mut extents = vec![Vec::new(); files as usize];
+    let mut extents = vec![Vec::new(); occupied as usize];
     for number in 0..taken {
+        let file = occupied - 1 - number % occupied;
         // A prime that does not divide the number of extents: each is met once.
-        extents[(number % files) as usize].push(number * 7_919 % taken);
+        extents[file as usize].push(taken - 1 - number * 7_919 % taken);
     }
     for (index, extents) in (0..).zip(&extents) {
         let size = extents.len() as u64 * geometry.extent_bytes();
         put_file(&mut image, geometry, index, &name(index), size, extents);
     }
-    let last = &extents[files as usize - 1];
-    fill_extents(&mut image, geometry, &last[..2]);
+    let last = &extents[occupied as usize - 1];
+    fill_extents(&mut image, geometry, &last[..last.len().min(2)]);
     image
 }
 
@@ -111,6 +122,13 @@ fn blank(geometry: Geometry, image_sectors: u64) -> Vec<u8> {
     let table = geometry.table_at().0 as usize * SECTOR;
     image[table..geometry.data_at().0 as usize * SECTOR].fill(255);
     image
+}
+
+/// Makes sure that both sides take the image for a sound volume, so that no refusal is timed.
+pub fn assert_sound(image: &[u8]) {
+    let (proved, plain) = (goofs::check(image), oracle::check(image));
+    assert_eq!((proved.code, proved.fault, proved.place), (0, 0, 0));
+    assert_eq!((plain.code, plain.fault, plain.place), (0, 0, 0));
 }
 
 fn put_file(

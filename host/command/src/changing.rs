@@ -2,6 +2,7 @@
 
 use std::ffi::OsStr;
 use std::fs::{self, OpenOptions};
+use std::io::ErrorKind;
 use std::os::unix::ffi::OsStrExt;
 use std::time::{SystemTime, UNIX_EPOCH};
 
@@ -9,15 +10,19 @@ use goofs::change::{Change, Format};
 use goofs::device::{Device, Disk, SECTOR};
 use goofs::error::{Error, Refusal};
 use goofs::image::Image;
-use goofs::volume::{self, Volume};
+use goofs::volume::{self, Stage, Volume};
 
 use crate::arguments::Arguments;
 use crate::card;
-use crate::failure::{of_card, of_file, Failure};
+use crate::failure::{of_call, of_card, of_file, of_opening, Detail, Failure};
+use crate::output::{print, sync_entry};
 use crate::progress::Progress;
-use crate::reading::print;
 
 const LARGEST_32: u64 = u32::MAX as u64;
+/// Sectors that a format takes off for what stands before the data, besides one for each file.
+const TAKEN_OFF: u64 = 546;
+/// Sectors of the smallest extent.
+const LEAST_EXTENT: u64 = 128;
 
 /// The time of a change: the one given, or now.
 pub fn time(arguments: &Arguments) -> Result<u32, Failure> {
@@ -43,18 +48,21 @@ pub fn format(arguments: &Arguments) -> Result<(), Failure> {
         mode: mode(arguments, 0o755)?,
         time: time(arguments)?,
     };
-    arguments.no_more_options()?;
 
-    let is_new = !fs::exists(card).map_err(of_file(card))?;
+    let is_new = !fs::exists(card).map_err(of_opening(card))?;
+    if is_new && card::is_device_name(card) {
+        // A card that isn't in its reader must not become a file among the devices.
+        return Err(of_opening(card)(ErrorKind::NotFound.into()));
+    }
     if is_new {
         request.sectors = sectors.ok_or_else(|| {
             Failure::Usage(format!(
-                "{} is not there; to make it, --sectors is needed",
+                "{} is not there; to make an image file, --sectors is needed",
                 card.to_string_lossy()
             ))
         })?;
         // A file is made only for a format that will be accepted.
-        request.record(0).map_err(of_card(card))?;
+        request.record(0).map_err(of_format(card, &request))?;
         let file = OpenOptions::new()
             .read(true)
             .write(true)
@@ -62,8 +70,9 @@ pub fn format(arguments: &Arguments) -> Result<(), Failure> {
             .open(card)
             .map_err(of_file(card))?;
         let formatted = Disk::exclusive(file)
-            .map_err(of_file(card))
-            .and_then(|disk| format_disk(card, disk, &request));
+            .map_err(of_opening(card))
+            .and_then(|disk| format_disk(card, disk, &request))
+            .and_then(|()| sync_entry(card).map_err(of_file(card)));
         if formatted.is_err() {
             // Best effort: the file held nothing before, and the failure is told anyway.
             let _ = fs::remove_file(card);
@@ -72,8 +81,9 @@ pub fn format(arguments: &Arguments) -> Result<(), Failure> {
     } else {
         let disk = card::exclusive(card)?;
         request.sectors = sectors.unwrap_or(disk.length() / SECTOR as u64);
-        request.record(0).map_err(of_card(card))?;
-        if let (Some(what), false) = (held(&disk, card)?, arguments.yes) {
+        request.record(0).map_err(of_format(card, &request))?;
+        whole_sectors(&disk, &request).map_err(of_card(card))?;
+        if let (Some(what), false) = (held(&disk, &request, card)?, arguments.flag("yes")) {
             return Err(Failure::Other(format!(
                 "{} already holds {what}. Nothing was changed.\nNext: to lose it and format anew, add --yes.",
                 card.to_string_lossy()
@@ -81,22 +91,63 @@ pub fn format(arguments: &Arguments) -> Result<(), Failure> {
         }
         format_disk(card, disk, &request)?;
     }
-    let summary = card::read(card)?.summary();
-    print(&format!(
-        "formatted: {} files at most, {} bytes for them\n",
-        summary.files,
-        summary.usable_extents() * summary.extent_bytes()
-    ))
+    let geometry = request.geometry().map_err(of_format(card, &request))?;
+    print_done(
+        card,
+        &format!(
+            "formatted: {} files at most, {} bytes for them\n",
+            geometry.files,
+            geometry.usable_extents() * geometry.extent_bytes()
+        ),
+    )
+}
+
+/// Makes failures of a format, and says which of its arguments is out of bounds.
+fn of_format<'f>(card: &'f OsStr, request: &'f Format) -> impl Fn(Refusal) -> Failure + 'f {
+    move |refusal| {
+        let Format { sectors, files, .. } = *request;
+        let least = TAKEN_OFF + files.min(1_024) + 2 * LEAST_EXTENT;
+        let detail = match files {
+            _ if refusal != Refusal::BadArgument => None,
+            255..=1_024 if sectors < least => Some(Detail::with_next(
+                format!("{sectors} sectors are too few for {files} files"),
+                &format!("take a card of at least {least} sectors, or give so many with --sectors"),
+            )),
+            255..=1_024 => Some(Detail::with_next(
+                format!("{sectors} sectors are too many for a volume"),
+                "give fewer with --sectors",
+            )),
+            _ => Some(Detail::with_next(
+                format!("--files {files}"),
+                "give 255 to 1024 files",
+            )),
+        };
+        Failure::Card {
+            card: card.to_owned(),
+            error: refusal.into(),
+            detail,
+        }
+    }
+}
+
+/// A medium of other than whole sectors can't be read after its format.
+fn whole_sectors(disk: &Disk, request: &Format) -> Result<(), Refusal> {
+    let length = disk.length();
+    let stays = request.sectors <= length / SECTOR as u64;
+    match stays && !length.is_multiple_of(SECTOR as u64) {
+        true => Err(Refusal::NotWholeSectors),
+        false => Ok(()),
+    }
 }
 
 fn format_disk(card: &OsStr, mut disk: Disk, request: &Format) -> Result<(), Failure> {
     let length = request
         .sectors
         .checked_mul(SECTOR as u64)
-        .ok_or_else(|| of_card(card)(Refusal::BadArgument))?;
+        .ok_or_else(|| of_format(card, request)(Refusal::BadArgument))?;
+    let records = request.records().map_err(of_format(card, request))?;
     disk.lengthen(length).map_err(of_file(card))?;
-    // Superblock, root and three barriers are few beside the directory; the table adds up to 512.
-    let mut progress = Progress::new("records", request.files + 518);
+    let mut progress = Progress::new("records", records);
     volume::format(&mut disk, request, &mut |done| progress.at(done)).map_err(|error| match error {
         // There is nothing to recover in a format.
         Error::Interrupted(_) => Failure::Other(format!(
@@ -107,31 +158,49 @@ fn format_disk(card: &OsStr, mut disk: Disk, request: &Format) -> Result<(), Fai
     })
 }
 
-/// What would be lost by a format, if anything.
-fn held(disk: &Disk, card: &OsStr) -> Result<Option<&'static str>, Failure> {
-    let mut first = [0; SECTOR];
-    if disk.length() < SECTOR as u64 {
+/// What would be lost by a format, if anything. All sectors before the data are looked at: other
+/// file systems leave the first one free.
+fn held(disk: &Disk, request: &Format, card: &OsStr) -> Result<Option<&'static str>, Failure> {
+    let geometry = request.geometry().map_err(of_format(card, request))?;
+    let sectors = (disk.length() / SECTOR as u64).min(geometry.data_at());
+    if sectors == 0 {
         return Ok((disk.length() > 0).then_some("other data"));
     }
-    disk.read(0, &mut first).map_err(of_file(card))?;
-    Ok(match goofs::summary(&first).code {
-        2 if first == [0; SECTOR] => None,
+    let mut first = vec![0; sectors as usize * SECTOR];
+    disk.read(0, &mut first)
+        .map_err(|error| of_card(card)(Error::Unreadable(error)))?;
+    Ok(match goofs::summary(&first[..SECTOR]).code {
+        2 if first.iter().all(|byte| *byte == 0) => None,
         2 => Some("other data"),
         _ => Some("a volume"),
     })
 }
 
 /// Does the changes on the card, all or, if one is refused, none.
-pub fn apply(card: &OsStr, volume: &mut Volume<Disk>, changes: &[Change]) -> Result<(), Failure> {
-    let mut progress = Progress::new("changes", changes.len() as u64);
-    volume
-        .apply(changes, &mut |done| progress.at(done as u64))
-        .map_err(of_card(card))
+pub fn apply(volume: &mut Volume<Disk>, changes: &[Change]) -> Result<(), Error> {
+    let all = changes.len() as u64;
+    let mut tried = Progress::new("changes tried", all);
+    let mut done = Progress::new("changes done", all);
+    volume.apply(changes, &mut |stage, count| match stage {
+        Stage::Tried => tried.at(count as u64),
+        Stage::Done => done.at(count as u64),
+    })
+}
+
+/// What is said after a change. If it can't be said, the change is done all the same.
+fn print_done(card: &OsStr, text: &str) -> Result<(), Failure> {
+    print(text).map_err(|failure| match failure {
+        Failure::Output(error) => Failure::Other(format!(
+            "{}: done, but the standard output could not be written: {error}",
+            card.to_string_lossy()
+        )),
+        other => other,
+    })
 }
 
 /// The id and mode of a file that a command makes.
 pub struct NewFile {
-    id: Option<u64>,
+    pub id: Option<u64>,
     mode: u32,
 }
 
@@ -177,19 +246,20 @@ fn unused_id(image: &Image) -> Result<u64, Refusal> {
 pub fn rm(arguments: &Arguments) -> Result<(), Failure> {
     let places = arguments.places(2, 2)?;
     let time = time(arguments)?;
-    arguments.no_more_options()?;
     let (card, name) = (&places[0], places[1].as_bytes());
-    let mut volume = Volume::open(card::exclusive(card)?).map_err(of_card(card))?;
-    apply(card, &mut volume, &[Change::Delete { name, time }])
+    let mut volume = card::volume(card)?;
+    apply(&mut volume, &[Change::Delete { name, time }]).map_err(of_call(card, name, None))
 }
 
 pub fn recover(arguments: &Arguments) -> Result<(), Failure> {
     let card = &arguments.places(1, 1)?[0];
-    arguments.no_more_options()?;
-    let mut volume = Volume::open(card::exclusive(card)?).map_err(of_card(card))?;
+    let mut volume = card::volume(card)?;
     let was_cut = volume.recover().map_err(of_card::<Error>(card))?;
-    print(match was_cut {
-        true => "recovered: the change that was cut is done now\n",
-        false => "nothing to do: the volume is clean\n",
-    })
+    print_done(
+        card,
+        match was_cut {
+            true => "recovered: the change that was cut is done now\n",
+            false => "nothing to do: the volume is clean\n",
+        },
+    )
 }

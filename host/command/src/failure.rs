@@ -1,23 +1,63 @@
-//! How a command fails: what happened, with its number, and what to do next.
+//! How a command fails: what happened, with the number of a refusal, and what to do next.
 
 use std::ffi::{OsStr, OsString};
 use std::fmt;
+use std::io::{self, ErrorKind};
 
 use goofs::error::{Error, Refusal};
+use goofs::image::LONGEST_NAME;
+
+use crate::card::{is_device_name, shown};
+
+/// For a medium that can't be read in the middle of a command. A change's list is made, and done in
+/// memory, before the first of its writes is sent to the medium, so that no change is left half done.
+pub const UNREADABLE: &str = "\
+goofs: the medium could not be read: a sector is unreadable, or the card was taken out, or its file
+was made shorter. No change was left half done; of several, as in a put, the first may be done.
+Next: see that the card is in its place, look at it with goofs check, and give the command again.
+";
 
 #[derive(Debug)]
 pub enum Failure {
     /// The words were not understood.
     Usage(String),
+    /// The card could not be opened.
+    Open { card: OsString, error: io::Error },
     /// The volume code or the medium, for this card.
-    Card { card: OsString, error: Error },
-    /// A file beside the card.
-    File {
-        file: OsString,
-        error: std::io::Error,
+    Card {
+        card: OsString,
+        error: Error,
+        detail: Option<Detail>,
     },
+    /// A file beside the card.
+    File { file: OsString, error: io::Error },
+    /// A file that was there before and could not be written to its end.
+    Incomplete { file: OsString, error: io::Error },
+    /// The standard output.
+    Output(io::Error),
     /// Anything else, as a sentence.
     Other(String),
+}
+
+/// More than a refusal itself says.
+#[derive(Debug)]
+pub struct Detail {
+    pub what: String,
+    /// In the place of the refusal's own advice.
+    pub next: Option<String>,
+}
+
+impl Detail {
+    fn new(what: String) -> Detail {
+        Detail { what, next: None }
+    }
+
+    pub fn with_next(what: String, next: &str) -> Detail {
+        Detail {
+            what,
+            next: Some(next.to_string()),
+        }
+    }
 }
 
 impl Failure {
@@ -28,12 +68,25 @@ impl Failure {
         }
     }
 
-    /// Where a command's words were not understood, its help is near.
-    pub fn with_usage(self, command: &str) -> Failure {
+    /// Where a command's words were not understood, the first lines of its help are shown.
+    pub fn with_usage(self, command: &str, help: &str) -> Failure {
         match self {
-            Failure::Usage(text) => Failure::Usage(format!("{text}. See: goofs {command} --help")),
+            Failure::Usage(text) => {
+                let usage = help.split("\n\n").next().unwrap_or_default();
+                Failure::Usage(format!(
+                    "{text}. Nothing was changed.\n\n{usage}\n\nNext: goofs {command} --help tells more."
+                ))
+            }
             other => other,
         }
+    }
+}
+
+/// Makes failures of a card that can't be opened.
+pub fn of_opening(card: &OsStr) -> impl Fn(io::Error) -> Failure + '_ {
+    move |error| Failure::Open {
+        card: card.to_owned(),
+        error,
     }
 }
 
@@ -42,49 +95,151 @@ pub fn of_card<E: Into<Error>>(card: &OsStr) -> impl Fn(E) -> Failure + '_ {
     move |error| Failure::Card {
         card: card.to_owned(),
         error: error.into(),
+        detail: None,
+    }
+}
+
+/// Makes failures of a call with this file name and, if a file is to be made, this id.
+pub fn of_call<'c, E: Into<Error>>(
+    card: &'c OsStr,
+    name: &'c [u8],
+    id: Option<u64>,
+) -> impl Fn(E) -> Failure + 'c {
+    move |error| {
+        let error = error.into();
+        let detail = match &error {
+            Error::Refused(Refusal::BadArgument) => bad_argument(name, id),
+            Error::Refused(Refusal::NotThere) => {
+                Some(Detail::new(format!("the name was {}", shown(name))))
+            }
+            Error::Refused(Refusal::AlreadyThere) => Some(Detail::new(match id {
+                Some(id) => format!("name {}, id {id}", shown(name)),
+                None => format!("name {}", shown(name)),
+            })),
+            _ => None,
+        };
+        Failure::Card {
+            card: card.to_owned(),
+            error,
+            detail,
+        }
+    }
+}
+
+/// Which of the arguments it was, if it was one of these.
+fn bad_argument(name: &[u8], id: Option<u64>) -> Option<Detail> {
+    const NAME: &str = "take a name of 1 to 476 bytes";
+    match id {
+        _ if name.is_empty() => Some(Detail::with_next("the name is empty".to_string(), NAME)),
+        _ if name.len() > LONGEST_NAME => Some(Detail::with_next(
+            format!("the name has {} bytes", name.len()),
+            NAME,
+        )),
+        Some(0) => Some(Detail::with_next(
+            "no file may have the id 0".to_string(),
+            "take another id, or leave --id out",
+        )),
+        _ => None,
     }
 }
 
 /// Makes failures of a file.
-pub fn of_file(file: &OsStr) -> impl Fn(std::io::Error) -> Failure + '_ {
+pub fn of_file(file: &OsStr) -> impl Fn(io::Error) -> Failure + '_ {
     move |error| Failure::File {
         file: file.to_owned(),
         error,
     }
 }
 
-/// What a person can do next.
-fn next(refusal: Refusal, card: &str) -> String {
+/// A file name as a word for the shell, for commands that are shown.
+pub fn quoted(file: &OsStr) -> String {
+    let text = file.to_string_lossy();
+    let is_plain = |letter: char| letter.is_alphanumeric() || "/._-+:,@%=".contains(letter);
+    match !text.is_empty() && text.chars().all(is_plain) {
+        true => text.into_owned(),
+        false => format!("'{}'", text.replace('\'', r"'\''")),
+    }
+}
+
+/// What a person can do after a refusal.
+fn after_refusal(refusal: Refusal, card: &str) -> String {
     match refusal {
         Refusal::NotWholeSectors => {
-            "look whether this is the right file, or make a volume: goofs format".to_string()
-        }
-        Refusal::NotAVolume => {
-            format!("look whether this is the right card, or make a volume: goofs format {card}")
-        }
-        Refusal::OutOfBounds => {
-            "if this is a copy of a card, copy the whole card; else format it again".to_string()
-        }
-        Refusal::Unfinished => format!("format again: goofs format {card} --yes"),
-        Refusal::Waiting => format!("recover first: goofs recover {card}"),
-        Refusal::Damaged => {
-            "keep a copy of the card as it is, then format it and put the files back".to_string()
-        }
-        Refusal::NotSound(_) => {
-            "nothing can be changed on it; keep a copy of the card, then format it and put the files back"
+            "see whether this is the right file and was copied whole; to make a volume: \
+             goofs format --help"
                 .to_string()
         }
+        Refusal::NotAVolume => format!(
+            "see whether this is the right card; to make an empty volume on it: goofs format {card}"
+        ),
+        Refusal::OutOfBounds => format!(
+            "if this is a copy of a card, copy the whole card again; to make an empty volume on it: \
+             goofs format {card} --yes"
+        ),
+        Refusal::Unfinished => format!("format again: goofs format {card} --yes"),
+        Refusal::Waiting => format!("recover first: goofs recover {card}"),
+        Refusal::Damaged => format!(
+            "the files can't be read any more. Keep a copy of the card (dd if={card} of=COPY) if \
+             someone is to look at it; then goofs format {card} --yes, and put the files back"
+        ),
+        Refusal::NotSound(_) => format!(
+            "no file is read or changed on a volume that is not sound. Keep a copy of the card \
+             (dd if={card} of=COPY) if someone is to look at it; then goofs format {card} --yes, and \
+             put the files back"
+        ),
         Refusal::BadArgument => {
-            "mind the bounds: a name has 1 to 476 bytes and no zero byte, an id is not 0, one write has \
-             at most 65536 bytes; a format has 255 to 1024 files and sectors for at least two extents"
+            "keep to the bounds: a name has 1 to 476 bytes and no zero byte, an id is not 0, one \
+             write has at most 65536 bytes; a format has 255 to 1024 files and sectors for at least \
+             two extents"
                 .to_string()
         }
         Refusal::NotThere => format!("see which names there are: goofs ls {card}"),
-        Refusal::AlreadyThere => format!("see names and ids, and take another: goofs ls {card}"),
+        Refusal::AlreadyThere => format!("see names and ids, and take others: goofs ls {card}"),
         Refusal::DirectoryFull => format!("remove a file first: goofs rm {card} NAME"),
         Refusal::PastTheEnd => format!("see the size, and start at or before it: goofs ls {card}"),
-        Refusal::NoRoom => format!("remove or shrink a file first: goofs rm {card} NAME"),
+        Refusal::NoRoom => format!(
+            "see how much is free: goofs info {card}; then remove or shrink a file: \
+             goofs rm {card} NAME"
+        ),
         Refusal::BufferTooShort => "please report this: it should not happen".to_string(),
+    }
+}
+
+/// What happened to a card that can't be opened, and what a person can do.
+fn opening(error: &io::Error, card: &OsStr) -> (String, String) {
+    let card_word = &quoted(card);
+    match error.kind() {
+        ErrorKind::NotFound => (
+            "there is no such file or device".to_string(),
+            match is_device_name(card) {
+                true => "see that the card is in the reader and the name is right: lsblk shows the \
+                         devices"
+                    .to_string(),
+                false => format!(
+                    "see that the name is right; to make an image file: \
+                     goofs format {card_word} --sectors N"
+                ),
+            },
+        ),
+        ErrorKind::PermissionDenied | ErrorKind::ReadOnlyFilesystem => (
+            format!("it may not be opened: {error}"),
+            format!(
+                "see who may read and write it: ls -l {card_word}; a card in a reader often needs root \
+                 (sudo), and a card with a write-protect switch can't be changed while that is on"
+            ),
+        ),
+        ErrorKind::ResourceBusy => (
+            "it is mounted, or another program has it open".to_string(),
+            format!("see that this is the right card; if it is mounted: umount {card_word}"),
+        ),
+        ErrorKind::WouldBlock => (
+            error.to_string(),
+            format!("see which program that is: fuser -v {card_word}"),
+        ),
+        _ => (
+            error.to_string(),
+            "see that the card is in the reader and the name is right".to_string(),
+        ),
     }
 }
 
@@ -92,23 +247,195 @@ impl fmt::Display for Failure {
     fn fmt(&self, f: &mut fmt::Formatter) -> fmt::Result {
         match self {
             Failure::Usage(text) | Failure::Other(text) => f.write_str(text),
-            Failure::File { file, error } => write!(f, "{}: {error}", file.to_string_lossy()),
-            Failure::Card { card, error } => {
+            Failure::Open { card, error } => {
+                let (what, next) = opening(error, card);
                 let card = card.to_string_lossy();
+                write!(f, "{card}: {what}. Nothing was changed.\nNext: {next}.")
+            }
+            Failure::File { file, error } => write!(
+                f,
+                "{}: {error}. Nothing was changed on the card.\nNext: {}.",
+                file.to_string_lossy(),
+                match error.kind() {
+                    ErrorKind::NotFound => "see that the name of this file or its folder is right",
+                    ErrorKind::PermissionDenied => "see who may use it: ls -l shows that",
+                    ErrorKind::AlreadyExists => "name a file that does not exist yet",
+                    ErrorKind::StorageFull => "make room on its disk, or name a file on another one",
+                    _ => "see that this is the right file, and that its disk takes it",
+                }
+            ),
+            Failure::Incomplete { file, error } => write!(
+                f,
+                "{}: {error}. This file is incomplete now. Nothing was changed on the card.\n\
+                 Next: see that its disk has room, and give the command again.",
+                file.to_string_lossy()
+            ),
+            Failure::Output(error) if error.kind() == ErrorKind::BrokenPipe => write!(
+                f,
+                "the standard output was closed before all of it was written.\n\
+                 Next: let the program behind the pipe read to the end, or write to a file."
+            ),
+            Failure::Output(error) => write!(
+                f,
+                "the standard output could not be written: {error}. What was written is incomplete.\n\
+                 Next: see that there is room where it goes, and give the command again."
+            ),
+            Failure::Card {
+                card,
+                error,
+                detail,
+            } => {
+                let (plain, card) = (card.to_string_lossy(), quoted(card));
                 match error {
-                    Error::Refused(refusal) => write!(
-                        f,
-                        "{card}: refused ({}): {refusal}. Nothing was changed.\nNext: {}.",
-                        refusal.number(),
-                        next(*refusal, &card)
-                    ),
+                    Error::Refused(refusal) => {
+                        write!(f, "{plain}: refused ({}): {refusal}", refusal.number())?;
+                        if let Some(detail) = detail {
+                            write!(f, " ({})", detail.what)?;
+                        }
+                        let next = detail.as_ref().and_then(|detail| detail.next.clone());
+                        let next = next.unwrap_or_else(|| after_refusal(*refusal, &card));
+                        write!(f, ". Nothing was changed.\nNext: {next}.")
+                    }
                     Error::Interrupted(_) => write!(
                         f,
-                        "{card}: {error}.\nNext: when the medium can be written again, goofs recover {card}."
+                        "{plain}: {error}.\nNext: when the medium can be written again, \
+                         goofs recover {card}; see what is done: goofs ls {card}; and give the \
+                         command again if it is not."
                     ),
-                    _ => write!(f, "{card}: {error}. Nothing was changed."),
+                    Error::DeviceTooShort { present, .. } => write!(
+                        f,
+                        "{plain}: {error}. Nothing was changed.\n\
+                         Next: give at most --sectors {}, or leave it out to take the whole card.",
+                        present / goofs::device::SECTOR as u64
+                    ),
+                    Error::TooLarge { .. } => write!(
+                        f,
+                        "{plain}: {error}. Nothing was changed.\n\
+                         Next: see whether the memory is limited here (ulimit -v), or use another computer."
+                    ),
+                    _ => write!(
+                        f,
+                        "{plain}: {error}. Nothing was changed.\n\
+                         Next: see that the card is in the reader; try another reader, then another card."
+                    ),
                 }
             }
+        }
+    }
+}
+
+#[cfg(test)]
+mod tests {
+    use super::*;
+    use goofs::error::{Fault, FaultKind, Interrupted};
+
+    const REFUSALS: [Refusal; 14] = [
+        Refusal::NotWholeSectors,
+        Refusal::NotAVolume,
+        Refusal::OutOfBounds,
+        Refusal::Unfinished,
+        Refusal::Waiting,
+        Refusal::Damaged,
+        Refusal::NotSound(Fault {
+            kind: FaultKind::Id,
+            place: 3,
+        }),
+        Refusal::BadArgument,
+        Refusal::NotThere,
+        Refusal::AlreadyThere,
+        Refusal::DirectoryFull,
+        Refusal::PastTheEnd,
+        Refusal::NoRoom,
+        Refusal::BufferTooShort,
+    ];
+
+    /// Every refusal has its number, and every error an advice.
+    #[test]
+    fn refusals_have_number_and_advice() {
+        for (i, refusal) in REFUSALS.into_iter().enumerate() {
+            let text = of_card(OsStr::new("card"))(refusal).to_string();
+            assert!(
+                text.starts_with(&format!("card: refused ({}): ", i + 1)),
+                "{text}"
+            );
+            assert!(text.contains(". Nothing was changed.\nNext: "), "{text}");
+            assert!(text.ends_with('.'), "{text}");
+        }
+    }
+
+    #[test]
+    fn errors_of_the_medium_have_advice() {
+        let cause = || io::Error::other("it is gone");
+        let errors = [
+            (Error::TooLarge { bytes: 9 }, "ulimit"),
+            (
+                Error::DeviceTooShort {
+                    needed: 2_048,
+                    present: 1_024,
+                },
+                "--sectors 2,",
+            ),
+            (Error::Unreadable(cause()), "reader"),
+            (
+                Error::Interrupted(Interrupted {
+                    writes: 7,
+                    landed: 3,
+                    taken: 1,
+                    changes_done: 0,
+                    cause: cause(),
+                }),
+                "goofs recover 'a card'",
+            ),
+        ];
+        for (error, next) in errors {
+            // A change that was interrupted may have changed something.
+            let is_interrupted = matches!(error, Error::Interrupted(_));
+            let text = of_card(OsStr::new("a card"))(error).to_string();
+            let (told, advice) = text.split_once("\nNext: ").expect("there is an advice");
+            assert!(told.starts_with("a card: "), "{text}");
+            assert_eq!(
+                told.contains("Nothing was changed"),
+                !is_interrupted,
+                "{text}"
+            );
+            assert!(advice.contains(next), "{text}");
+        }
+    }
+
+    /// A user who may do everything can't be refused, so the text is made here.
+    #[test]
+    fn cards_that_can_not_be_opened() {
+        for (kind, what, next) in [
+            (ErrorKind::NotFound, "no such file or device", "lsblk"),
+            (
+                ErrorKind::PermissionDenied,
+                "may not be opened",
+                "ls -l /dev/x",
+            ),
+            (
+                ErrorKind::ReadOnlyFilesystem,
+                "may not be opened",
+                "write-protect",
+            ),
+            (ErrorKind::ResourceBusy, "it is mounted", "umount /dev/x"),
+            (ErrorKind::WouldBlock, "", "fuser -v /dev/x"),
+        ] {
+            let text = of_opening(OsStr::new("/dev/x"))(kind.into()).to_string();
+            let (told, advice) = text.split_once(". Nothing was changed.\nNext: ").unwrap();
+            assert!(told.contains(what) && advice.contains(next), "{text}");
+        }
+    }
+
+    #[test]
+    fn words_for_the_shell() {
+        for (word, shown) in [
+            ("/dev/sdb", "/dev/sdb"),
+            ("card of today", "'card of today'"),
+            ("it's", r"'it'\''s'"),
+            ("a;b", "'a;b'"),
+            ("", "''"),
+        ] {
+            assert_eq!(quoted(OsStr::new(word)), shown);
         }
     }
 }

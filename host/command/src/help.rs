@@ -1,4 +1,4 @@
-//! The help texts.
+//! The help texts. The lines of each before the first empty one are its usage.
 
 pub const OVERVIEW: &str = "\
 goofs - files on a volume that survives a cut of the power
@@ -11,66 +11,65 @@ goofs - files on a volume that survives a cut of the power
   goofs rm CARD NAME                 remove a file
   goofs resize CARD NAME SIZE        give a file another size
   goofs recover CARD                 finish a change that was cut
-  goofs format CARD --sectors N      make an empty volume
-  goofs trial CARD CHANGE ...        try a change with every cut of the power, on a copy
+  goofs format CARD [--sectors N]    make an empty volume
+  goofs trial CARD CHANGE ...        try a change with cuts of the power, in memory
 
-CARD is an image file or a block device. `goofs COMMAND --help` tells more.
+CARD is an image file or a block device, such as /dev/sdb; lsblk shows which devices there are.
+To begin, in an image file of 4 MiB:
+
+  goofs format card.img --sectors 8192
+  goofs put card.img gain.txt
+  goofs ls card.img
+  goofs get card.img gain.txt copy.txt
+
+After a cut of the power: goofs recover CARD, then goofs check CARD.
+
+`goofs COMMAND --help` tells more. Names that start with dashes go behind `--`.
 The exit status is 0 only on success, 1 if it failed, 2 if the command was not understood.
-A refused command has changed nothing.
+An error says what happened and what to do next. A number in it, as in `refused (5)`, is that of the
+rules of the volume. A refused command has changed nothing.
 ";
 
-/// The text of a command, if there is such a command.
-pub fn of(command: &str) -> Option<&'static str> {
-    Some(match command {
-        "info" => INFO,
-        "check" => CHECK,
-        "ls" => LS,
-        "get" => GET,
-        "put" => PUT,
-        "rm" => RM,
-        "resize" => RESIZE,
-        "recover" => RECOVER,
-        "format" => FORMAT,
-        "trial" => TRIAL,
-        _ => return None,
-    })
-}
-
-const INFO: &str = "\
+pub const INFO: &str = "\
 goofs info CARD
 
-Shows the volume's geometry, where each area starts, its state, and how many extents are used and
-free. It works on a volume in any state and changes nothing.
+Shows the volume's geometry, where each area starts (in sectors), its state, and how many extents are
+used and free. It works on a volume in any state and changes nothing. The states:
+  clean        no change is under way
+  waiting      a change was cut: goofs recover CARD finishes it
+  damaged      the journal's length is one that no change writes
+  unfinished   a format was cut: format again
 ";
 
-const CHECK: &str = "\
+pub const CHECK: &str = "\
 goofs check CARD
 
 Says whether the volume is clean and sound. If not, the fault and its place are told and the exit
-status is 1. It changes nothing.
+status is 1. It changes nothing, and does not read the bytes of the files.
 ";
 
-const LS: &str = "\
+pub const LS: &str = "\
 goofs ls CARD
 
 Lists the files in the directory's order: size, version, id, mode (octal), time of the last change
-(seconds) and name. Bytes of a name that can't be shown are written as \\xNN.
+(seconds since 1970) and name. Bytes of a name that can't be shown are written as \\xNN.
 ";
 
-const GET: &str = "\
+pub const GET: &str = "\
 goofs get CARD NAME [FILE]
 
 Copies the file NAME from the card to FILE, or to the standard output if FILE is left out or `-`.
-FILE is written only after the whole file was read from the card.
+FILE is written only after the whole file was read from the card. If FILE exists, it is written over.
 ";
 
-const PUT: &str = "\
+pub const PUT: &str = "\
 goofs put CARD FILE [NAME] [--id ID] [--mode M] [--time T]
 
 Copies FILE (`-` is the standard input) to the card under NAME; without NAME, under FILE's last part.
+A file of that name on the card is written over. A name has 1 to 476 bytes.
   --id ID     the id of a new file; else the number after the greatest id in use
   --mode M    the mode of a new file, octal; else 644
-  --time T    the time of the change, in seconds; else now
+  --time T    the time of the change, in seconds since 1970; else now
 
 A put is several changes, one after the other: the file is created if it isn't there, written in
 pieces of at most 65536 bytes, and shortened at the end if it was longer. Each change is atomic: after
@@ -81,58 +80,65 @@ old file after it.
 All changes are tried in memory first: if one is refused, for want of room too, nothing is changed.
 ";
 
-const RM: &str = "\
+pub const RM: &str = "\
 goofs rm CARD NAME [--time T]
 
 Removes the file. Its extents are free at once.
-  --time T    the time of the change, in seconds; else now
+  --time T    the time of the change, in seconds since 1970; else now
 ";
 
-const RESIZE: &str = "\
+pub const RESIZE: &str = "\
 goofs resize CARD NAME SIZE [--time T]
 
 Gives the file another size, in bytes. What is added is zero.
-  --time T    the time of the change, in seconds; else now
+  --time T    the time of the change, in seconds since 1970; else now
 
 A file grows by at most 65536 bytes at a time, so growing by more is several changes, one after the
 other, each atomic. All are tried in memory first: if one is refused, nothing is changed.
 ";
 
-const RECOVER: &str = "\
+pub const RECOVER: &str = "\
 goofs recover CARD
 
 Finishes a change that a cut of the power interrupted. A recovery may itself be cut; then recover
 again. On a clean volume there is nothing to do, and nothing is changed.
 ";
 
-const FORMAT: &str = "\
+pub const FORMAT: &str = "\
 goofs format CARD [--sectors N] [--files F] [--id ID] [--mode M] [--time T] [--yes]
 
-Makes an empty volume. A CARD that isn't there is made, as an image file.
-  --sectors N  the sectors of 512 bytes; else all of CARD
+Makes an empty volume. A CARD that isn't there is made, as an image file; then --sectors is needed.
+  --sectors N  the sectors of 512 bytes, 2048 for each MiB; at least 1057 for 255 files; else all of
+               CARD. An image file that is shorter is made longer.
   --files F    the most files it can hold, 255 to 1024; else 255
   --id ID      the root's id; else 1
   --mode M     the root's mode, octal; else 755
-  --time T     the root's time, in seconds; else now
+  --time T     the root's time, in seconds since 1970; else now
   --yes        needed where CARD holds a volume or other data: they are lost
 
-A format that is cut leaves an unfinished volume: format again.
+A format that is cut leaves an unfinished volume: format again. A block device that is mounted is
+refused.
 ";
 
-const TRIAL: &str = "\
+pub const TRIAL: &str = "\
 goofs trial CARD put FILE [NAME]
 goofs trial CARD create NAME
 goofs trial CARD rm NAME
 goofs trial CARD resize NAME SIZE
 goofs trial CARD write NAME OFFSET FILE
-    [--id ID] [--mode M] [--time T] [--seed S] [--leave FILE]
+    [--id ID] [--mode M] [--time T] [--seed S] [--every] [--leave FILE]
 
-Tries the change on a copy in memory; the card is only read. The power is cut within each group of the
-change's writes: groups of up to 8 writes with every subset landed, larger ones after each write, with
-each single write, and with some subsets drawn at random. After each cut comes a recovery that is cut
-in the same way (one with more than 64 cuts at 64 of them, drawn), and another that is cut at random;
-then one is completed. After that the volume must be sound, and every file as before the change or as
-after it.
+Tries the change in memory; the card is only read. The power is cut within each group of the change's
+writes: groups of up to 8 writes with every subset landed, larger ones after each write, with each
+single write, and with 32 subsets drawn at random. After each cut comes a recovery that is cut in the
+same ways (in 64 of them, drawn, if there are more), and another that is cut at random; then one is
+completed. After that the volume must be sound, and the root and every file as before the change or
+as after it. All files are read again each time, so a trial takes long on a card with many bytes.
+  --seed S      what is drawn at random depends on this number alone; else 1
+  --every       cut recoveries in all the ways, also where there are more than 64
+  --leave FILE  leave the volume, as it is when the power goes right after the last change's start
+                mark, in FILE, which must be new: to look at, or to recover
+  --id, --mode and --time are those of the change, as for put
 
 The table has a line for each change:
   cuts         points at which the change was cut
@@ -141,7 +147,5 @@ The table has a line for each change:
   part         ends as before, but with some sectors of the new bytes in the place of old ones
   after        ends that are as after
   different    anything else; the exit status is then 1
-
-With --leave, the copy as it is when the power goes right after the last change's start mark is left
-in FILE, which must be new: to look at, or to recover.
+The last line says in how many of its ways the first recovery after each cut was cut.
 ";

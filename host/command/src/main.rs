@@ -8,6 +8,7 @@ mod card;
 mod changing;
 mod failure;
 mod help;
+mod output;
 mod progress;
 mod reading;
 mod trial;
@@ -17,53 +18,92 @@ use std::env;
 use std::ffi::OsString;
 use std::process::ExitCode;
 
-use arguments::Arguments;
+use arguments::{Arguments, Known};
 use failure::Failure;
 
+struct Command {
+    name: &'static str,
+    help: &'static str,
+    known: Known,
+    run: fn(&Arguments) -> Result<(), Failure>,
+}
+
+const fn command(
+    name: &'static str,
+    help: &'static str,
+    options: &'static [&'static str],
+    flags: &'static [&'static str],
+    run: fn(&Arguments) -> Result<(), Failure>,
+) -> Command {
+    Command {
+        name,
+        help,
+        known: Known { options, flags },
+        run,
+    }
+}
+
+const COMMANDS: [Command; 10] = [
+    command("info", help::INFO, &[], &[], reading::info),
+    command("check", help::CHECK, &[], &[], reading::check),
+    command("ls", help::LS, &[], &[], reading::ls),
+    command("get", help::GET, &[], &[], reading::get),
+    command("put", help::PUT, &["id", "mode", "time"], &[], writing::put),
+    command("rm", help::RM, &["time"], &[], changing::rm),
+    command("resize", help::RESIZE, &["time"], &[], writing::resize),
+    command("recover", help::RECOVER, &[], &[], changing::recover),
+    command(
+        "format",
+        help::FORMAT,
+        &["sectors", "files", "id", "mode", "time"],
+        &["yes"],
+        changing::format,
+    ),
+    command(
+        "trial",
+        help::TRIAL,
+        &["id", "mode", "time", "seed", "leave"],
+        &["every"],
+        trial::run,
+    ),
+];
+
 fn main() -> ExitCode {
+    goofs::map::end_if_unreadable(failure::UNREADABLE);
     let given: Vec<OsString> = env::args_os().skip(1).collect();
     match run(given) {
         Ok(()) => ExitCode::SUCCESS,
         Err(failure) => {
-            eprintln!("goofs: {failure}");
+            output::complain(&format!("goofs: {failure}\n"));
             ExitCode::from(failure.status())
         }
     }
 }
 
+fn named(name: &str) -> Option<&'static Command> {
+    COMMANDS.iter().find(|command| command.name == name)
+}
+
 fn run(given: Vec<OsString>) -> Result<(), Failure> {
-    let Some((command, rest)) = given.split_first() else {
+    let Some((name, rest)) = given.split_first() else {
         return Err(Failure::Usage(format!("no command\n\n{}", help::OVERVIEW)));
     };
-    let command = command.to_string_lossy();
-    if ["--help", "-h", "help"].contains(&&*command) {
-        let about = rest
-            .first()
-            .and_then(|name| help::of(&name.to_string_lossy()));
-        return reading::print(about.unwrap_or(help::OVERVIEW));
+    let name = name.to_string_lossy();
+    if ["--help", "-h", "help"].contains(&&*name) {
+        let about = rest.first().map(|about| about.to_string_lossy());
+        let command = about.and_then(|about| named(&about));
+        return output::print(command.map_or(help::OVERVIEW, |command| command.help));
     }
-    let Some(text) = help::of(&command) else {
+    let Some(command) = named(&name) else {
         return Err(Failure::Usage(format!(
-            "there is no command {command}\n\n{}",
+            "there is no command {name}\n\n{}",
             help::OVERVIEW
         )));
     };
-    let arguments = Arguments::parse(rest)?;
-    if arguments.help {
-        return reading::print(text);
-    }
-    match &*command {
-        "info" => reading::info(&arguments),
-        "check" => reading::check(&arguments),
-        "ls" => reading::ls(&arguments),
-        "get" => reading::get(&arguments),
-        "format" => changing::format(&arguments),
-        "rm" => changing::rm(&arguments),
-        "recover" => changing::recover(&arguments),
-        "trial" => trial::run(&arguments),
-        "put" => writing::put(&arguments),
-        "resize" => writing::resize(&arguments),
-        _ => unreachable!("every command with a help text is one of these"),
-    }
-    .map_err(|failure| failure.with_usage(&command))
+    Arguments::parse(rest, command.known)
+        .and_then(|arguments| match arguments.flag("help") {
+            true => output::print(command.help),
+            false => (command.run)(&arguments),
+        })
+        .map_err(|failure| failure.with_usage(command.name, command.help))
 }

@@ -3,6 +3,8 @@
 use std::io::{stderr, IsTerminal};
 use std::time::{Duration, Instant};
 
+use crate::output::complain;
+
 pub struct Progress {
     what: &'static str,
     all: u64,
@@ -29,7 +31,7 @@ impl Progress {
     pub fn at(&mut self, done: u64) {
         let now = Instant::now();
         if self.terminal && now >= self.next {
-            eprint!("\r{}: {done} of {}   ", self.what, self.all);
+            complain(&format!("\r{}: {done} of {}   ", self.what, self.all));
             self.next = now + EACH;
             self.written = true;
         }
@@ -40,7 +42,7 @@ impl Progress {
 impl Drop for Progress {
     fn drop(&mut self) {
         if self.written {
-            eprint!("\r{:60}\r", "");
+            complain(&format!("\r{:60}\r", ""));
         }
     }
 }

@@ -3,7 +3,6 @@
 use std::ffi::OsStr;
 use std::fmt::Write as _;
 use std::fs;
-use std::io::{self, Write as _};
 use std::os::unix::ffi::OsStrExt;
 use std::os::unix::fs::MetadataExt;
 
@@ -11,23 +10,11 @@ use goofs::image::State;
 
 use crate::arguments::Arguments;
 use crate::card;
-use crate::failure::{of_card, of_file, Failure};
-
-/// Prints to the standard output, which may be closed.
-pub fn print(text: &str) -> Result<(), Failure> {
-    print_bytes(text.as_bytes())
-}
-
-fn print_bytes(bytes: &[u8]) -> Result<(), Failure> {
-    let mut out = io::stdout().lock();
-    out.write_all(bytes)
-        .and_then(|()| out.flush())
-        .map_err(of_file(OsStr::new("standard output")))
-}
+use crate::failure::{of_call, of_card, quoted, Failure};
+use crate::output::{print, print_bytes, save};
 
 pub fn info(arguments: &Arguments) -> Result<(), Failure> {
     let card = &arguments.places(1, 1)?[0];
-    arguments.no_more_options()?;
     let image = card::read(card)?;
     let summary = image.summary();
     let root = image.root();
@@ -35,7 +22,7 @@ pub fn info(arguments: &Arguments) -> Result<(), Failure> {
         State::Clean => "clean".to_string(),
         State::Waiting(sectors) => format!(
             "waiting: a change of {sectors} sectors was cut; next: goofs recover {}",
-            card.to_string_lossy()
+            quoted(card)
         ),
         State::Damaged => "damaged: the journal's length is out of bounds".to_string(),
         State::Unfinished => "unfinished: a format was cut; format again".to_string(),
@@ -96,7 +83,6 @@ pub fn info(arguments: &Arguments) -> Result<(), Failure> {
 
 pub fn check(arguments: &Arguments) -> Result<(), Failure> {
     let card = &arguments.places(1, 1)?[0];
-    arguments.no_more_options()?;
     let image = card::read(card)?;
     let files = image.entries().map_err(of_card(card))?.len();
     print(&format!("sound, {files} files\n"))
@@ -104,7 +90,6 @@ pub fn check(arguments: &Arguments) -> Result<(), Failure> {
 
 pub fn ls(arguments: &Arguments) -> Result<(), Failure> {
     let card = &arguments.places(1, 1)?[0];
-    arguments.no_more_options()?;
     let image = card::read(card)?;
     let mut text = String::new();
     for entry in image.entries().map_err(of_card(card))? {
@@ -124,19 +109,19 @@ pub fn ls(arguments: &Arguments) -> Result<(), Failure> {
 
 pub fn get(arguments: &Arguments) -> Result<(), Failure> {
     let places = arguments.places(2, 3)?;
-    arguments.no_more_options()?;
     let (card, name) = (&places[0], &places[1]);
     let image = card::read(card)?;
-    let contents = image.contents(name.as_bytes()).map_err(of_card(card))?;
+    let name = name.as_bytes();
+    let contents = image.contents(name).map_err(of_call(card, name, None))?;
     match places.get(2) {
         Some(file) if file != "-" => {
             if same_file(card, file) {
                 return Err(Failure::Other(format!(
-                    "{} is the card itself; nothing was written",
+                    "{} is the card itself. Nothing was changed.\nNext: name another file to write to.",
                     file.to_string_lossy()
                 )));
             }
-            fs::write(file, contents).map_err(of_file(file))
+            save(file, &contents)
         }
         _ => print_bytes(&contents),
     }

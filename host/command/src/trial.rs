@@ -2,28 +2,28 @@
 //! in turn; and what came of it.
 
 use std::ffi::OsStr;
-use std::fs::File;
-use std::io::{self, Write as _};
+use std::fs;
+use std::io;
 use std::os::unix::ffi::OsStrExt;
 
 use goofs::change::{Change, List, Write};
 use goofs::device::SECTOR;
-use goofs::error::Refusal;
-use goofs::image::{Entry, Image};
+use goofs::error::Error;
+use goofs::image::{Entry, Image, Root};
 
 use crate::arguments::Arguments;
 use crate::card;
 use crate::changing::{time, NewFile};
-use crate::failure::{of_card, of_file, Failure};
+use crate::failure::{of_call, of_card, of_file, Failure};
+use crate::output::{print, save_image};
 use crate::progress::Progress;
-use crate::reading::print;
 use crate::writing::{put_changes, resize_changes, size, Source};
 
 /// Groups of up to this many writes are cut in every way.
 const SMALL_GROUP: usize = 8;
 /// So many subsets of a larger group are drawn.
 const DRAWN_SUBSETS: usize = 32;
-/// A recovery is cut in at most so many ways for each cut of the change.
+/// A recovery is cut in at most so many ways for each cut of the change, unless all are asked for.
 const RECOVERY_CUTS: usize = 64;
 
 pub fn run(arguments: &Arguments) -> Result<(), Failure> {
@@ -31,7 +31,6 @@ pub fn run(arguments: &Arguments) -> Result<(), Failure> {
     let (new_file, time) = (NewFile::options(arguments)?, time(arguments)?);
     let seed = arguments.number("seed", 10, u64::MAX)?.unwrap_or(1);
     let leave = arguments.word("leave");
-    arguments.no_more_options()?;
     let (card, kind, rest) = (&places[0], places[1].as_bytes(), &places[2..]);
     let counts = match kind {
         b"put" => 1..=2,
@@ -55,9 +54,16 @@ pub fn run(arguments: &Arguments) -> Result<(), Failure> {
         b"write" => Source::named(&rest[0], &rest[2])?,
         _ => Source::default(),
     };
+    // A trial may be long, so this is found out before it.
+    if let Some(file) = leave.filter(|file| fs::symlink_metadata(file).is_ok()) {
+        return Err(of_file(file)(io::ErrorKind::AlreadyExists.into()));
+    }
 
     let mut image = card::read(card)?;
-    let name = rest[0].as_bytes();
+    let name = match kind {
+        b"put" => source.name.as_bytes(),
+        _ => rest[0].as_bytes(),
+    };
     let changes = match kind {
         b"create" => new_file
             .change(&image, name, time)
@@ -72,43 +78,49 @@ pub fn run(arguments: &Arguments) -> Result<(), Failure> {
             time,
         }]),
     }
-    .map_err(of_card(card))?;
-
+    .map_err(of_call(card, name, new_file.id))?;
     // A refusal of any change comes before the first line of the table.
-    let mut copy = image.clone();
-    for change in &changes {
-        copy.list_of(change)
-            .and_then(|list| copy.carry_out(&list))
-            .map_err(of_card(card))?;
-    }
-    drop(copy);
+    let mut tried = Progress::new("changes tried", changes.len() as u64);
+    image
+        .try_out(&changes, &mut |count| tried.at(count as u64))
+        .map_err(of_call(card, name, new_file.id))?;
+    drop(tried);
 
-    let mut draw = Draw(seed | 1);
+    let mut draw = Draw(seed);
+    let every = arguments.flag("every");
     let mut all = Tally::default();
     print(&format!(
         "{:<28} {:>7} {:>7} {:>10} {:>7} {:>7} {:>7} {:>9}\n",
         "change", "writes", "cuts", "recoveries", "before", "part", "after", "different"
     ))?;
-    let mut last = None;
-    for change in &changes {
-        let (tally, after) = trial(&image, change, &mut draw).map_err(|end| match end {
-            End::Refused(refusal) => of_card(card)(refusal),
-            End::Unfit => Failure::Other("a write list does not fit the image".to_string()),
-        })?;
+    let unfit = |end| match end {
+        End::Failed(error) => of_card(card)(error),
+        End::Unfit => Failure::Other("a write list does not fit the image".to_string()),
+    };
+    for (done, change) in changes.iter().enumerate() {
+        let tally = trial(&mut image, change, &mut draw, every).map_err(unfit)?;
         print(&line(&words(change), &tally))?;
         all.add(&tally);
-        last = Some((std::mem::replace(&mut image, after), change));
-    }
-    if let (Some(file), Some((image, change))) = (leave, last) {
-        leave_cut(&file, image, change).map_err(of_file(&file))?;
+        match leave.filter(|_| done + 1 == changes.len()) {
+            Some(file) => {
+                land_start_mark(&mut image, change).map_err(unfit)?;
+                leave_image(file, &image)?;
+            }
+            None => image
+                .list_of(change)
+                .and_then(|list| image.carry_out(&list))
+                .map_err(of_card(card))?,
+        }
     }
     if changes.len() > 1 {
         print(&line("all", &all))?;
     }
+    print(&closing(&all))?;
     match all.different {
         0 => Ok(()),
         _ => Err(Failure::Other(format!(
-            "{}: {} ends are neither as before nor as after; the first: {}",
+            "{}: {} ends are neither as before nor as after; the first: {}.\n\
+             Next: please report this with the card's image; it should not happen.",
             card.to_string_lossy(),
             all.different,
             all.first_difference.unwrap_or_default()
@@ -116,15 +128,35 @@ pub fn run(arguments: &Arguments) -> Result<(), Failure> {
     }
 }
 
-/// Leaves the image, with the change cut right after its start mark, in a file that is new.
-fn leave_cut(file: &OsStr, mut image: Image, change: &Change) -> io::Result<()> {
-    let list = image.list_of(change).map_err(io::Error::other)?;
-    for write in list.groups().iter().take(2).flatten() {
-        image
-            .land(*write)
-            .ok_or_else(|| io::Error::other("a write past the image"))?;
+/// The change cut right after its start mark.
+fn land_start_mark(image: &mut Image, change: &Change) -> Result<(), End> {
+    let list = image.list_of(change)?;
+    for write in list.groups().into_iter().take(2).flatten() {
+        image.land(write).ok_or(End::Unfit)?;
     }
-    File::create_new(file)?.write_all(image.bytes())
+    Ok(())
+}
+
+fn leave_image(file: &OsStr, image: &Image) -> Result<(), Failure> {
+    let bytes = image.bytes();
+    let mut progress = Progress::new("bytes written", bytes.len() as u64);
+    save_image(file, bytes, &mut |done| progress.at(done))
+}
+
+/// How much of what could be tried was tried.
+fn closing(tally: &Tally) -> String {
+    let (tried, ways) = (tally.recovery_cuts, tally.recovery_ways);
+    let more = match tried < ways {
+        true => "; --every tries them all",
+        false => "",
+    };
+    let large = match tally.large_groups {
+        0 => String::new(),
+        groups => format!(
+            "groups of more than {SMALL_GROUP} writes: {groups}, cut in some of their subsets only\n"
+        ),
+    };
+    format!("{large}recoveries cut in {tried} of {ways} ways{more}\n")
 }
 
 fn words(change: &Change) -> String {
@@ -153,7 +185,12 @@ fn line(what: &str, tally: &Tally) -> String {
 struct Tally {
     writes: u64,
     cuts: u64,
+    /// Groups of the change that are too large for all subsets.
+    large_groups: u64,
     recoveries: u64,
+    /// The first recovery after each cut of the change: in how many ways it was cut, and could be.
+    recovery_cuts: u64,
+    recovery_ways: u64,
     before: u64,
     part: u64,
     after: u64,
@@ -165,7 +202,10 @@ impl Tally {
     fn add(&mut self, other: &Tally) {
         self.writes += other.writes;
         self.cuts += other.cuts;
+        self.large_groups += other.large_groups;
         self.recoveries += other.recoveries;
+        self.recovery_cuts += other.recovery_cuts;
+        self.recovery_ways += other.recovery_ways;
         self.before += other.before;
         self.part += other.part;
         self.after += other.after;
@@ -184,45 +224,59 @@ impl Tally {
 /// Why a trial could not be run.
 #[derive(Debug)]
 enum End {
-    Refused(Refusal),
+    Failed(Error),
     Unfit,
 }
 
-impl From<Refusal> for End {
-    fn from(refusal: Refusal) -> End {
-        End::Refused(refusal)
+impl<E: Into<Error>> From<E> for End {
+    fn from(error: E) -> End {
+        End::Failed(error.into())
     }
 }
 
-/// All files of a volume with their bytes, as the library gives them.
+/// What a volume holds, as the library gives it: the root's fields, and all files with their bytes.
+///
+/// Create and delete raise the root's version and set its change time; write and resize leave the
+/// root as it is. In all of them the root, the entries and the table change with the start mark,
+/// together. So at an end root and entries are both as before or both as after. Only bytes of files
+/// may be old in one sector and new in another, and only where root and entries are as before.
 #[derive(Debug)]
-struct Files(Vec<(Entry, Vec<u8>)>);
+struct Snapshot {
+    root: Root,
+    files: Vec<(Entry, Vec<u8>)>,
+}
 
-impl Files {
-    fn of(image: &Image) -> Result<Files, Refusal> {
+impl Snapshot {
+    fn of(image: &Image) -> Result<Snapshot, Error> {
         image.check()?;
         let mut files = Vec::new();
         for entry in image.entries()? {
             let contents = image.contents(&entry.name)?;
             files.push((entry, contents));
         }
-        Ok(Files(files))
+        Ok(Snapshot {
+            root: image.root(),
+            files,
+        })
     }
 
-    fn same_entries(&self, other: &Files) -> bool {
-        self.0.len() == other.0.len() && self.0.iter().zip(&other.0).all(|(a, b)| a.0 == b.0)
+    fn same_root_and_entries(&self, other: &Snapshot) -> bool {
+        self.root == other.root
+            && self.files.len() == other.files.len()
+            && self.files.iter().zip(&other.files).all(|(a, b)| a.0 == b.0)
     }
 
-    fn same(&self, other: &Files) -> bool {
-        self.same_entries(other) && self.0.iter().zip(&other.0).all(|(a, b)| a.1 == b.1)
+    fn same(&self, other: &Snapshot) -> bool {
+        self.same_root_and_entries(other)
+            && self.files.iter().zip(&other.files).all(|(a, b)| a.1 == b.1)
     }
 
-    /// Entries as before, and each sector of each file as before or as after.
-    fn part_of(&self, before: &Files, after: &Files) -> bool {
-        self.same_entries(before)
-            && self.0.iter().zip(&before.0).all(|(now, was)| {
+    /// Root and entries as before, and each sector of each file as before or as after.
+    fn part_of(&self, before: &Snapshot, after: &Snapshot) -> bool {
+        self.same_root_and_entries(before)
+            && self.files.iter().zip(&before.files).all(|(now, was)| {
                 let becomes = after
-                    .0
+                    .files
                     .iter()
                     .find(|(entry, _)| entry.index == now.0.index)
                     .map_or(&[][..], |(_, contents)| contents);
@@ -269,8 +323,18 @@ type Undo = Vec<(u64, [u8; SECTOR])>;
 fn land(image: &mut Image, groups: &[Vec<Write>], cut: &Cut) -> Result<Undo, End> {
     let whole = groups[..cut.group].iter().flatten();
     let part = cut.landed.iter().map(|place| &groups[cut.group][*place]);
-    whole
-        .chain(part)
+    land_writes(image, whole.chain(part))
+}
+
+fn land_all(image: &mut Image, groups: &[Vec<Write>]) -> Result<Undo, End> {
+    land_writes(image, groups.iter().flatten())
+}
+
+fn land_writes<'w>(
+    image: &mut Image,
+    writes: impl Iterator<Item = &'w Write<'w>>,
+) -> Result<Undo, End> {
+    writes
         .map(|write| Ok((write.sector, image.land(*write).ok_or(End::Unfit)?)))
         .collect()
 }
@@ -284,40 +348,50 @@ fn take_back(image: &mut Image, undo: Undo) {
     }
 }
 
-/// Cuts one change in every way. Gives the volume after it, too.
-fn trial(image: &Image, change: &Change, draw: &mut Draw) -> Result<(Tally, Image), End> {
+/// Cuts one change in every way. The image is then as it was.
+fn trial(image: &mut Image, change: &Change, draw: &mut Draw, every: bool) -> Result<Tally, End> {
     let list = image.list_of(change)?;
-    let mut after_image = image.clone();
-    after_image.carry_out(&list)?;
-    let mut scene = Scene {
-        before: Files::of(image)?,
-        after: Files::of(&after_image)?,
-        tally: Tally::default(),
-    };
     let groups = list.groups();
+    let before = Snapshot::of(image)?;
+    let undo = land_all(image, &groups)?;
+    let after = Snapshot::of(image)?;
+    take_back(image, undo);
     let cuts = cuts(&groups, draw);
-    scene.tally.writes = groups.iter().map(Vec::len).sum::<usize>() as u64;
-    scene.tally.cuts = cuts.len() as u64;
+    let mut scene = Scene {
+        before,
+        after,
+        every,
+        tally: Tally {
+            writes: groups.iter().map(Vec::len).sum::<usize>() as u64,
+            large_groups: groups
+                .iter()
+                .filter(|group| group.len() > SMALL_GROUP)
+                .count() as u64,
+            cuts: cuts.len() as u64,
+            ..Tally::default()
+        },
+    };
     let mut progress = Progress::new("cuts", cuts.len() as u64);
-    let mut now = image.clone();
     for (done, cut) in cuts.iter().enumerate() {
-        let undo = land(&mut now, &groups, cut)?;
+        let undo = land(image, &groups, cut)?;
         let point = format!(
             "cut in group {} with {} of its {} writes landed",
             cut.group + 1,
             cut.landed.len(),
             groups[cut.group].len()
         );
-        scene.recoveries(&mut now, &point, draw)?;
-        take_back(&mut now, undo);
+        scene.recoveries(image, &point, draw)?;
+        take_back(image, undo);
         progress.at(done as u64 + 1);
     }
-    Ok((scene.tally, after_image))
+    Ok(scene.tally)
 }
 
 struct Scene {
-    before: Files,
-    after: Files,
+    before: Snapshot,
+    after: Snapshot,
+    /// Whether recoveries are cut in all ways.
+    every: bool,
     tally: Tally,
 }
 
@@ -329,9 +403,11 @@ impl Scene {
         };
         let groups = list.groups();
         let mut cuts = cuts(&groups, draw);
-        while cuts.len() > RECOVERY_CUTS {
+        self.tally.recovery_ways += cuts.len() as u64;
+        while cuts.len() > RECOVERY_CUTS && !self.every {
             cuts.swap_remove(draw.below(cuts.len()));
         }
+        self.tally.recovery_cuts += cuts.len() as u64;
         for cut in &cuts {
             let undo = land(image, &groups, cut)?;
             self.tally.recoveries += 1;
@@ -380,47 +456,44 @@ impl Scene {
                 return Ok(None);
             }
         };
-        let groups = list.groups();
-        let undo = match groups.last() {
-            None => Undo::new(),
-            Some(last) => {
-                let all = Cut {
-                    group: groups.len() - 1,
-                    landed: (0..last.len()).collect(),
-                };
-                land(image, &groups, &all)?
-            }
-        };
+        let undo = land_all(image, &list.groups())?;
         self.judge(image, point);
         take_back(image, undo);
         Ok((!list.is_empty()).then_some(list))
     }
 
     fn judge(&mut self, image: &Image, point: &str) {
-        match Files::of(image) {
-            Err(refusal) => {
+        match Snapshot::of(image) {
+            Err(Error::Refused(refusal)) => {
                 let number = refusal.number();
                 self.tally
                     .differs(format!("{point}: a call gives {number} ({refusal})"));
             }
-            Ok(files) if files.same(&self.before) => self.tally.before += 1,
-            Ok(files) if files.same(&self.after) => self.tally.after += 1,
-            Ok(files) if files.part_of(&self.before, &self.after) => self.tally.part += 1,
-            Ok(_) => self.tally.differs(format!("{point}: other files or bytes")),
+            Err(error) => self.tally.differs(format!("{point}: {error}")),
+            Ok(now) if now.same(&self.before) => self.tally.before += 1,
+            Ok(now) if now.same(&self.after) => self.tally.after += 1,
+            Ok(now) if now.part_of(&self.before, &self.after) => self.tally.part += 1,
+            Ok(_) => self
+                .tally
+                .differs(format!("{point}: another root, other files or other bytes")),
         }
     }
 }
 
-/// A small generator of random numbers (xorshift); a trial is repeated with its seed.
+/// A small generator of random numbers (splitmix64); a trial is repeated with its seed. The first
+/// number is a one-to-one function of the seed, so all seeds draw differently.
 struct Draw(u64);
 
 impl Draw {
+    fn number(&mut self) -> u64 {
+        self.0 = self.0.wrapping_add(0x9e37_79b9_7f4a_7c15);
+        let mixed = (self.0 ^ self.0 >> 30).wrapping_mul(0xbf58_476d_1ce4_e5b9);
+        let mixed = (mixed ^ mixed >> 27).wrapping_mul(0x94d0_49bb_1331_11eb);
+        mixed ^ mixed >> 31
+    }
+
     fn below(&mut self, bound: usize) -> usize {
-        self.0 ^= self.0 << 13;
-        self.0 ^= self.0 >> 7;
-        self.0 ^= self.0 << 17;
-        // The low bits of this generator repeat early.
-        ((self.0 >> 32) as usize) % bound
+        (self.number() % bound as u64) as usize
     }
 }
 
@@ -444,61 +517,150 @@ mod tests {
         Image::new(medium.bytes).expect("it is a volume")
     }
 
-    fn with_file(image: &Image, name: &[u8]) -> Image {
-        let mut image = image.clone();
+    fn with_file(mut image: Image, name: &[u8]) -> Image {
         let create = Change::Create {
             name,
             id: 1,
             mode: 0,
             time: 2,
         };
-        let list = image.list_of(&create).unwrap();
-        image.carry_out(&list).unwrap();
+        carry_out(&mut image, &create);
         image
+    }
+
+    fn carry_out(image: &mut Image, change: &Change) {
+        let list = image.list_of(change).unwrap();
+        image.carry_out(&list).unwrap();
+    }
+
+    /// The image with these bytes in a sector.
+    fn changed(mut image: Image, sector: u64, at: usize, bytes: &[u8]) -> Image {
+        let start = sector as usize * SECTOR;
+        let mut contents: [u8; SECTOR] = image.bytes()[start..start + SECTOR].try_into().unwrap();
+        contents[at..at + bytes.len()].copy_from_slice(bytes);
+        let write = Write {
+            sector,
+            contents: &contents,
+        };
+        image.land(write).unwrap();
+        image
+    }
+
+    fn judged(before: &Image, after: &Image, ends: &[Image]) -> Tally {
+        let mut scene = Scene {
+            before: Snapshot::of(before).unwrap(),
+            after: Snapshot::of(after).unwrap(),
+            every: false,
+            tally: Tally::default(),
+        };
+        for image in ends {
+            scene.judge(image, "here");
+        }
+        scene.tally
     }
 
     /// Ends that are neither as before nor as after are found and told.
     #[test]
     fn differences_are_counted() {
-        let (before, after) = (sample(), with_file(&sample(), b"f"));
-        let other = with_file(&sample(), b"g");
-        let mut unsound = sample();
-        unsound.land(Write {
-            sector: 2,
-            contents: &[1; SECTOR],
-        });
-        let mut scene = Scene {
-            before: Files::of(&before).unwrap(),
-            after: Files::of(&after).unwrap(),
-            tally: Tally::default(),
-        };
-        for image in [&before, &after, &other, &unsound] {
-            scene.judge(image, "here");
-        }
-        let tally = scene.tally;
+        let (before, after) = (sample(), with_file(sample(), b"f"));
+        let other = with_file(sample(), b"g");
+        let unsound = changed(sample(), 2, 0, &[1; SECTOR]);
+        let ends = [sample(), with_file(sample(), b"f"), other, unsound];
+        let tally = judged(&before, &after, &ends);
         assert_eq!((tally.before, tally.after, tally.part), (1, 1, 0));
         assert_eq!(tally.different, 2);
         assert_eq!(
             tally.first_difference.as_deref(),
-            Some("here: other files or bytes")
+            Some("here: another root, other files or other bytes")
         );
+    }
+
+    /// Each field of the root counts, and it must be of the same side as the entries.
+    #[test]
+    fn the_root_is_compared() {
+        let (before, after) = (sample(), with_file(sample(), b"f"));
+        let root_of = |image: &Image| image.bytes()[SECTOR..2 * SECTOR].to_vec();
+        let mixed = [
+            changed(sample(), 1, 0, &root_of(&after)),
+            changed(with_file(sample(), b"f"), 1, 0, &root_of(&before)),
+        ];
+        let tally = judged(&before, &after, &mixed);
+        assert_eq!(
+            (tally.different, tally.before + tally.after + tally.part),
+            (2, 0)
+        );
+
+        // The last byte of the version, id, mode, access time and change time.
+        let fields = [3, 11, 15, 19, 23].map(|last| changed(sample(), 1, last, &[77]));
+        let tally = judged(&before, &after, &fields);
+        assert_eq!(
+            (tally.different, tally.before + tally.after + tally.part),
+            (5, 0)
+        );
+    }
+
+    /// Sectors may be mixed only where root and entries are as before.
+    #[test]
+    fn mixed_sectors_need_the_root_of_before() {
+        let file = || {
+            let mut image = with_file(sample(), b"f");
+            carry_out(&mut image, &write(&[1; 1_024]));
+            image
+        };
+        fn write(data: &[u8]) -> Change<'_> {
+            Change::Write {
+                name: b"f",
+                offset: 0,
+                data,
+                time: 3,
+            }
+        }
+        let (before, mut after) = (file(), file());
+        carry_out(&mut after, &write(&[2; 1_024]));
+        let data_at = before.summary().data_at();
+        let part = changed(file(), data_at, 0, &[2; SECTOR]);
+        let other = changed(file(), data_at, 0, &[3; SECTOR]);
+        let root = changed(changed(file(), data_at, 0, &[2; SECTOR]), 1, 3, &[77]);
+        let tally = judged(&before, &after, &[part, other, root]);
+        assert_eq!((tally.part, tally.different), (1, 2));
+    }
+
+    #[test]
+    fn seeds_draw_differently() {
+        let drawn = |seed| {
+            let mut draw = Draw(seed);
+            (0..4).map(|_| draw.number()).collect::<Vec<_>>()
+        };
+        let seeds = [0, 1, 2, 3, 4, 5, u64::MAX - 1, u64::MAX];
+        for (i, one) in seeds.iter().enumerate() {
+            assert_eq!(drawn(*one), drawn(*one));
+            for other in &seeds[..i] {
+                assert_ne!(drawn(*one), drawn(*other), "{one} and {other}");
+            }
+        }
+        // Subsets are drawn by single bits.
+        let mut draw = Draw(0);
+        let ones = (0..1_000).filter(|_| draw.below(2) == 1).count();
+        assert!((400..600).contains(&ones), "{ones}");
     }
 
     /// An image is taken back to the byte after each cut.
     #[test]
     fn landing_is_taken_back() {
-        let image = with_file(&sample(), b"f");
+        let mut image = with_file(sample(), b"f");
         let delete = Change::Delete {
             name: b"f",
             time: 3,
         };
         let list = image.list_of(&delete).unwrap();
         let groups = list.groups();
-        let mut now = image.clone();
+        let held = image.bytes().to_vec();
         for cut in cuts(&groups, &mut Draw(1)) {
-            let undo = land(&mut now, &groups, &cut).unwrap();
-            take_back(&mut now, undo);
-            assert!(now == image);
+            let undo = land(&mut image, &groups, &cut).unwrap();
+            take_back(&mut image, undo);
+            assert!(image.bytes() == held);
         }
+        trial(&mut image, &delete, &mut Draw(1), false).unwrap();
+        assert!(image.bytes() == held);
     }
 }

@@ -9,12 +9,11 @@ use std::path::Path;
 use goofs::change::Change;
 use goofs::error::Refusal;
 use goofs::image::{Image, LONGEST_TRANSFER};
-use goofs::volume::Volume;
 
 use crate::arguments::{self, Arguments};
 use crate::card;
 use crate::changing::{apply, time, NewFile};
-use crate::failure::{of_card, of_file, Failure};
+use crate::failure::{of_call, of_card, of_file, Failure};
 
 /// A size, offset or the like among the places.
 pub fn size(word: &OsStr) -> Result<u64, Failure> {
@@ -98,13 +97,13 @@ pub fn put_changes<'c>(
 pub fn put(arguments: &Arguments) -> Result<(), Failure> {
     let places = arguments.places(2, 3)?;
     let (new_file, time) = (NewFile::options(arguments)?, time(arguments)?);
-    arguments.no_more_options()?;
     let card = &places[0];
     let source = Source::read(&places[1..])?;
-    let mut volume = Volume::open(card::exclusive(card)?).map_err(of_card(card))?;
+    let mut volume = card::volume(card)?;
     let image = volume.image().map_err(of_card(card))?;
-    let changes = put_changes(image, &source, &new_file, time).map_err(of_card(card))?;
-    apply(card, &mut volume, &changes)
+    let failure = of_call(card, source.name.as_bytes(), new_file.id);
+    let changes = put_changes(image, &source, &new_file, time).map_err(failure)?;
+    apply(&mut volume, &changes).map_err(of_call(card, source.name.as_bytes(), new_file.id))
 }
 
 /// One change, or several where the file grows by more than one may.
@@ -137,10 +136,9 @@ pub fn resize_changes<'c>(
 pub fn resize(arguments: &Arguments) -> Result<(), Failure> {
     let places = arguments.places(3, 3)?;
     let time = time(arguments)?;
-    arguments.no_more_options()?;
     let (card, name, size) = (&places[0], places[1].as_bytes(), size(&places[2])?);
-    let mut volume = Volume::open(card::exclusive(card)?).map_err(of_card(card))?;
+    let mut volume = card::volume(card)?;
     let image = volume.image().map_err(of_card(card))?;
-    let changes = resize_changes(image, name, size, time).map_err(of_card(card))?;
-    apply(card, &mut volume, &changes)
+    let changes = resize_changes(image, name, size, time).map_err(of_call(card, name, None))?;
+    apply(&mut volume, &changes).map_err(of_call(card, name, None))
 }

@@ -8,7 +8,7 @@ use std::path::Path;
 
 use goofs::change::Change;
 use goofs::image::Image;
-use shared::{bad, formatted, good, numbers_of_trial, on_failing_medium, Folder};
+use shared::{bad, formatted, good, numbers_of_trial, on_failing_medium, trial, Folder};
 
 /// Puts an empty file on the card with the library, as put does for an empty file.
 fn create(card: &Path, name: &[u8], id: u64) {
@@ -128,7 +128,7 @@ fn recovery_after_a_cut_by_hand() {
     let groups = list.groups();
     // Before the start mark the change is not done; after it, it is.
     for (whole, part, done) in [(0, 2, false), (1, 0, false), (2, 0, true), (2, 1, true)] {
-        let mut cut = image.clone();
+        let mut cut = Image::new(image.bytes().to_vec()).unwrap();
         for write in groups[..whole]
             .iter()
             .flatten()
@@ -227,4 +227,53 @@ fn trials_of_create_and_rm() {
     assert!(bad("trial", &card, &["create", "f"], 1).contains("refused (10)"));
     bad("trial", &card, &["shake", "g"], 2);
     bad("trial", &card, &["rm", "g", "h"], 2);
+}
+
+/// A file with extents in four table sectors: its removal has six targets, and a recovery can be cut
+/// in 64 + 2 ways, more than are tried unless all are asked for. The closing line says so.
+#[test]
+fn recoveries_that_are_not_cut_in_every_way() {
+    let folder = Folder::new("every");
+    let card = folder.file("card");
+    // 512 extents of 65,536 bytes, 128 of them in a table sector.
+    let sectors = (546 + 255 + 512 * 128).to_string();
+    good("format", &card, &["--sectors", &sectors, "--time", "1"]);
+    create(&card, b"f", 2);
+    let mut bytes = fs::read(&card).unwrap();
+    bytes[2 * 512 + 2..2 * 512 + 10].copy_from_slice(&(4_u64 * 65_536).to_be_bytes());
+    for offset in 0..4 {
+        let at = (34 + 255 + offset as usize) * 512;
+        bytes[at..at + 4].copy_from_slice(&[0, 0, 0, offset]);
+    }
+    fs::write(&card, bytes).unwrap();
+    assert_eq!(good("check", &card, &[]), "sound, 1 files\n");
+
+    let ([writes, cuts, ..], [tried, ways]) = trial(&card, &["rm", "f"]);
+    // Groups of 7, 1, 6 and 1 writes. 1 + 64 + 1 of the cuts leave something to recover.
+    assert_eq!((writes, cuts), (15, 128 + 2 + 64 + 2));
+    assert_eq!((tried, ways), (66 * 64, 66 * 66));
+    let ([_, _, recoveries, ..], [tried, ways]) = trial(&card, &["rm", "f", "--every"]);
+    assert_eq!((tried, ways), (66 * 66, 66 * 66));
+    assert!(recoveries > 2 * tried);
+    let said = good("trial", &card, &["rm", "f"]);
+    assert!(said.ends_with("ways; --every tries them all\n"), "{said}");
+    // Which ways are left out is drawn, and so is how many recoveries there are after them.
+    let with_seed = |seed: u64| good("trial", &card, &["rm", "f", "--seed", &seed.to_string()]);
+    assert_eq!(with_seed(1), said);
+    assert!((0..4).any(|k| with_seed(2 * k) != with_seed(2 * k + 1)));
+    bad("trial", &card, &["rm", "f", "--every=1"], 2);
+}
+
+/// A group of more than eight writes is not cut in every subset, and that is said.
+#[test]
+fn groups_that_are_not_cut_in_every_subset() {
+    let folder = Folder::new("subsets");
+    let card = formatted(&folder);
+    create(&card, b"f", 2);
+    let file = folder.write("source", &[1; 5_000]);
+    let words = ["write", "f", "0", file.to_str().unwrap()];
+    let said = good("trial", &card, &words);
+    let line = "groups of more than 8 writes: 1, cut in some of their subsets only\n";
+    assert!(said.contains(line), "{said}");
+    assert!(!good("trial", &card, &["rm", "f"]).contains("groups of more"));
 }

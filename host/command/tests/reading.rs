@@ -140,28 +140,6 @@ fn the_card_is_not_written_over_by_get() {
 }
 
 #[test]
-fn a_volume_too_large_for_memory_is_refused() {
-    let folder = Folder::new("large");
-    let card = sample(&folder);
-    // 65,535 extents of 256 sectors: 8 GiB. The file has a hole and takes no room.
-    let mut image = fs::read(&card).unwrap();
-    image[2..8].copy_from_slice(&[255, 255, 0, 0, 1, 0]);
-    fs::write(&card, image).unwrap();
-    File::options()
-        .write(true)
-        .open(&card)
-        .and_then(|file| file.set_len(9 << 30))
-        .unwrap();
-    let said = on("info", &card, &[]);
-    assert_eq!(said.status, 1);
-    assert!(
-        said.err.contains("takes at most 4294967296"),
-        "{}",
-        said.err
-    );
-}
-
-#[test]
 fn a_locked_card_is_left_alone() {
     let folder = Folder::new("locked");
     let card = sample(&folder);

@@ -3,7 +3,7 @@
 
 use crate::device::SECTOR;
 use crate::error::Refusal;
-use crate::image::Image;
+use crate::image::{claimed, Image, Summary};
 
 /// Bytes of a list's record: the sector number, then the contents.
 pub const RECORD: usize = 8 + SECTOR;
@@ -147,6 +147,31 @@ impl Image {
         Ok(List { bytes })
     }
 
+    /// The first refusal that these changes would meet, one after the other. The image is then as it
+    /// was. Whether a change is refused depends on the metadata alone, so only they are changed and
+    /// put back, and many writes take little memory. `progress` hears how many are tried.
+    pub fn try_out(
+        &mut self,
+        changes: &[Change],
+        progress: &mut dyn FnMut(usize),
+    ) -> Result<(), Refusal> {
+        let data_at = self.summary().data_at();
+        let metadata = 0..data_at as usize * SECTOR;
+        let held = self.bytes[metadata.clone()].to_vec();
+        let outcome = changes.iter().enumerate().try_for_each(|(tried, change)| {
+            let list = self.list_of(change)?;
+            for write in list.groups().into_iter().flatten() {
+                if write.sector < data_at {
+                    self.land(write);
+                }
+            }
+            progress(tried + 1);
+            Ok(())
+        });
+        self.bytes[metadata].copy_from_slice(&held);
+        outcome
+    }
+
     /// Does the writes of a list on the image.
     pub fn carry_out(&mut self, list: &List) -> Result<(), Refusal> {
         Refusal::judge(crate::carry_out(&mut self.bytes, &list.bytes), 0, 0)
@@ -176,6 +201,26 @@ pub struct Format {
 }
 
 impl Format {
+    /// The geometry of the volume that it makes, which its first record names.
+    pub fn geometry(&self) -> Result<Summary, Refusal> {
+        let first = self.record(0)?.expect("a format that has a geometry");
+        Ok(claimed(&first[8..]))
+    }
+
+    /// How many records it has, barriers included.
+    pub fn records(&self) -> Result<u64, Refusal> {
+        // Superblock twice, root, three barriers, at most 1,024 entries and 512 table sectors.
+        let (mut least, mut most) = (0, 6 + 1_024 + 512);
+        while least < most {
+            let middle = (least + most) / 2;
+            match self.record(middle)? {
+                Some(_) => least = middle + 1,
+                None => most = middle,
+            }
+        }
+        Ok(least)
+    }
+
     /// The record at this position; none past the last.
     pub fn record(&self, position: u64) -> Result<Option<[u8; RECORD]>, Refusal> {
         let mut record = [0; RECORD];

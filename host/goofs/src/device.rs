@@ -5,6 +5,8 @@ use std::fs::{File, TryLockError};
 use std::io::{self, Seek, SeekFrom};
 use std::os::unix::fs::FileExt;
 
+use crate::map::Map;
+
 /// Bytes of a sector.
 pub const SECTOR: usize = 512;
 
@@ -20,6 +22,11 @@ pub trait Device {
 
     /// Comes back when all writes before it are on the medium.
     fn barrier(&mut self) -> io::Result<()>;
+
+    /// A map of the first bytes into memory. A device that has none is read instead.
+    fn map(&self, _length: u64) -> Option<Map> {
+        None
+    }
 }
 
 /// An image in memory.
@@ -99,9 +106,9 @@ impl Disk {
         Ok(Disk { file, length })
     }
 
-    /// Makes a file as long as this if it is shorter; a block device can't be.
+    /// Makes a file as long as this if it is shorter. A block device stays as it is.
     pub fn lengthen(&mut self, length: u64) -> io::Result<()> {
-        if self.length < length {
+        if self.length < length && self.file.metadata()?.is_file() {
             self.file.set_len(length)?;
             self.length = length;
         }
@@ -138,5 +145,12 @@ impl Device for Disk {
     /// An fdatasync.
     fn barrier(&mut self) -> io::Result<()> {
         self.file.sync_data()
+    }
+
+    fn map(&self, length: u64) -> Option<Map> {
+        if length > self.length {
+            return None;
+        }
+        Map::new(&self.file, usize::try_from(length).ok()?)
     }
 }

@@ -175,7 +175,8 @@ impl fmt::Display for Fault {
 pub enum Error {
     /// The volume code refused. Nothing was written.
     Refused(Refusal),
-    /// The volume does not fit into memory as this library handles it. Nothing was written.
+    /// The volume can be neither mapped into memory nor held in it, or a file can't be held. Nothing
+    /// was written. The longest format has some 2^56 bytes, more than a process has addresses.
     TooLarge { bytes: u64 },
     /// The device has fewer bytes than the format asks for. Nothing was written.
     DeviceTooShort { needed: u64, present: u64 },
@@ -207,8 +208,7 @@ impl fmt::Display for Error {
             Error::Refused(refusal) => refusal.fmt(f),
             Error::TooLarge { bytes } => write!(
                 f,
-                "the volume has {bytes} bytes; this program holds a volume in memory and takes at most {}",
-                crate::image::LARGEST
+                "{bytes} bytes are to be held, and this system has no memory or addresses for so many"
             ),
             Error::DeviceTooShort { needed, present } => write!(
                 f,

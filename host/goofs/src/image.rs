@@ -1,11 +1,13 @@
-//! A volume's image in memory: the reading calls with Rust's types. An `Image` always has a valid
-//! geometry; whether it is clean and sound, each call finds out.
+//! A volume's image in memory, read or mapped: the reading calls with Rust's types. An `Image` always
+//! has a valid geometry; whether it is clean and sound, each call finds out.
+
+use std::fmt;
+use std::ops::{Deref, DerefMut};
 
 use crate::device::{Device, SECTOR};
 use crate::error::{Error, Refusal};
+use crate::map::Map;
 
-/// The longest image that is taken into memory, in bytes.
-pub const LARGEST: u64 = 4 << 30;
 /// The longest name.
 pub const LONGEST_NAME: usize = 476;
 /// The most bytes that one read or write moves.
@@ -16,9 +18,43 @@ const ENTRIES_IN_TABLE_SECTOR: u64 = 128;
 const NO_FILE: [u8; 2] = [255, 255];
 const FREE: [u8; 2] = [0, 0];
 
-#[derive(Clone, Debug, PartialEq, Eq)]
+/// It can't be cloned, as a volume may be far longer than the memory.
+#[derive(Debug)]
 pub struct Image {
-    pub(crate) bytes: Vec<u8>,
+    pub(crate) bytes: Bytes,
+}
+
+/// The bytes of an image.
+pub(crate) enum Bytes {
+    Read(Vec<u8>),
+    Mapped(Map),
+}
+
+impl Deref for Bytes {
+    type Target = [u8];
+
+    fn deref(&self) -> &[u8] {
+        match self {
+            Bytes::Read(bytes) => bytes,
+            Bytes::Mapped(map) => map,
+        }
+    }
+}
+
+impl DerefMut for Bytes {
+    fn deref_mut(&mut self) -> &mut [u8] {
+        match self {
+            Bytes::Read(bytes) => bytes,
+            Bytes::Mapped(map) => map,
+        }
+    }
+}
+
+/// The length only.
+impl fmt::Debug for Bytes {
+    fn fmt(&self, f: &mut fmt::Formatter) -> fmt::Result {
+        write!(f, "{} bytes", self.len())
+    }
 }
 
 #[derive(Clone, Copy, Debug, PartialEq, Eq)]
@@ -108,44 +144,71 @@ fn number(bytes: &[u8]) -> u64 {
         .fold(0, |sum, byte| sum << 8 | u64::from(*byte))
 }
 
-/// How many sectors the superblock says the volume has. Only a measure of what to read: the volume
-/// code judges what was read.
-fn claimed_sectors(superblock: &[u8]) -> u64 {
+/// The geometry that a superblock claims. Only a measure of what to read: the volume code judges
+/// what was read.
+pub(crate) fn claimed(superblock: &[u8]) -> Summary {
     Summary {
         files: number(&superblock[0..2]),
         extents: number(&superblock[2..4]),
         extent_sectors: number(&superblock[4..8]),
         state: State::Clean,
     }
-    .sectors()
+}
+
+/// So many zeros, if the memory takes them.
+fn zeros(length: u64) -> Result<Vec<u8>, Error> {
+    let too_large = || Error::TooLarge { bytes: length };
+    let length = usize::try_from(length).map_err(|_| too_large())?;
+    let mut bytes = Vec::new();
+    bytes.try_reserve_exact(length).map_err(|_| too_large())?;
+    bytes.resize(length, 0);
+    Ok(bytes)
+}
+
+/// The first bytes of a device, read into memory.
+fn first_bytes(device: &dyn Device, length: u64) -> Result<Vec<u8>, Error> {
+    let mut bytes = zeros(length)?;
+    device.read(0, &mut bytes).map_err(Error::Unreadable)?;
+    Ok(bytes)
 }
 
 impl Image {
     /// An image of these bytes; refused with 1 to 3.
     pub fn new(bytes: Vec<u8>) -> Result<Image, Refusal> {
+        Image::judged(Bytes::Read(bytes))
+    }
+
+    fn judged(bytes: Bytes) -> Result<Image, Refusal> {
         Refusal::judge(crate::summary(&bytes).code, 0, 0)?;
         Ok(Image { bytes })
     }
 
-    /// Reads the volume, and no more than it, from a device.
+    /// The volume, and no more than it, from a device. If the device has a map, only the metadata
+    /// are read at once, and of the rest what a call looks at.
     pub fn load(device: &dyn Device) -> Result<Image, Error> {
         let length = device.length();
         if length == 0 || !length.is_multiple_of(SECTOR as u64) {
             return Err(Refusal::NotWholeSectors.into());
         }
-        let mut bytes = vec![0; SECTOR];
-        device.read(0, &mut bytes).map_err(Error::Unreadable)?;
+        let superblock = first_bytes(device, SECTOR as u64)?;
+        let claimed = claimed(&superblock);
+        let bytes = claimed.sectors() * SECTOR as u64;
         // A first sector that is no volume's, or whose volume is longer than the device, is refused
         // for what it is; nothing else needs to be read for that.
-        let claimed = claimed_sectors(&bytes).saturating_mul(SECTOR as u64);
-        if crate::summary(&bytes).code != Refusal::NotAVolume.number() && claimed <= length {
-            if claimed > LARGEST {
-                return Err(Error::TooLarge { bytes: claimed });
-            }
-            bytes.resize(claimed as usize, 0);
-            device.read(0, &mut bytes).map_err(Error::Unreadable)?;
+        if crate::summary(&superblock).code == Refusal::NotAVolume.number() || bytes > length {
+            return Ok(Image::new(superblock)?);
         }
-        Ok(Image::new(bytes)?)
+        // Read the ordinary way, so that a card that can't be read gives an ordinary error. The
+        // map's soundness needs this copy, too.
+        let metadata = first_bytes(device, claimed.data_at() * SECTOR as u64)?;
+        let bytes = match device.map(bytes) {
+            Some(mut map) => {
+                map[..metadata.len()].copy_from_slice(&metadata);
+                Bytes::Mapped(map)
+            }
+            None => Bytes::Read(first_bytes(device, bytes)?),
+        };
+        Ok(Image::judged(bytes)?)
     }
 
     pub fn bytes(&self) -> &[u8] {
@@ -247,8 +310,8 @@ impl Image {
     }
 
     /// The whole file.
-    pub fn contents(&self, name: &[u8]) -> Result<Vec<u8>, Refusal> {
-        let mut contents = vec![0; self.find(name)?.size as usize];
+    pub fn contents(&self, name: &[u8]) -> Result<Vec<u8>, Error> {
+        let mut contents = zeros(self.find(name)?.size)?;
         for (i, part) in contents.chunks_mut(LONGEST_TRANSFER).enumerate() {
             self.read(name, (i * LONGEST_TRANSFER) as u64, part)?;
         }

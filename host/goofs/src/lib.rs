@@ -18,6 +18,8 @@ pub mod change;
 pub mod device;
 pub mod error;
 pub mod image;
+#[allow(unsafe_code)]
+pub mod map;
 pub mod volume;
 
 pub use ffi::{

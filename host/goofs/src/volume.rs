@@ -1,4 +1,4 @@
-//! A volume on a device: its image is read once and kept in step with what is written. Every change
+//! A volume on a device: its image is loaded once and kept in step with what is written. Every change
 //! goes to the device record by record, and waits at each barrier until the medium has all of it.
 
 use std::io;
@@ -14,6 +14,13 @@ pub struct Volume<D> {
     image: Image,
     /// Set while a list is on its way: if it breaks off, the image isn't what the device holds.
     unknown: bool,
+}
+
+/// How far changes are.
+#[derive(Clone, Copy, Debug, PartialEq, Eq)]
+pub enum Stage {
+    Tried,
+    Done,
 }
 
 impl<D: Device> Volume<D> {
@@ -43,25 +50,22 @@ impl<D: Device> Volume<D> {
 
 impl<D: Device> Volume<D> {
     /// Does the changes one after the other; each is on the medium before the next starts.
-    /// Several are first tried on a copy in memory, so that a refusal of any of them comes
-    /// before the first byte is written. `progress` hears how many are done.
+    /// Several are first tried in memory, so that a refusal of any of them comes before the first
+    /// byte is written. `progress` hears how many are tried, and how many done.
     pub fn apply(
         &mut self,
         changes: &[Change],
-        progress: &mut dyn FnMut(usize),
+        progress: &mut dyn FnMut(Stage, usize),
     ) -> Result<(), Error> {
         self.image()?;
         if changes.len() > 1 {
-            let mut copy = self.image.clone();
-            for change in changes {
-                let list = copy.list_of(change)?;
-                copy.carry_out(&list)?;
-            }
+            self.image
+                .try_out(changes, &mut |tried| progress(Stage::Tried, tried))?;
         }
         for (done, change) in changes.iter().enumerate() {
             let list = self.image.list_of(change)?;
             self.carry_out(&list, done)?;
-            progress(done + 1);
+            progress(Stage::Done, done + 1);
         }
         Ok(())
     }
@@ -124,6 +128,9 @@ impl Sent {
     }
 }
 
+/// The barriers of every format.
+const FORMAT_BARRIERS: u64 = 3;
+
 /// Formats a device. Until the last record has landed, the volume on it is unfinished.
 /// `progress` hears how many records are done.
 pub fn format(
@@ -139,28 +146,23 @@ pub fn format(
             present: device.length(),
         });
     }
+    let writes = format.records()? - FORMAT_BARRIERS;
     let mut sent = Sent::default();
     let mut position = 0;
     while let Some(record) = format.record(position)? {
         sent.send(device, step(&record))
-            .map_err(|cause| sent.broken_off(format_writes(format), 0, cause))?;
+            .map_err(|cause| sent.broken_off(writes, 0, cause))?;
         position += 1;
         progress(position);
     }
     Ok(())
 }
 
-fn format_writes(format: &Format) -> u64 {
-    (0..)
-        .map_while(|position| format.record(position).ok().flatten())
-        .filter(|record| step(record) != Step::Barrier)
-        .count() as u64
-}
-
 #[cfg(test)]
 mod tests {
     use super::*;
     use crate::device::Memory;
+    use crate::error::Refusal;
 
     const SAMPLE: Format = Format {
         sectors: 1_313,
@@ -242,7 +244,7 @@ mod tests {
                 left: left as u64,
             };
             let mut volume = Volume::open(device).unwrap();
-            let Err(Error::Interrupted(cut)) = volume.apply(&[create], &mut |_| ()) else {
+            let Err(Error::Interrupted(cut)) = volume.apply(&[create], &mut |_, _| ()) else {
                 panic!("the device failed");
             };
             assert_eq!((cut.writes, cut.landed, cut.taken), (7, landed, taken));
@@ -279,18 +281,32 @@ mod tests {
             data: &data,
             time: 3,
         };
-        volume.apply(&[create, write(0)], &mut |_| ()).unwrap();
+        volume.apply(&[create, write(0)], &mut |_, _| ()).unwrap();
         let full = [write(65_536), write(131_072), write(196_608)];
-        let held = volume.image().unwrap().clone();
+        let held = volume.image().unwrap().bytes().to_vec();
         assert!(matches!(
-            volume.apply(&full, &mut |_| ()),
-            Err(Error::Refused(crate::error::Refusal::NoRoom))
+            volume.apply(&full, &mut |_, _| ()),
+            Err(Error::Refused(Refusal::NoRoom))
         ));
-        assert_eq!(*volume.image().unwrap(), held);
-        volume.apply(&full[..2], &mut |_| ()).unwrap();
-        let held = volume.image().unwrap().clone();
+        assert!(volume.image().unwrap().bytes() == held);
+        volume.apply(&full[..2], &mut |_, _| ()).unwrap();
+        let held = volume.image().unwrap().bytes().to_vec();
         let device = volume.into_device();
-        assert_eq!(device.bytes[..held.bytes().len()], *held.bytes());
+        assert!(device.bytes[..held.len()] == held);
+    }
+
+    /// Two superblocks, root, 255 entries, one table sector and three barriers.
+    #[test]
+    fn records_of_a_format() {
+        assert_eq!(SAMPLE.records(), Ok(262));
+        let image = Image::load(&formatted()).unwrap();
+        assert_eq!(SAMPLE.geometry(), Ok(image.summary()));
+        let too_few = Format {
+            sectors: 1_056,
+            ..SAMPLE
+        };
+        assert_eq!(too_few.records(), Err(Refusal::BadArgument));
+        assert_eq!(too_few.geometry(), Err(Refusal::BadArgument));
     }
 
     #[test]

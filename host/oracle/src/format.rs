@@ -107,7 +107,8 @@ fn write_record(request: &FormatRequest, position: u64, output: &mut [u8]) -> Re
     Ok(writer.filled())
 }
 
-fn superblock_sector(geometry: Geometry, journal_length: u16) -> [u8; SECTOR] {
+/// The superblock of a volume with this journal length.
+pub(crate) fn superblock_sector(geometry: Geometry, journal_length: u16) -> [u8; SECTOR] {
     let mut contents = [0; SECTOR];
     put16(&mut contents, superblock::FILES, geometry.files() as u16);
     put16(

@@ -14,7 +14,8 @@
 //!
 //! What a run of calls must answer is told a second time, without image and list, by `ledger`,
 //! which is fed the `request`s; `compare` holds an image against it. `power` cuts lists, and `draw`
-//! is the generator behind its random choices.
+//! is the generator behind its random choices. `testing` holds what tests of these rules share,
+//! also the tests of other programs: volumes, damage, random runs, cuts.
 
 #![forbid(unsafe_code)]
 
@@ -32,6 +33,7 @@ pub mod power;
 pub mod recovery;
 pub mod report;
 pub mod request;
+pub mod testing;
 
 pub use calls::{check, find, list, read, summary};
 pub use changes::{create, delete, resize, write};

@@ -38,6 +38,12 @@ pub fn groups(list: &[u8]) -> Vec<Group<'_>> {
     groups
 }
 
+/// The sector numbers of a list, barriers included.
+pub fn sector_numbers(list: &[u8]) -> Vec<u64> {
+    let records = list.chunks_exact(RECORD);
+    records.map(|record| get64(record, 0)).collect()
+}
+
 /// What lands of a list.
 #[derive(Clone, Debug, PartialEq, Eq)]
 pub struct Cut {

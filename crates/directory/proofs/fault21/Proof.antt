@@ -3,7 +3,7 @@ use Prim.Native.Nat.{_-_}
 use mathlib.Core.Path.{sym, _∙_}
 use Rattle.model.specs.Disk.{view}
 use Rattle.model.specs.Faults.{fault21}
-use Rattle.directory.proofs.Laws.{Seeking, seek-start, seek-here, seek-next, seek-end}
+use Rattle.laws.proofs.Seeking.{Seeking, seek-start, seek-here, seek-next, seek-end}
 use Rattle.directory.proofs.fault21.Statement.{statement}
 use Rattle.directory.proofs.fault21.Tie as tie
 

@@ -2,7 +2,8 @@ use borrow.Author.Needs.{needs}
 use Prim.Native.Nat.{_-_}
 use mathlib.Core.Path.{sym, _∙_}
 use Rattle.model.specs.Disk.{view}
-use Rattle.directory.proofs.Laws.{Seeking, seek-start, seek-here, seek-next, seek-end, isBad, fault22-on}
+use Rattle.laws.proofs.Seeking.{Seeking, seek-start, seek-here, seek-next, seek-end}
+use Rattle.directory.proofs.Laws.{isBad, fault22-on}
 use Rattle.directory.proofs.fault22.Statement.{statement}
 use Rattle.directory.proofs.fault22.Tie as tie
 

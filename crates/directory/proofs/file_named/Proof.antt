@@ -8,7 +8,7 @@ use Rattle.model.specs.Geometry.{entryAt}
 use Rattle.model.specs.Disk.{view}
 use Rattle.model.specs.Entry.{isOccupied, nameIn}
 use Rattle.laws.proofs.Catalogue.{named-on}
-use Rattle.directory.proofs.Laws.{Seeking, seek-start, seek-here, seek-next, seek-end}
+use Rattle.laws.proofs.Seeking.{Seeking, seek-start, seek-here, seek-next, seek-end}
 use Rattle.directory.proofs.file_named.Statement.{statement}
 use Rattle.directory.proofs.file_named.Tie as tie
 

@@ -5,7 +5,7 @@ use Rattle.model.specs.Geometry.{entryAt}
 use Rattle.model.specs.Disk.{view}
 use Rattle.model.specs.Entry.{isOccupied}
 use Rattle.laws.proofs.Catalogue.{free-on}
-use Rattle.directory.proofs.Laws.{Seeking, seek-start, seek-here, seek-next, seek-end}
+use Rattle.laws.proofs.Seeking.{Seeking, seek-start, seek-here, seek-next, seek-end}
 use Rattle.directory.proofs.free_entry.Statement.{statement}
 use Rattle.directory.proofs.free_entry.Tie as tie
 

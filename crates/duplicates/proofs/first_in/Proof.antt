@@ -4,7 +4,7 @@ use mathlib.Core.Path.{_≡_, refl, sym, _∙_}
 use native.Mathlib.Omega.{arith}
 use lib.ListN.{length}
 use Rattle.model.specs.Disk.{view}
-use Rattle.directory.proofs.Laws.{Seeking, seek-start, seek-here, seek-next, seek-end}
+use Rattle.laws.proofs.Seeking.{Seeking, seek-start, seek-here, seek-next, seek-end}
 use Rattle.duplicates.specs.Keys.{isFaulty}
 use Rattle.duplicates.specs.Chains.{Chains, member}
 use Rattle.duplicates.proofs.Chains.{chains-none}

@@ -2,7 +2,7 @@ use borrow.Author.Needs.{needs}
 use Prim.Native.Nat.{ℕ, _-_}
 use native.Mathlib.Omega.{arith}
 use lib.ListN.{length-replicate}
-use Rattle.duplicates.proofs.Chains.{zeros-at}
+use Rattle.laws.proofs.Bytes.{zeros-at}
 use Rattle.duplicates.proofs.first_of_few.Statement.{statement}
 use Rattle.duplicates.proofs.first_of_few.Tie as tie
 
@@ -16,7 +16,7 @@ first-in-requires : tie.Need-first-in-requires
 first-in-requires c κs =
     let s = c .before .before .before in
     let n = length-replicate {A = ℕ} 4096 0 in
-    (s .pre .0, (s .pre .1 .0, ((omega arith, omega arith, omega arith, omega arith), zeros-at 4096)))
+    (s .pre .0, (s .pre .1 .0, ((omega arith, omega arith, omega arith, omega arith), λ b l. zeros-at 4096 b)))
 
 returns : tie.Need-returns
 returns c = search needs

@@ -46,6 +46,14 @@ pub struct Said {
 }
 
 impl Said {
+    pub fn of(output: Output) -> Said {
+        Said {
+            status: output.status.code().expect("it ends by itself"),
+            out: output.stdout,
+            err: String::from_utf8_lossy(&output.stderr).into_owned(),
+        }
+    }
+
     pub fn text(&self) -> String {
         String::from_utf8_lossy(&self.out).into_owned()
     }
@@ -58,27 +66,21 @@ pub fn goofs<W: AsRef<OsStr>>(words: &[W]) -> Said {
 /// Runs the command on a medium that fails: writes past this many blocks of a file are errors. A
 /// block has 512 or 1,024 bytes, as the shell likes.
 pub fn on_failing_medium(blocks: u64, command: &str, card: &Path, rest: &[&str]) -> Said {
-    let script = format!("trap '' XFSZ; ulimit -f {blocks}; exec \"$@\"");
+    with_limit(&format!("-f {blocks}"), command, card, rest)
+}
+
+/// Runs the command with a limit, in the words of the shell's ulimit.
+pub fn with_limit(limit: &str, command: &str, card: &Path, rest: &[&str]) -> Said {
+    let script = format!("trap '' XFSZ; ulimit {limit}; exec \"$@\"");
     run(Command::new("sh")
         .args(["-c", &script, "sh", env!("CARGO_BIN_EXE_goofs"), command])
         .arg(card)
         .args(rest))
 }
 
-fn run(command: &mut Command) -> Said {
-    let Output {
-        status,
-        stdout,
-        stderr,
-    } = command
-        .stdin(Stdio::null())
-        .output()
-        .expect("the command runs");
-    Said {
-        status: status.code().expect("it ends by itself"),
-        out: stdout,
-        err: String::from_utf8_lossy(&stderr).into_owned(),
-    }
+pub fn run(command: &mut Command) -> Said {
+    let output = command.stdin(Stdio::null()).output();
+    Said::of(output.expect("the command runs"))
 }
 
 /// Runs the command on a card; it must succeed.
@@ -117,17 +119,31 @@ pub fn formatted(folder: &Folder) -> PathBuf {
     card
 }
 
-/// The numbers of a trial's last line. The trial must find no difference and leave the card alone.
+/// The numbers of a trial's last line in the table. The trial must find no difference and leave the
+/// card alone.
 pub fn numbers_of_trial(card: &Path, rest: &[&str]) -> [u64; 7] {
+    trial(card, rest).0
+}
+
+/// The numbers of a trial's table and of its closing line: ways in which recoveries were cut, and all.
+pub fn trial(card: &Path, rest: &[&str]) -> ([u64; 7], [u64; 2]) {
     let before = fs::read(card).unwrap();
     let said = good("trial", card, rest);
     assert!(
         fs::read(card).unwrap() == before,
         "a trial only reads the card"
     );
-    let last = said.lines().last().unwrap();
+    let (closing, table): (Vec<&str>, Vec<&str>) = said.lines().partition(|line| {
+        line.starts_with("recoveries cut in") || line.starts_with("groups of more than")
+    });
+    let last = table.last().unwrap();
     let words: Vec<&str> = last.split_whitespace().collect();
     let numbers = words[words.len() - 7..].iter();
     let numbers: Vec<u64> = numbers.map(|word| word.parse().unwrap()).collect();
-    numbers.try_into().unwrap()
+    let ways = closing.last().expect("the trial has a closing line");
+    let ways: Vec<u64> = ways
+        .split_whitespace()
+        .filter_map(|word| word.parse().ok())
+        .collect();
+    (numbers.try_into().unwrap(), ways.try_into().unwrap())
 }

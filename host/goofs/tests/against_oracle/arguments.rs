@@ -1,7 +1,10 @@
 //! Names, indexes, offsets, counts and output lengths at every edge.
 
-use crate::shared::{alike, create, find, read, some_files, write, Volume};
+use crate::counts::{count, Compared};
+use crate::shared::{alike, ask, calls, with_each_buffer};
 use oracle::draw::Draw;
+use oracle::testing::requests::{create, find, read, write};
+use oracle::testing::volumes::some_files;
 use oracle::Request;
 
 /// Names that are taken, that begin alike, and bad ones.
@@ -46,6 +49,7 @@ fn names_at_every_edge() {
     volume.done(&create(b"\xff\xff\xff", 12));
     let mut codes = [0; 15];
     for name in names() {
+        count(Compared::ArgumentEdges, 1);
         codes[alike(&find(&name), &volume.image, 0).0.code() as usize] += 1;
         for (offset, count, length) in [
             (0, 10, 10),
@@ -65,6 +69,7 @@ fn indexes_and_output_lengths_of_list() {
     volume.done(&create(&[b'x'; 476], 10));
     let indexes = (0..=260).chain([1 << 16, (1 << 32) - 1, 1 << 32, 1 << 63, u64::MAX]);
     for index in indexes {
+        count(Compared::ArgumentEdges, 1);
         for length in [0, 1, 2, 3, 4, 475, 476, 477, 1_000] {
             alike(&Request::List { index }, &volume.image, length);
         }
@@ -83,7 +88,7 @@ fn spans_of_read() {
     for edge in [0, 512, 1_024, 65_536, 65_536 + 512, 131_072, size] {
         offsets.extend(edge.max(1) - 1..=edge + 1);
     }
-    let counts = [
+    let spans = [
         0,
         1,
         2,
@@ -100,23 +105,16 @@ fn spans_of_read() {
     let mut codes = [0; 15];
     for name in [&b"ab"[..], b"a", b"cab", b"none"] {
         for offset in &offsets {
-            for count in counts {
-                let request = read(name, *offset, count);
-                let (answer, bytes) = alike(&request, &volume.image, 65_536);
-                codes[answer.code() as usize] += 1;
-                if answer.code() == 0 {
-                    let length = bytes.len();
-                    alike(&request, &volume.image, length);
-                    alike(&request, &volume.image, length + 1);
-                    if length > 0 {
-                        let (short, _) = alike(&request, &volume.image, length - 1);
-                        codes[short.code() as usize] += 1;
-                    }
-                }
+            for span in spans {
+                let request = read(name, *offset, span);
+                count(Compared::ArgumentEdges, 1);
+                let (code, length) = with_each_buffer(&request, &volume.image);
+                codes[code as usize] += 1;
+                alike(&request, &volume.image, length + 1);
             }
         }
     }
-    for code in [0, 8, 9, 12, 14] {
+    for code in [0, 8, 9, 12] {
         assert!(codes[code] > 50, "{codes:?}");
     }
 }
@@ -156,8 +154,39 @@ fn the_lowest_number() {
         let (answer, _) = alike(&request, &volume.image, length);
         assert_eq!(answer.code(), code, "{request:?}");
     }
-    let mut unfinished: Volume = volume.clone();
+    let mut unfinished = volume.clone();
     unfinished.image[18..20].fill(255);
     let (answer, _) = alike(&read(b"", 0, 65_537), &unfinished.image, 0);
     assert_eq!(answer.code(), 4);
+}
+
+/// Empty slices that point to no memory of their own: as image, name, data, output and list.
+#[test]
+fn empty_slices() {
+    let image = some_files().image;
+    let mut requests = calls();
+    requests.extend([
+        find(&[]),
+        read(&[], 0, 0),
+        create(&[], 1),
+        write(&[], 0, Vec::new()),
+        write(b"ab", 0, Vec::new()),
+        read(b"ab", 0, 0),
+    ]);
+    for request in requests {
+        for image in [&[][..], &image] {
+            count(Compared::ArgumentEdges, 1);
+            assert_eq!(
+                ask(&request, image, &mut []),
+                request.ask(image, &mut []),
+                "{request:?}"
+            );
+        }
+    }
+    assert_eq!(goofs::recover(&image, &mut []).code, 0);
+    assert_eq!(goofs::recover(&[], &mut []).code, 1);
+    assert_eq!(goofs::carry_out(&mut [], &[]), 1);
+    assert_eq!(goofs::carry_out(&mut [7; 512], &[]), 0);
+    let record = goofs::format_record(1_313, 255, 1, 0, 0, 0, &mut []);
+    assert_eq!(record.code, 14);
 }

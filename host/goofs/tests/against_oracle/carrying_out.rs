@@ -1,10 +1,11 @@
 //! Carrying out: lists of any length, numbers at the image's edges, spoilt barriers, and images
 //! that are not whole sectors.
 
-use crate::shared_changes::carry_out_alike;
+use crate::shared::Both;
 use oracle::draw::Draw;
 use oracle::layout::SECTOR;
 use oracle::lists::{BARRIER, RECORD};
+use oracle::testing::Subject;
 
 fn record(number: u64, byte: u8) -> Vec<u8> {
     let mut record = number.to_be_bytes().to_vec();
@@ -17,7 +18,7 @@ fn lists_by_hand() {
     let image = Draw::new(61).bytes(3 * SECTOR);
     let after = |list: &[u8]| {
         let mut image = image.clone();
-        carry_out_alike(&mut image, list)
+        Both.carry_out(&mut image, list)
     };
     assert_eq!(after(&[]), 0);
     assert_eq!(after(&record(BARRIER, 0)), 0);
@@ -48,7 +49,7 @@ fn images_of_every_length() {
     let list = [record(0, 1), record(1, 2), record(BARRIER, 0)].concat();
     for length in 0..=3 * SECTOR {
         let mut image = vec![7; length];
-        let code = carry_out_alike(&mut image, &list);
+        let code = Both.carry_out(&mut image, &list);
         let whole = length > 0 && length % SECTOR == 0;
         assert_eq!(
             code,
@@ -60,8 +61,8 @@ fn images_of_every_length() {
                 0
             }
         );
-        carry_out_alike(&mut image, &[]);
-        carry_out_alike(&mut image, &list[1..]);
+        Both.carry_out(&mut image, &[]);
+        Both.carry_out(&mut image, &list[1..]);
     }
 }
 
@@ -70,7 +71,7 @@ fn lists_of_every_length() {
     let list = [record(0, 1), record(1, 2)].concat();
     for length in 0..=list.len() {
         let mut image = vec![7; 2 * SECTOR];
-        carry_out_alike(&mut image, &list[..length]);
+        Both.carry_out(&mut image, &list[..length]);
     }
 }
 
@@ -102,7 +103,7 @@ fn random_lists() {
         if draw.one_in(20) {
             list.truncate(draw.below(list.len() as u64 + 1) as usize);
         }
-        codes[carry_out_alike(&mut image, &list) as usize] += 1;
+        codes[Both.carry_out(&mut image, &list) as usize] += 1;
     }
     assert!(codes[0] > 500 && codes[8] > 500, "{codes:?}");
 }

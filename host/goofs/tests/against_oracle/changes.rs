@@ -1,29 +1,21 @@
 //! Create, delete, resize and write: spans that end at, before and after the edges of sectors,
 //! extents and files, arguments at every edge, and lists exactly long enough and one byte too short.
 
-use crate::shared::{
-    alike, blank, create, delete, entry_field, put_file, resize, some_files, write, ANY_LIST,
-};
-use crate::shared_changes::disturb;
+use crate::counts::{count, Compared};
+use crate::shared::with_each_buffer;
 use oracle::draw::Draw;
 use oracle::layout::{put32, Geometry, SECTOR};
 use oracle::lists::RECORD;
+use oracle::testing::damage::entry_field;
+use oracle::testing::images::{blank, put_file};
+use oracle::testing::requests::{create, delete, resize, write};
+use oracle::testing::volumes::some_files;
 use oracle::Request;
 
-/// With a long list, an exact one, and one that is a byte too short. Gives the code and the length.
-fn with_each_list(request: &Request, image: &[u8]) -> (u64, usize) {
-    let (answer, list) = alike(request, image, ANY_LIST);
-    if answer.code() == 0 {
-        let (exact, same_list) = alike(request, image, list.len());
-        assert_eq!(exact, answer);
-        assert!(same_list == list);
-        if !list.is_empty() {
-            let (short, _) = alike(request, image, list.len() - 1);
-            assert_eq!(short.code(), 14);
-        }
-    }
-    alike(request, image, 0);
-    (answer.code(), list.len())
+/// A call whose arguments stand at an edge, with each list. Gives the code.
+fn edge_alike(request: &Request, image: &[u8]) -> usize {
+    count(Compared::ArgumentEdges, 1);
+    with_each_buffer(request, image).0 as usize
 }
 
 /// A volume of 12 extents with the file "x" of this size, its extents falling, and "y" of one
@@ -95,18 +87,18 @@ fn spans_alike(extent_sectors: u64) {
                     continue;
                 }
                 let request = write(b"x", offset, data[..(end - offset) as usize].to_vec());
-                codes[with_each_list(&request, &image).0 as usize] += 1;
+                codes[edge_alike(&request, &image)] += 1;
             }
             let most = write(b"x", offset, data.clone());
-            codes[with_each_list(&most, &image).0 as usize] += 1;
+            codes[edge_alike(&most, &image)] += 1;
         }
         for new_size in around_edges(extent_bytes, size, size + 65_537) {
-            codes[with_each_list(&resize(b"x", new_size), &image).0 as usize] += 1;
+            codes[edge_alike(&resize(b"x", new_size), &image)] += 1;
         }
         for new_size in [size + 65_535, size + 65_536, size + 65_537, u64::MAX] {
-            codes[with_each_list(&resize(b"x", new_size), &image).0 as usize] += 1;
+            codes[edge_alike(&resize(b"x", new_size), &image)] += 1;
         }
-        with_each_list(&delete(b"x"), &image);
+        with_each_buffer(&delete(b"x"), &image);
     }
     assert!(
         codes[0] > 500 && codes[8] > 10 && codes[12] > 20,
@@ -145,33 +137,33 @@ fn several_table_sectors() {
         &odds,
     );
     assert_eq!(
-        with_each_list(&delete(b"x"), &image),
+        with_each_buffer(&delete(b"x"), &image),
         (0, (2 * 7 + 1 + 6) * RECORD)
     );
-    with_each_list(&delete(b"y"), &image);
-    with_each_list(&write(b"x", size, vec![1; 65_536]), &image);
-    with_each_list(&write(b"y", 0, vec![1; 1_000]), &image);
-    with_each_list(&resize(b"y", odds.len() as u64 * 65_536 + 1), &image);
+    with_each_buffer(&delete(b"y"), &image);
+    with_each_buffer(&write(b"x", size, vec![1; 65_536]), &image);
+    with_each_buffer(&write(b"y", 0, vec![1; 1_000]), &image);
+    with_each_buffer(&resize(b"y", odds.len() as u64 * 65_536 + 1), &image);
     for kept in [0, 1, 63, 64, 65, 128, 129, 192, 200, 256, 258, 259] {
         for size in [kept * 65_536, kept * 65_536 + 1] {
-            with_each_list(&resize(b"x", size), &image);
-            with_each_list(&resize(b"y", size), &image);
+            with_each_buffer(&resize(b"x", size), &image);
+            with_each_buffer(&resize(b"y", size), &image);
         }
     }
 }
 
+/// Each argument of each call at its edges, with all edges of the others.
 #[test]
 fn arguments_at_every_edge() {
-    let volume = some_files();
-    let mut image = volume.image.clone();
-    disturb(&mut image, &volume.ledger, &mut Draw::new(9));
+    let mut volume = some_files();
+    volume.disturb(&mut Draw::new(9));
+    let image = volume.image;
     let mut codes = [0; 15];
-    let mut try_call = |request: Request| {
-        codes[with_each_list(&request, &image).0 as usize] += 1;
-    };
-    for name in [
+    let mut try_call = |request: Request| codes[edge_alike(&request, &image)] += 1;
+    let names = [
         &b""[..],
         b"a",
+        b"ab",
         b"abcd",
         b"b",
         b"\0",
@@ -181,45 +173,48 @@ fn arguments_at_every_edge() {
         &[b'x'; 477],
         &[b'x'; 600],
         &[255; 476],
-    ] {
-        for id in [0, 1, 4, 6, 7, 900, u64::MAX] {
-            try_call(create(name, id));
+    ];
+    let times = [0, 1, 0x8090_a0b0, u32::MAX - 1, u32::MAX];
+    for name in names.map(<[u8]>::to_vec) {
+        for time in times {
+            for id in [0, 1, 4, 6, 7, 899, 900, 901, u64::MAX - 1, u64::MAX] {
+                for mode in [0, 1, 0x0102_0304, u32::MAX - 1, u32::MAX] {
+                    let name = name.clone();
+                    try_call(Request::Create {
+                        name,
+                        id,
+                        mode,
+                        time,
+                    });
+                }
+            }
+            let name = name.clone();
+            try_call(Request::Delete { name, time });
         }
-        try_call(delete(name));
-        for size in [0, 1, 65_536, 65_537, u64::MAX] {
-            try_call(resize(name, size));
-        }
-        for offset in [0, 1, u64::MAX] {
-            for length in [0, 1, 65_536, 65_537, 70_000] {
-                try_call(write(name, offset, vec![9; length]));
+        // "ab" has 131,073 bytes, "a" none.
+        let sizes = [0, 131_073];
+        let edges = sizes.map(|size| [0, 1, 65_535, 65_536, 65_537].map(|more| size + more));
+        let others = [131_072, u64::MAX - 1, u64::MAX];
+        for size in edges.into_iter().flatten().chain(others) {
+            for time in times {
+                let name = name.clone();
+                try_call(Request::Resize { name, size, time });
+            }
+            for length in [0, 1, 65_535, 65_536, 65_537, 70_000] {
+                try_call(write(&name, size, vec![9; length]));
             }
         }
-    }
-    for (mode, time) in [(0, 0), (u32::MAX, u32::MAX), (0x0102_0304, 0x8090_a0b0)] {
-        try_call(Request::Create {
-            name: b"new".to_vec(),
-            id: 0x0102_0304_0506_0708,
-            mode,
-            time,
-        });
-        try_call(Request::Delete {
-            name: b"ab".to_vec(),
-            time,
-        });
-        try_call(Request::Resize {
-            name: b"ab".to_vec(),
-            size: 70_000,
-            time,
-        });
-        try_call(Request::Write {
-            name: b"ab".to_vec(),
-            offset: 0,
-            data: vec![1; 3],
-            time,
-        });
+        for time in times {
+            try_call(Request::Write {
+                name: name.clone(),
+                offset: 0,
+                data: vec![1; 3],
+                time,
+            });
+        }
     }
     for code in [0, 8, 9, 10, 12] {
-        assert!(codes[code] > 5, "{codes:?}");
+        assert!(codes[code] > 50, "{codes:?}");
     }
 }
 
@@ -237,7 +232,7 @@ fn versions_at_their_end() {
             resize(b"ab", 131_080),
             write(b"ab", 5, vec![1; 5]),
         ] {
-            assert_eq!(with_each_list(&request, &image).0, 0);
+            assert_eq!(edge_alike(&request, &image), 0);
         }
     }
 }
@@ -249,7 +244,7 @@ fn no_room() {
     volume.done(&resize(b"ab", 131_072));
     volume.done(&write(b"cab", 600, vec![1; 65_536 - 600]));
     let one_more = write(b"cab", 65_536, vec![1]);
-    assert_eq!(with_each_list(&one_more, &volume.image).0, 0);
+    assert_eq!(with_each_buffer(&one_more, &volume.image).0, 0);
     volume.done(&one_more);
     let image = &volume.image;
     for (expected, request) in [
@@ -264,6 +259,6 @@ fn no_room() {
         (0, resize(b"a", 0)),
         (8, resize(b"a", 65_537)),
     ] {
-        assert_eq!(with_each_list(&request, image).0, expected);
+        assert_eq!(with_each_buffer(&request, image).0, expected);
     }
 }

@@ -1,38 +1,57 @@
 //! Images cut short: at every sector boundary and the bytes around it.
 
-use crate::shared::{alike, calls_alike, find, read, some_files, Volume};
+use crate::counts::{count, Compared};
+use crate::shared::calls_alike;
+use oracle::answers::CheckAnswer;
 use oracle::layout::SECTOR;
-use oracle::Request;
+use oracle::testing::damage::set_journal;
+use oracle::testing::volumes::{some_files, Volume};
+
+/// Puts all calls to the first bytes of an image. They stand in a copy of their own, so that what
+/// was cut off does not stand right behind them.
+fn cut_short_alike(image: &[u8], length: usize) -> CheckAnswer {
+    count(Compared::Truncations, 1);
+    let cut = image[..length].to_vec();
+    calls_alike(&cut)
+}
+
+/// The lengths at each sector boundary of an image, and a byte less and more.
+fn around_boundaries(image: &[u8]) -> impl Iterator<Item = usize> {
+    let boundaries = (0..=image.len()).step_by(SECTOR);
+    let last = image.len();
+    boundaries.flat_map(move |boundary| boundary.saturating_sub(1)..=(boundary + 1).min(last))
+}
 
 #[test]
 fn at_every_sector_boundary() {
     let image = some_files().image;
     let mut codes = [0; 15];
-    for sector in 0..=image.len() / SECTOR {
-        let boundary = sector * SECTOR;
-        for length in boundary.saturating_sub(1)..=(boundary + 1).min(image.len()) {
-            // A copy of its own, so that what was cut off does not stand right behind it.
-            let cut = image[..length].to_vec();
-            codes[calls_alike(&cut).code as usize] += 1;
-        }
+    for length in around_boundaries(&image) {
+        codes[cut_short_alike(&image, length).code as usize] += 1;
     }
     // The volume ends before the image does.
     assert!(codes[0] > 500 && codes[1] > 2_000 && codes[3] > 1_000 && codes[2] == 0);
+}
+
+/// A waiting volume: recovery is refused as the other calls are, until the volume is whole.
+#[test]
+fn of_a_waiting_volume() {
+    let mut image = Volume::sample().image;
+    set_journal(&mut image, &[(700, 2), (701, 1), (690, 289)]);
+    let mut codes = [0; 15];
+    for length in around_boundaries(&image) {
+        codes[cut_short_alike(&image, length).code as usize] += 1;
+    }
+    assert!(
+        codes[5] == 512 && codes[1] > 2_000 && codes[3] == 801,
+        "{codes:?}"
+    );
 }
 
 #[test]
 fn at_every_byte_of_the_first_sectors() {
     let image = Volume::sample().image;
     for length in 0..=3 * SECTOR {
-        let cut = image[..length].to_vec();
-        for request in [
-            Request::Summary,
-            Request::Check,
-            find(b"a"),
-            Request::List { index: 0 },
-            read(b"a", 0, 1),
-        ] {
-            alike(&request, &cut, 600);
-        }
+        cut_short_alike(&image, length);
     }
 }

@@ -1,114 +1,121 @@
-//! Seeded damage: fields of the metadata set to edges and noise, single bits, and images of any
-//! bytes. Every run is replayed from its seed.
+//! Damage: every bit of every field, each field at its edges, seeded damage to several fields at
+//! once, whole sectors, large directories, and images of any bytes.
 
-use crate::shared::{
-    alike, blank, calls_alike, entry_field, find, put_file, read, some_files, ANY_LIST,
-};
+use crate::counts::{count, Compared};
+use crate::shared::{alike, damaged_alike};
 use oracle::draw::Draw;
 use oracle::layout::{put16, put32, put64, Geometry, SECTOR};
+use oracle::testing::damage::{
+    entry_field, journal_field, set_journal, spoil_fields, table_field, METADATA,
+};
+use oracle::testing::images::{blank, put_file};
+use oracle::testing::requests::{find, read};
+use oracle::testing::volumes::{some_files, ANY_LIST};
 use oracle::Request;
 
-const METADATA: usize = 290 * SECTOR;
+/// A number in the metadata: its byte offset in the image and its width in bytes.
+type Field = (usize, usize);
 
-fn table_field(extent: u64, field: usize) -> usize {
-    289 * SECTOR + 4 * extent as usize + field
+/// Every field of superblock, root, the first seven entries and the last, the table's first seven
+/// entries and the last of its padding, and of the first four journal entries. Of a name it is the
+/// first four bytes.
+fn fields() -> Vec<Field> {
+    let mut fields = Vec::new();
+    let mut add = |start: usize, offsets: &[usize]| {
+        let between = offsets.windows(2);
+        fields.extend(between.map(|pair| (start + pair[0], pair[1] - pair[0])));
+    };
+    add(0, &[0, 2, 4, 8, 16, 18, 20]);
+    add(SECTOR, &[0, 4, 12, 16, 20, 24]);
+    for index in (0..7).chain([254]) {
+        let offsets = [0, 2, 10, 14, 22, 26, 30, 34, 36, 40];
+        add(entry_field(index, 0), &offsets);
+    }
+    for extent in (0..7).chain([127]) {
+        add(table_field(extent, 0), &[0, 2, 4]);
+    }
+    for entry in 0..4 {
+        add(journal_field(entry, 0), &[0, 8, 16]);
+    }
+    fields
 }
 
-/// Changes one field, mostly to a value that is an edge of some rule.
-fn spoil_a_field(image: &mut [u8], draw: &mut Draw) {
-    let index = *draw.pick(&[0, 1, 2, 3, 4, 5, 6, 254]);
-    let other = draw.below(8);
-    let extent = draw.below(6);
-    match draw.below(20) {
-        0 => put16(
-            image,
-            entry_field(index, 0),
-            *draw.pick(&[0, 1, 255, 65_280, 65_534, 65_535]),
-        ),
-        1 => put64(image, entry_field(index, 2), draw.number()),
-        2 => put64(
-            image,
-            entry_field(index, 2),
-            (draw.below(8) * 65_536 + draw.below(3)).wrapping_sub(1),
-        ),
-        3 => put32(image, entry_field(index, 10), draw.number() as u32),
-        4 => put64(
-            image,
-            entry_field(index, 14),
-            *draw.pick(&[0, 900, 1, 2, 3, 4, 5, 6, 7]),
-        ),
-        5 => put32(image, entry_field(index, 22), draw.number() as u32),
-        6 => put64(image, entry_field(index, 26), draw.number()),
-        7 => put16(
-            image,
-            entry_field(index, 34),
-            *draw.pick(&[0, 1, 2, 3, 476, 477, 65_535]),
-        ),
-        8 => image[entry_field(index, 36 + draw.below(4) as usize)] = *draw.pick(b"\0abc"),
-        9 => {
-            let name = image[entry_field(other, 34)..entry_field(other, SECTOR)].to_vec();
-            image[entry_field(index, 34)..entry_field(index, SECTOR)].copy_from_slice(&name);
-        }
-        10 | 11 => put16(
-            image,
-            table_field(extent, 0),
-            *draw.pick(&[0, 1, 2, 3, 4, 5, 6, 254, 255, 65_535]),
-        ),
-        12 | 13 => put16(
-            image,
-            table_field(extent, 2),
-            *draw.pick(&[0, 1, 2, 3, 65_535]),
-        ),
-        14 => put64(image, SECTOR + 4, draw.below(8)),
-        15 => put16(
-            image,
-            18,
-            *draw.pick(&[0, 0, 0, 1, 1_024, 1_025, 65_534, 65_535]),
-        ),
-        16 => {
-            let (from, to) = (
-                table_field(draw.below(6), 0),
-                table_field(draw.below(128), 0),
-            );
-            let entry: [u8; 4] = image[from..from + 4].try_into().expect("four bytes");
-            image[to..to + 4].copy_from_slice(&entry);
-        }
-        17 => put16(
-            image,
-            draw.below(2) as usize * 2,
-            *draw.pick(&[2, 4, 5, 6, 7, 254, 255, 256, 257]),
-        ),
-        18 => put32(
-            image,
-            4,
-            *draw.pick(&[127, 128, 129, 150, 153, 154, u32::MAX]),
-        ),
-        _ => {
-            let at = draw.below(METADATA as u64) as usize;
-            image[at] ^= 1 << draw.below(8);
-        }
-    }
+fn number(image: &[u8], (at, width): Field) -> u64 {
+    let bytes = &image[at..at + width];
+    bytes
+        .iter()
+        .fold(0, |number, byte| number << 8 | u64::from(*byte))
+}
+
+fn set_number(image: &mut [u8], (at, width): Field, number: u64) {
+    image[at..at + width].copy_from_slice(&number.to_be_bytes()[8 - width..]);
+}
+
+/// A clean volume, and one that waits with three good journal entries.
+fn clean_and_waiting() -> [Vec<u8>; 2] {
+    let clean = some_files().image;
+    let mut waiting = clean.clone();
+    set_journal(&mut waiting, &[(1_000, 2), (1_001, 1), (1_002, 289)]);
+    [clean, waiting]
+}
+
+/// Puts all calls to the image with this number in the field, and puts the old one back.
+fn spoilt_alike(image: &mut [u8], field: Field, spoilt: u64) -> u64 {
+    let old = number(image, field);
+    set_number(image, field, spoilt);
+    let answer = damaged_alike(image);
+    set_number(image, field, old);
+    answer.code
 }
 
 #[test]
-fn of_each_field() {
-    let sound = some_files().image;
-    let mut image = sound.clone();
-    let mut draw = Draw::new(21);
-    let mut seen = std::collections::BTreeMap::new();
-    for _ in 0..20_000 {
-        image[..METADATA].copy_from_slice(&sound[..METADATA]);
-        for _ in 0..draw.between(1, 3) {
-            spoil_a_field(&mut image, &mut draw);
+fn of_every_bit_of_every_field() {
+    let mut codes = [0; 15];
+    for mut image in clean_and_waiting() {
+        for field in fields() {
+            for bit in 0..8 * field.1 {
+                let spoilt = number(&image, field) ^ 1 << bit;
+                codes[spoilt_alike(&mut image, field, spoilt) as usize] += 1;
+            }
         }
-        let answer = calls_alike(&image);
-        *seen.entry((answer.code, answer.fault)).or_insert(0) += 1;
     }
-    let kinds = (21..=26).map(|fault| (7, fault));
-    for kind in kinds.chain([(0, 0), (3, 0), (4, 0), (5, 0), (6, 0)]) {
-        let times = seen.get(&kind).copied().unwrap_or(0);
-        assert!(times > 100, "{kind:?} is too rare: {seen:?}");
+    for code in [0, 2, 3, 5, 6, 7] {
+        assert!(codes[code] > 5, "{codes:?}");
     }
+}
+
+/// Each field at 0, 1, its largest value, and around its old value and each bound of some rule.
+#[test]
+fn of_every_field_at_its_edges() {
+    let bounds = [
+        2, 5, 128, 255, 257, 289, 290, 476, 900, 1_024, 1_058, 65_535, 65_536, 327_680,
+    ];
+    let mut codes = [0; 15];
+    for mut image in clean_and_waiting() {
+        for field in fields() {
+            let largest = u64::MAX >> (64 - 8 * field.1);
+            let old = number(&image, field);
+            let mut numbers = vec![0, 1, largest - 1, largest];
+            for bound in bounds.into_iter().chain([old]) {
+                numbers.extend([bound.wrapping_sub(1), bound, bound.wrapping_add(1)]);
+            }
+            numbers.retain(|number| *number <= largest && *number != old);
+            numbers.sort_unstable();
+            numbers.dedup();
+            for number in numbers {
+                codes[spoilt_alike(&mut image, field, number) as usize] += 1;
+            }
+        }
+    }
+    for code in [0, 2, 3, 4, 5, 6, 7] {
+        assert!(codes[code] > 1, "{codes:?}");
+    }
+}
+
+/// Seeded: several fields at once.
+#[test]
+fn of_several_fields() {
+    spoil_fields(20_000, damaged_alike);
 }
 
 /// Noise all over one sector of the metadata.
@@ -117,14 +124,14 @@ fn of_whole_sectors() {
     let sound = some_files().image;
     let mut image = sound.clone();
     let mut draw = Draw::new(22);
-    for sector in 0..290 {
+    for sector in 0..METADATA / SECTOR {
         let at = sector * SECTOR;
         draw.fill(&mut image[at..at + SECTOR]);
-        calls_alike(&image);
+        damaged_alike(&image);
         image[at..at + SECTOR].fill(255);
-        calls_alike(&image);
+        damaged_alike(&image);
         image[at..at + SECTOR].fill(0);
-        calls_alike(&image);
+        damaged_alike(&image);
         image[at..at + SECTOR].copy_from_slice(&sound[at..at + SECTOR]);
     }
 }
@@ -162,6 +169,7 @@ fn of_names_and_ids_in_a_large_directory() {
                 image[at..at + name.len()].copy_from_slice(name.as_bytes());
             }
         }
+        count(Compared::DamagedImages, 1);
         let (answer, _) = alike(&Request::Check, &image, 0);
         alike(&find(b"7"), &image, 0);
         let told = oracle::check(&image);
@@ -204,7 +212,7 @@ fn of_everything() {
             put16(&mut image, 16, 1);
             put16(&mut image, 18, *draw.pick(&[0, 0, 0, 1, 2, 2_000, 65_535]));
         }
-        codes[calls_alike(&image).code as usize] += 1;
+        codes[damaged_alike(&image).code as usize] += 1;
         if round % 4 == 0 {
             let name = draw.bytes(3);
             alike(&find(&name), &image, 0);

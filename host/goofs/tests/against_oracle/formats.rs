@@ -1,9 +1,11 @@
 //! The records of a format at every position, and sector counts at the edges of the doubling.
 
-use crate::shared::SAMPLE;
-use crate::shared_changes::{format_alike, record_alike};
+use crate::counts::{count, Compared};
+use crate::shared::Both;
 use oracle::draw::Draw;
 use oracle::lists::RECORD;
+use oracle::testing::volumes::{Volume, SAMPLE};
+use oracle::testing::Subject;
 use oracle::FormatRequest;
 
 #[test]
@@ -16,16 +18,19 @@ fn every_record() {
             mode: 0x1122_3344,
             time: 0xfedc_ba98,
         };
-        format_alike(&request);
+        Volume::formatted(&Both, &request).compare();
         let records = request.records().expect("the format is not refused");
         for position in 0..records {
-            let (answer, record) = record_alike(&request, position, RECORD + 3);
+            let (answer, record) = Both.format_record(&request, position, RECORD + 3);
             assert_eq!((answer.code, record.len()), (0, RECORD));
-            assert_eq!(record_alike(&request, position, RECORD - 1).0.code, 14);
+            assert_eq!(
+                Both.format_record(&request, position, RECORD - 1).0.code,
+                14
+            );
         }
         for position in [records, records + 1, 1 << 32, u64::MAX] {
-            assert_eq!(record_alike(&request, position, RECORD).0.code, 9);
-            assert_eq!(record_alike(&request, position, 0).0.code, 9);
+            assert_eq!(Both.format_record(&request, position, RECORD).0.code, 9);
+            assert_eq!(Both.format_record(&request, position, 0).0.code, 9);
         }
     }
 }
@@ -39,14 +44,15 @@ fn sector_counts_at_every_doubling() {
             files,
             ..SAMPLE
         };
-        let (answer, _) = record_alike(&request, 0, RECORD);
+        count(Compared::ArgumentEdges, 1);
+        let (answer, _) = Both.format_record(&request, 0, RECORD);
         codes[answer.code as usize] += 1;
         let records = request.records().unwrap_or(1_000);
         for position in [1, 2, 3, files + 2, files + 3, records - 4, records - 3] {
-            record_alike(&request, position, RECORD);
+            Both.format_record(&request, position, RECORD);
         }
         for position in [records - 2, records - 1, records] {
-            record_alike(&request, position, RECORD);
+            Both.format_record(&request, position, RECORD);
         }
     };
     for files in [255, 256, 600, 1_024] {
@@ -97,8 +103,29 @@ fn files_out_of_bounds() {
                     files,
                     ..SAMPLE
                 };
-                record_alike(&request, position, RECORD);
-                record_alike(&request, position, RECORD - 1);
+                count(Compared::ArgumentEdges, 1);
+                Both.format_record(&request, position, RECORD);
+                Both.format_record(&request, position, RECORD - 1);
+            }
+        }
+    }
+}
+
+/// The root's fields, in the record that holds them.
+#[test]
+fn root_fields_at_every_edge() {
+    for id in [0, 1, 2, 1 << 32, u64::MAX - 1, u64::MAX] {
+        for mode in [0, 1, u32::MAX - 1, u32::MAX] {
+            for time in [0, 1, u32::MAX - 1, u32::MAX] {
+                count(Compared::ArgumentEdges, 1);
+                let request = FormatRequest {
+                    id,
+                    mode,
+                    time,
+                    ..SAMPLE
+                };
+                let (answer, _) = Both.format_record(&request, 2, RECORD);
+                assert_eq!(answer.code, 0);
             }
         }
     }
@@ -119,7 +146,7 @@ fn random_formats() {
         for _ in 0..4 {
             let position = draw.below(2_000);
             let length = *draw.pick(&[0, RECORD - 1, RECORD, RECORD + 1]);
-            record_alike(&request, position, length);
+            Both.format_record(&request, position, length);
         }
     }
 }

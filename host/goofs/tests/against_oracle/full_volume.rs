@@ -3,9 +3,13 @@
 
 use std::sync::{Mutex, MutexGuard};
 
-use crate::shared::{alike, blank, entry_field, find, put_file, read, table_entry};
+use crate::counts::{count, Compared};
+use crate::shared::{alike, with_each_buffer};
 use oracle::draw::Draw;
 use oracle::layout::{put16, put64, Geometry, SECTOR};
+use oracle::testing::damage::entry_field;
+use oracle::testing::images::{blank, put_file, table_entry};
+use oracle::testing::requests::{create, delete, find, read, resize, write};
 use oracle::Request;
 
 static ONE_AT_A_TIME: Mutex<()> = Mutex::new(());
@@ -72,6 +76,25 @@ fn every_call() {
     }
     let long_after = read(&name(1_023), 64 * 65_536 + 1, 1);
     assert_eq!(alike(&long_after, &image, 1).0.code(), 12);
+    for index in [0, 1, 1_023] {
+        let size = if index < 1_018 { 64 } else { 63 } * 65_536 - index % 3;
+        for (expected, request) in [
+            (11, create(b"new", 1)),
+            (10, create(&name(index), 1)),
+            (0, delete(&name(index))),
+            (0, resize(&name(index), 0)),
+            (0, resize(&name(index), size - 65_536)),
+            (13, resize(&name(index), size + 3)),
+            (0, write(&name(index), 0, vec![1; 65_536])),
+            (13, write(&name(index), size, vec![1; 3])),
+        ] {
+            assert_eq!(
+                with_each_buffer(&request, &image).0,
+                expected,
+                "file {index}"
+            );
+        }
+    }
 }
 
 /// Bytes here and there in the data area.
@@ -91,6 +114,7 @@ fn every_fault() {
     let mut expect = |at: usize, bytes: &[u8], fault: (u64, u64)| {
         let old = image[at..at + bytes.len()].to_vec();
         image[at..at + bytes.len()].copy_from_slice(bytes);
+        count(Compared::DamagedImages, 1);
         for request in [Request::Check, find(&name(9)), Request::List { index: 9 }] {
             alike(&request, &image, 476);
         }
@@ -140,16 +164,22 @@ fn full_table() -> Vec<u8> {
     image
 }
 
-/// One file with all extents, in falling order; then nearly nothing.
+/// One file, "all", with all usable extents in falling order.
+pub fn one_file() -> Vec<u8> {
+    let geometry = geometry();
+    let mut image = blank(geometry, geometry.end().0);
+    let extents: Vec<u64> = (0..geometry.usable_extents()).rev().collect();
+    let size = geometry.largest_size();
+    put_file(&mut image, geometry, 1_023, b"all", size, &extents);
+    image
+}
+
 #[test]
 fn one_file_with_everything() {
     let _alone = alone();
     let geometry = geometry();
-    let mut image = blank(geometry, geometry.end().0);
-    assert_eq!(alike(&Request::Check, &image, 0).0.code(), 0);
-    let extents: Vec<u64> = (0..geometry.usable_extents()).rev().collect();
     let size = geometry.largest_size();
-    put_file(&mut image, geometry, 1_023, b"all", size, &extents);
+    let mut image = one_file();
     assert_eq!(alike(&Request::Check, &image, 0).0.code(), 0);
     let mut draw = Draw::new(42);
     for offset in [0, 65_535, size / 2 + 1, size - 65_536, size - 1, size] {
@@ -160,6 +190,7 @@ fn one_file_with_everything() {
         let entry = table_entry(geometry, 32_000);
         let old = image[entry..entry + 4].to_vec();
         image[entry + at..entry + at + 2].copy_from_slice(&bytes);
+        count(Compared::DamagedImages, 1);
         assert_eq!(alike(&Request::Check, &image, 0).0.code(), 7);
         image[entry..entry + 4].copy_from_slice(&old);
     }

@@ -1,9 +1,16 @@
 //! Other geometries than a format gives: extents of an odd number of sectors, reserves of more than
 //! one extent, every number of files, images of exactly the volume and one sector less.
 
-use crate::shared::{alike, blank, find, put_file, read, table_entry, ANY_LIST};
+use crate::counts::{count, Compared};
+use crate::shared::{alike, calls, with_each_buffer, Both};
 use oracle::draw::Draw;
 use oracle::layout::{put16, put64, Geometry, SECTOR};
+use oracle::power::{draw_cut, groups};
+use oracle::testing::cuts::recovery_length;
+use oracle::testing::images::{blank, put_file, table_entry};
+use oracle::testing::requests::{create, delete, find, read, resize, write};
+use oracle::testing::volumes::ANY_LIST;
+use oracle::testing::Subject;
 use oracle::Request;
 
 /// Fills a volume with files of random lengths in random extents, as many as there are.
@@ -55,6 +62,59 @@ fn all_alike(image: &[u8], geometry: Geometry, files: &[(Vec<u8>, u64)], draw: &
     }
 }
 
+/// Every changing call on the files, each with a list that is long, exact and too short.
+fn changes_alike(image: &[u8], geometry: Geometry, files: &[(Vec<u8>, u64)], draw: &mut Draw) {
+    with_each_buffer(&create(b"new", 77), image);
+    let data = draw.bytes(65_536);
+    for (name, size) in files {
+        let edge = geometry.extent_bytes() * draw.below(size / geometry.extent_bytes() + 1);
+        for request in [
+            delete(name),
+            resize(name, 0),
+            resize(name, edge),
+            resize(name, size + 65_536),
+            write(name, *size, data.clone()),
+            write(
+                name,
+                edge.min(size.saturating_sub(300)),
+                data[..700].to_vec(),
+            ),
+        ] {
+            with_each_buffer(&request, image);
+        }
+    }
+}
+
+/// Deletes the files one after the other; the power fails each time, and again while recovering.
+fn cut_deletes_alike(image: &mut [u8], files: &[(Vec<u8>, u64)], draw: &mut Draw) {
+    for (name, _) in files {
+        while oracle::find(image, name).code == 0 {
+            let (answer, list) = alike(&delete(name), image, ANY_LIST);
+            assert_eq!(answer.code(), 0);
+            land_a_part(image, &list, draw);
+            count(Compared::Cuts, 1);
+            loop {
+                let needed = recovery_length(&Both, image);
+                if needed == 0 {
+                    break;
+                }
+                let (_, list) = Both.recover(image, needed);
+                land_a_part(image, &list, draw);
+                count(Compared::Recoveries, 1);
+                count(Compared::CutRecoveries, 1);
+            }
+            assert_eq!(alike(&Request::Check, image, 0).0.code(), 0);
+        }
+    }
+}
+
+/// Lands a list up to a random cut.
+fn land_a_part(image: &mut [u8], list: &[u8], draw: &mut Draw) {
+    let groups = groups(list);
+    let cut = draw_cut(&groups, draw).expect("the list is not empty");
+    cut.apply(&groups, image);
+}
+
 /// An owner in the first reserve extent, a size at its bound and above it, the last entry.
 fn edges_alike(image: &mut [u8], geometry: Geometry) {
     let usable = geometry.usable_extents();
@@ -64,9 +124,9 @@ fn edges_alike(image: &mut [u8], geometry: Geometry) {
             2 => put16(image, at, number as u16),
             _ => put64(image, at, number),
         }
-        let (answer, _) = alike(&Request::Check, image, 0);
+        count(Compared::DamagedImages, 1);
+        alike(&Request::Check, image, 0);
         image[at..at + width].copy_from_slice(&old);
-        answer
     };
     for extent in [0, usable - 1, usable, geometry.extents() - 1] {
         for owner in [0, 1, geometry.files() - 1, geometry.files(), 65_534, 65_535] {
@@ -92,11 +152,14 @@ fn one_geometry(files: u64, extents: u64, extent_sectors: u64, reserve: u64, see
     all_alike(&image, geometry, &empty, &mut draw);
     let files = fill(&mut image, geometry, &mut draw);
     all_alike(&image, geometry, &files, &mut draw);
+    changes_alike(&image, geometry, &files, &mut draw);
     edges_alike(&mut image, geometry);
 
     let short = image.len() - SECTOR;
+    count(Compared::Truncations, 1);
     let (answer, _) = alike(&Request::Check, &image[..short], 0);
     assert_eq!(answer.code(), 3);
+    cut_deletes_alike(&mut image, &files, &mut draw);
 }
 
 #[test]
@@ -150,7 +213,8 @@ fn geometries_too_large_for_the_image() {
     ] {
         let geometry = Geometry::new(files, extents, extent_sectors).expect("within the bounds");
         let image = blank_start(geometry);
-        for request in crate::shared::calls() {
+        count(Compared::DamagedImages, 1);
+        for request in calls() {
             let (answer, _) = alike(&request, &image, ANY_LIST);
             assert_eq!(answer.code(), 3);
         }

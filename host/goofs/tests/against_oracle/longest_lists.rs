@@ -1,22 +1,21 @@
 //! The longest delete, 514 targets in 17 journal sectors, with its cuts and its recovery, on an
 //! image of 4.3 GB.
 
-use crate::full_volume::{alone, geometry};
-use crate::shared::{alike, blank, delete, put_file, resize, write};
-use crate::shared_changes::recover_alike;
+use crate::full_volume::{alone, geometry, one_file};
+use crate::shared::{alike, Both};
 use oracle::layout::SECTOR;
 use oracle::lists::RECORD;
 use oracle::power::{groups, Cut};
+use oracle::testing::requests::{delete, resize, write};
+use oracle::testing::Subject;
 use oracle::Request;
 
 #[test]
 fn longest_delete() {
     let _alone = alone();
     let geometry = geometry();
-    let mut image = blank(geometry, geometry.end().0);
-    let extents: Vec<u64> = (0..geometry.usable_extents()).rev().collect();
+    let mut image = one_file();
     let size = geometry.largest_size();
-    put_file(&mut image, geometry, 1_023, b"all", size, &extents);
 
     let request = delete(b"all");
     let length = 1_051 * RECORD;
@@ -49,9 +48,9 @@ fn longest_delete() {
     };
     every_third.apply(&groups, &mut image);
     assert_eq!(alike(&Request::Check, &image, 0).0.code(), 5);
-    let (short, _) = recover_alike(&image, 517 * RECORD - 1);
+    let (short, _) = Both.recover(&image, 517 * RECORD - 1);
     assert_eq!(short.code, 14);
-    let (recovered, recovery) = recover_alike(&image, 517 * RECORD);
+    let (recovered, recovery) = Both.recover(&image, 517 * RECORD);
     assert_eq!((recovered.code, recovered.length), (0, 517 * RECORD as u64));
     assert!(recovery[..515 * RECORD] == list[(531 + 1 + 2) * RECORD..][..515 * RECORD]);
 
@@ -71,11 +70,7 @@ fn longest_delete() {
 
 /// What the oracle's delete leaves, landed whole.
 fn after_delete() -> Vec<u8> {
-    let geometry = geometry();
-    let mut image = blank(geometry, geometry.end().0);
-    let extents: Vec<u64> = (0..geometry.usable_extents()).rev().collect();
-    let size = geometry.largest_size();
-    put_file(&mut image, geometry, 1_023, b"all", size, &extents);
+    let mut image = one_file();
     let mut list = vec![0; 1_051 * RECORD];
     let answer = oracle::changes::delete(&image, b"all", 3_000, &mut list);
     assert_eq!(answer.code, 0);

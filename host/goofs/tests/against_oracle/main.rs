@@ -1,11 +1,17 @@
 //! The proved calls beside the oracle, a second implementation of the same rules: every result
 //! number and every byte of a lent buffer must be the same. Each file says what it tries.
+//!
+//! What is compared is counted; this prints the sums:
+//!
+//!     cargo test --offline -p goofs --test against_oracle -- --ignored --nocapture sums
 
 mod arguments;
 mod carrying_out;
 mod cases;
 mod changes;
+mod counts;
 mod cut_short;
+mod cuts;
 mod damage;
 mod faults;
 mod formats;
@@ -16,4 +22,3 @@ mod recoveries;
 mod runs;
 mod sample;
 mod shared;
-mod shared_changes;

@@ -1,10 +1,10 @@
 //! The reading calls on the sample volume, empty and with files.
 
-use crate::shared::{
-    alike, calls_alike, create, delete, find, read, some_files, write, Volume, SAMPLE,
-};
+use crate::shared::{alike, calls_alike};
 use oracle::draw::Draw;
 use oracle::layout::SECTOR;
+use oracle::testing::requests::{create, delete, find, read, write};
+use oracle::testing::volumes::{some_files, Volume, SAMPLE};
 use oracle::{Answer, Request};
 
 /// Summary, check, every list index and, of every file, find and some reads.

@@ -1,8 +1,9 @@
 //! The comparison with the ledger: every byte that the ledger fixes is looked at, and no other.
 
-use super::{create, write, Volume};
 use crate::draw::Draw;
 use crate::layout::SECTOR;
+use crate::testing::requests::{create, delete, write};
+use crate::testing::volumes::Volume;
 
 /// The sample with a file of two extents, one that is deleted again and one with a single byte.
 fn two_files() -> Volume {
@@ -14,7 +15,7 @@ fn two_files() -> Volume {
     volume.done(&write(b"first", 0, draw.bytes(65_536)));
     volume.done(&write(b"third", 0, vec![7]));
     volume.done(&write(b"first", 65_536, draw.bytes(700)));
-    volume.done(&super::delete(b"gone"));
+    volume.done(&delete(b"gone"));
     volume
 }
 

@@ -1,126 +1,29 @@
-//! Every cut of each kind of call on the sample volume, each followed by recovery, and by every cut
-//! of that recovery. Large groups are cut by all prefixes, all singles, all but one, and some
-//! random subsets.
+//! Power cuts: every cut of each kind of call and of the format, and what cuts report, by hand.
 
-use super::audit::audit;
-use super::{ask, create, delete, resize, sample_image, write, Volume, ANY_LIST, SAMPLE};
-use crate::answers::{code, state};
-use crate::draw::Draw;
 use crate::layout::SECTOR;
-use crate::ledger::{CutReport, Ledger};
-use crate::lists::RECORD;
-use crate::power::{every_cut, groups, Cut};
-use crate::request::{Answer, Request};
-use crate::{carry_out, check, format_record, recover, summary};
+use crate::ledger::CutReport;
+use crate::power::{groups, Cut};
+use crate::request::Request;
+use crate::testing::cuts::{
+    cut_each_kind_of_call, cut_over_two_table_sectors, cut_the_format, two_files,
+};
+use crate::testing::requests::{delete, resize, write};
+use crate::testing::volumes::ANY_LIST;
+use crate::testing::{Oracle, Subject};
 
-/// "alpha" has two of the three usable extents, "beta" is empty.
-fn two_files() -> Volume {
-    let mut volume = Volume::sample();
-    let mut draw = Draw::new(11);
-    volume.done(&create(b"alpha", 1));
-    volume.done(&create(b"beta", 2));
-    volume.done(&write(b"alpha", 0, draw.bytes(65_536)));
-    volume.done(&write(b"alpha", 65_536, draw.bytes(4_464)));
-    volume
-}
-
-/// Recovers the image with a list of exactly the right length; one byte less is 14.
-fn recovery_list(image: &[u8]) -> Vec<u8> {
-    let told = summary(image);
-    let needed = if told.state == state::WAITING {
-        (told.entries as usize + 3) * RECORD
-    } else {
-        0
-    };
-    if needed > 0 {
-        let refused = recover(image, &mut vec![0; needed - 1]);
-        assert_eq!((refused.code, refused.length), (code::BUFFER_TOO_SHORT, 0));
-    }
-    let mut list = vec![0; needed];
-    let answer = recover(image, &mut list);
-    assert_eq!((answer.code, answer.length), (0, needed as u64));
-    list
-}
-
-/// Lands every cut of the call and recovers; the ledger says what must stand there then. Gives how
-/// many cuts left the call undone and how many done.
-fn cut_everywhere(volume: &Volume, request: &Request, draw: &mut Draw) -> (usize, usize) {
-    let (answer, list) = ask(request, &volume.image, ANY_LIST);
-    assert!(matches!(answer, Answer::Change(change) if change.code == 0 && change.length > 0));
-    let mut after = volume.ledger.clone();
-    after.call(request, ANY_LIST);
-    audit(request, &volume.ledger, &after, &volume.image, &list);
-
-    let groups = groups(&list);
-    let (mut undone, mut done) = (0, 0);
-    for cut in every_cut(&groups, 60, draw) {
-        let mut image = volume.image.clone();
-        cut.apply(&groups, &mut image);
-        let mut ledger = volume.ledger.clone();
-        let report = cut.report(&groups);
-        let told = ledger
-            .cut_call(request, ANY_LIST, &report)
-            .expect("a list that is not empty is cut");
-        assert_eq!(told.answer, answer);
-        if report.start_mark {
-            assert_eq!(ledger, after);
-            done += 1;
-        } else {
-            undone += 1;
-        }
-
-        let recovery = recovery_list(&image);
-        let waiting = !recovery.is_empty();
-        assert_eq!(check(&image).code, if waiting { code::WAITING } else { 0 });
-        assert_eq!(waiting, report.start_mark && !cut.landed_whole(&groups));
-        for second_cut in every_cut(&crate::power::groups(&recovery), 0, draw) {
-            let mut image = image.clone();
-            second_cut.apply(&crate::power::groups(&recovery), &mut image);
-            let second_recovery = recovery_list(&image);
-            assert_eq!(carry_out(&mut image, &second_recovery), 0);
-            finished(&image, &ledger, &cut);
-        }
-        assert_eq!(carry_out(&mut image, &recovery), 0);
-        finished(&image, &ledger, &cut);
-    }
-    (undone, done)
-}
-
-fn finished(image: &[u8], ledger: &Ledger, cut: &Cut) {
-    assert_eq!(check(image).code, 0, "{cut:?}");
-    ledger
-        .compare(image)
-        .unwrap_or_else(|difference| panic!("{difference} after {cut:?}"));
+#[test]
+fn of_each_kind_of_call() {
+    cut_each_kind_of_call(&Oracle);
 }
 
 #[test]
-fn every_cut_of_each_kind_of_call() {
-    let volume = two_files();
-    let mut draw = Draw::new(12);
-    let calls = [
-        create(b"gamma", 3),
-        delete(b"alpha"),
-        delete(b"beta"),
-        // Over the extent edge without growing; the last bytes of the file; growing within the
-        // extent.
-        write(b"alpha", 65_000, draw.bytes(2_000)),
-        write(b"alpha", 69_990, draw.bytes(10)),
-        write(b"alpha", 69_000, draw.bytes(5_000)),
-        // A new extent for an empty file, and one for a file that has two.
-        write(b"beta", 0, draw.bytes(65_536)),
-        write(b"alpha", 69_999, draw.bytes(65_536)),
-        write(b"beta", 0, draw.bytes(1)),
-        resize(b"alpha", 0),
-        resize(b"alpha", 65_536),
-        resize(b"alpha", 69_999),
-        resize(b"alpha", 70_001),
-        resize(b"alpha", 70_000 + 65_536),
-        resize(b"beta", 600),
-    ];
-    for request in &calls {
-        let (undone, done) = cut_everywhere(&volume, request, &mut draw);
-        assert!(undone > 0 && done > 0);
-    }
+fn over_two_table_sectors() {
+    cut_over_two_table_sectors(&Oracle);
+}
+
+#[test]
+fn of_the_format() {
+    cut_the_format(&Oracle);
 }
 
 /// Reported by hand: what a cut says of the start mark and the data sectors.
@@ -128,7 +31,7 @@ fn every_cut_of_each_kind_of_call() {
 fn reports_of_cuts() {
     let volume = two_files();
     // Three data sectors, two copies, one journal sector.
-    let (_, list) = ask(&write(b"beta", 0, vec![1; 1_025]), &volume.image, ANY_LIST);
+    let (_, list) = Oracle.ask(&write(b"beta", 0, vec![1; 1_025]), &volume.image, ANY_LIST);
     let groups = groups(&list);
     let report = |groups_before, landed: &[usize]| {
         Cut {
@@ -160,7 +63,7 @@ fn undone_write_leaves_landed_sectors() {
     let mut volume = two_files();
     let old = volume.ledger.slots()[0].clone().expect("alpha");
     let request = write(b"alpha", 69_000, vec![170; 5_000]);
-    let (_, list) = ask(&request, &volume.image, ANY_LIST);
+    let (_, list) = Oracle.ask(&request, &volume.image, ANY_LIST);
     let groups = groups(&list);
     // The second data sector, the one with the file's end, and one past it.
     let end_sector = 70_000 / SECTOR - 69_000 / SECTOR;
@@ -201,35 +104,4 @@ fn calls_without_a_list_are_not_cut() {
         assert_eq!(volume.ledger.cut_call(&request, ANY_LIST, &all), None);
     }
     assert_eq!(volume.ledger, before);
-}
-
-/// From its first record to its last a format leaves an unfinished volume, whatever subset of its
-/// middle landed.
-#[test]
-fn cut_formats_are_unfinished() {
-    let records = SAMPLE.records().unwrap();
-    let mut list = vec![0; records as usize * RECORD];
-    for (position, record) in list.chunks_mut(RECORD).enumerate() {
-        assert_eq!(format_record(&SAMPLE, position as u64, record).code, 0);
-    }
-    let groups = groups(&list);
-    let mut draw = Draw::new(13);
-    for cut in every_cut(&groups, 20, &mut draw) {
-        // An older volume of another geometry stands there.
-        let mut image = sample_image();
-        image[3] = 3;
-        let older = summary(&image);
-        cut.apply(&groups, &mut image);
-        let told = summary(&image);
-        if cut.groups_before == 0 && cut.landed.is_empty() {
-            assert_eq!(told, older);
-        } else if cut.landed_whole(&groups) {
-            assert_eq!((told.state, told.extents), (state::CLEAN, 4));
-            Ledger::new(&SAMPLE).unwrap().compare(&image).unwrap();
-        } else {
-            assert_eq!((told.state, told.extents), (state::UNFINISHED, 4));
-            assert_eq!(check(&image).code, code::UNFINISHED);
-            assert_eq!(recover(&image, &mut []).code, code::UNFINISHED);
-        }
-    }
 }

@@ -1,25 +1,19 @@
 //! Recovery of journals that no call wrote: random entries at the edges of the areas against a slow
 //! reading of the rule, in any order, with shared sources, and as long as the journal.
 
-use super::sample_image;
 use crate::answers::code;
 use crate::draw::Draw;
 use crate::layout::{put16, put64, SECTOR};
 use crate::lists::RECORD;
 use crate::recover;
-
-const JOURNAL: usize = 257 * SECTOR;
-
-fn set_journal(image: &mut [u8], entries: &[(u64, u64)]) {
-    put16(image, 18, entries.len() as u16);
-    for (k, (source, target)) in entries.iter().enumerate() {
-        put64(image, JOURNAL + 16 * k, *source);
-        put64(image, JOURNAL + 16 * k + 8, *target);
-    }
-}
+use crate::testing::damage::{
+    draw_journal, journal_field, journal_of_all_targets, set_journal, JournalEntry,
+};
+use crate::testing::volumes::Volume;
+use crate::testing::{Oracle, Subject};
 
 /// The list by the rule: the lowest target left, again and again; or nothing.
-fn plain_recovery(image: &[u8], entries: &[(u64, u64)]) -> Option<Vec<u8>> {
+fn plain_recovery(image: &[u8], entries: &[JournalEntry]) -> Option<Vec<u8>> {
     let mut left = entries.to_vec();
     let mut list = Vec::new();
     let contents = |sector: u64| &image[sector as usize * SECTOR..][..SECTOR];
@@ -42,13 +36,11 @@ fn plain_recovery(image: &[u8], entries: &[(u64, u64)]) -> Option<Vec<u8>> {
     Some(list)
 }
 
-fn recovered_alike(image: &[u8], entries: &[(u64, u64)], draw: &mut Draw) -> u64 {
+fn recovered_alike(image: &[u8], entries: &[JournalEntry], draw: &mut Draw) -> u64 {
     let expected = plain_recovery(image, entries);
     let needed = (entries.len() + 3) * RECORD;
     let length = *draw.pick(&[0, needed - 1, needed, needed + 1, needed + RECORD]);
-    let mut list = super::lent(length);
-    let answer = recover(image, &mut list);
-    let filled = super::kept_rest(list, answer.length as usize);
+    let (answer, filled) = Oracle.recover(image, length);
     let expected = match expected {
         None => (code::DAMAGED, Vec::new()),
         Some(_) if length < needed => (code::BUFFER_TOO_SHORT, Vec::new()),
@@ -60,40 +52,23 @@ fn recovered_alike(image: &[u8], entries: &[(u64, u64)], draw: &mut Draw) -> u64
 
 #[test]
 fn random_journals() {
-    let mut image = sample_image();
+    let mut image = Volume::sample().image;
     let mut draw = Draw::new(31);
     let mut seen = [0; 15];
     for _ in 0..3_000 {
-        let count = draw.between(1, 6);
-        let wild = draw.one_in(2);
-        let entries: Vec<(u64, u64)> = (0..count)
-            .map(|_| {
-                let source = if wild && draw.one_in(4) {
-                    *draw.pick(&[0, 1, 289, 802, 1_312, 1_313, u64::MAX])
-                } else {
-                    *draw.pick(&[290, 291, 500, 673, 674, 675, 801])
-                };
-                let target = if wild && draw.one_in(4) {
-                    *draw.pick(&[0, 257, 288, 290, 674, u64::MAX])
-                } else {
-                    *draw.pick(&[1, 2, 3, 4, 5, 255, 256, 289])
-                };
-                (source, target)
-            })
-            .collect();
+        let entries = draw_journal(&mut draw);
         set_journal(&mut image, &entries);
         seen[recovered_alike(&image, &entries, &mut draw) as usize] += 1;
     }
     assert!(seen[0] > 100 && seen[6] > 100 && seen[14] > 100, "{seen:?}");
 }
 
-/// Root, the whole directory and the table of the sample: 257 targets, in falling order, all from
-/// one source.
+/// Root, the whole directory and the table of the sample: 257 targets, in falling order.
 #[test]
 fn all_targets_at_once() {
-    let mut image = sample_image();
+    let mut image = Volume::sample().image;
     let mut draw = Draw::new(32);
-    let mut entries: Vec<(u64, u64)> = (1..257).chain([289]).map(|target| (700, target)).collect();
+    let mut entries = journal_of_all_targets();
     entries.reverse();
     set_journal(&mut image, &entries);
     let codes: Vec<u64> = (0..20)
@@ -101,7 +76,7 @@ fn all_targets_at_once() {
         .collect();
     assert!(codes.contains(&code::DONE) && codes.contains(&code::BUFFER_TOO_SHORT));
     // An entry past the count is not judged; one more that is counted has a target twice.
-    put64(&mut image, JOURNAL + 16 * 257, 0);
+    put64(&mut image, journal_field(257, 0), 0);
     assert_eq!(recover(&image, &mut vec![0; 260 * RECORD]).code, code::DONE);
     entries.push((700, 1));
     set_journal(&mut image, &entries);
@@ -111,7 +86,7 @@ fn all_targets_at_once() {
 /// Recovery lands what the copies hold, sound or not.
 #[test]
 fn recovery_is_not_a_judgement() {
-    let mut image = sample_image();
+    let mut image = Volume::sample().image;
     // A directory entry with a bad mark.
     image[700 * SECTOR..701 * SECTOR].fill(3);
     let mut draw = Draw::new(33);

@@ -1,56 +1,15 @@
 //! The judgement of images: each fault by hand, and thousands of spoilt images and images of any
 //! bytes against a slow second judge that follows the definitions word by word.
 
-use super::{create, resize, write, Volume};
-use crate::answers::{fault, CheckAnswer, Refusal};
+use crate::answers::{CheckAnswer, Refusal};
 use crate::draw::Draw;
-use crate::layout::{put16, put32, put64, SECTOR};
-use crate::ledger::Ledger;
+use crate::layout::{put16, put32, SECTOR};
 use crate::request::{Answer, Request};
+use crate::testing::damage::{spoil_fields, FAULTS};
+use crate::testing::requests::{create, delete, find, read, resize, write};
+use crate::testing::volumes::{some_files, ANY_LIST};
+use crate::testing::{Oracle, Subject};
 use crate::{check, format_record, recover, summary, FormatRequest};
-
-/// Six extents, five of them usable: "ab" has three, "abc" and "cab" one each. Entry 3 is free
-/// again between occupied ones.
-fn some_files() -> Volume {
-    let request = FormatRequest {
-        sectors: 546 + 255 + 6 * 128,
-        files: 255,
-        id: 900,
-        mode: 1,
-        time: 1,
-    };
-    let ledger = Ledger::new(&request).unwrap();
-    let mut volume = Volume {
-        image: super::formatted(&request),
-        ledger,
-    };
-    for (name, id) in [
-        (&b"a"[..], 1),
-        (b"ab", 2),
-        (b"abc", 3),
-        (b"b", 4),
-        (b"c", 5),
-        (b"cab", 6),
-    ] {
-        volume.done(&create(name, id));
-    }
-    volume.done(&resize(b"ab", 65_536));
-    volume.done(&write(b"abc", 0, vec![1; 5]));
-    volume.done(&resize(b"ab", 131_072));
-    volume.done(&resize(b"ab", 131_073));
-    volume.done(&write(b"cab", 0, vec![2; 600]));
-    volume.done(&super::delete(b"b"));
-    volume
-}
-
-/// Byte offsets in the image of an entry's field and of an extent's table entry.
-fn entry_field(index: u64, field: usize) -> usize {
-    (2 + index as usize) * SECTOR + field
-}
-
-fn table_field(extent: u64, field: usize) -> usize {
-    (34 + 255) * SECTOR + 4 * extent as usize + field
-}
 
 /// A big-endian number of this many bytes.
 fn number(image: &[u8], at: usize, length: usize) -> u128 {
@@ -163,11 +122,11 @@ fn plain_check(image: &[u8]) -> CheckAnswer {
 fn judging_calls() -> Vec<Request> {
     vec![
         Request::Check,
-        super::find(b"a"),
+        find(b"a"),
         Request::List { index: 0 },
-        super::read(b"ab", 0, 10),
+        read(b"ab", 0, 10),
         create(b"new", 77),
-        super::delete(b"ab"),
+        delete(b"ab"),
         resize(b"ab", 0),
         resize(b"ab", 131_074),
         write(b"abc", 0, vec![1; 600]),
@@ -182,7 +141,7 @@ fn judged_alike(image: &[u8]) -> CheckAnswer {
         let CheckAnswer { code, fault, place } = expected;
         let refusal = Refusal { code, fault, place };
         for request in judging_calls() {
-            let (answer, filled) = super::ask(&request, image, super::ANY_LIST);
+            let (answer, filled) = Oracle.ask(&request, image, ANY_LIST);
             let expected = match answer {
                 Answer::Check(_) => Answer::Check(refusal.into()),
                 Answer::Find(_) => Answer::Find(refusal.into()),
@@ -204,238 +163,22 @@ fn each_fault_by_hand() {
     assert_eq!(judged_alike(&sound).code, 0);
     for request in judging_calls() {
         assert_eq!(
-            super::ask(&request, &sound, super::ANY_LIST).0.code(),
+            Oracle.ask(&request, &sound, ANY_LIST).0.code(),
             0,
             "{request:?}"
         );
     }
-    let spoilt = |spoil: &dyn Fn(&mut [u8])| {
+    for (number, (expected, spoil)) in FAULTS.iter().enumerate() {
         let mut image = sound.clone();
         spoil(&mut image);
         let answer = judged_alike(&image);
-        (answer.fault, answer.place)
-    };
-    // 21: also an entry that was free, and the lowest place first.
-    assert_eq!(
-        spoilt(&|image| put16(image, entry_field(254, 0), 1)),
-        (fault::MARK, 254)
-    );
-    assert_eq!(
-        spoilt(&|image| {
-            put16(image, entry_field(9, 0), 65_534);
-            put16(image, entry_field(3, 0), 1);
-            put16(image, entry_field(0, 34), 0);
-        }),
-        (fault::MARK, 3)
-    );
-    // 22: length, a zero in the name, size; a free entry isn't judged.
-    assert_eq!(
-        spoilt(&|image| put16(image, entry_field(2, 34), 0)),
-        (fault::NAME_OR_SIZE, 2)
-    );
-    assert_eq!(
-        spoilt(&|image| put16(image, entry_field(2, 34), 477)),
-        (fault::NAME_OR_SIZE, 2)
-    );
-    assert_eq!(
-        spoilt(&|image| put16(image, entry_field(2, 34), 65_535)),
-        (fault::NAME_OR_SIZE, 2)
-    );
-    assert_eq!(
-        spoilt(&|image| image[entry_field(2, 37)] = 0),
-        (fault::NAME_OR_SIZE, 2)
-    );
-    assert_eq!(
-        spoilt(&|image| put64(image, entry_field(2, 2), 5 * 65_536 + 1)),
-        (fault::NAME_OR_SIZE, 2)
-    );
-    assert_eq!(
-        spoilt(&|image| put64(image, entry_field(2, 2), u64::MAX)),
-        (fault::NAME_OR_SIZE, 2)
-    );
-    assert_eq!(
-        spoilt(&|image| put64(image, entry_field(2, 2), 5 * 65_536)),
-        (fault::EXTENTS, 2)
-    );
-    assert_eq!(
-        spoilt(&|image| image[entry_field(3, 2)..entry_field(4, 0)].fill(0)),
-        (0, 0)
-    );
-    assert_eq!(
-        spoilt(&|image| image[entry_field(3, 2)..entry_field(4, 0)].fill(1)),
-        (0, 0)
-    );
-    // 23: names compared over their whole length, from byte 36 on.
-    assert_eq!(
-        spoilt(&|image| put16(image, entry_field(2, 34), 2)),
-        (fault::SAME_NAME, 2)
-    );
-    assert_eq!(
-        spoilt(&|image| put16(image, entry_field(2, 34), 1)),
-        (fault::SAME_NAME, 2)
-    );
-    assert_eq!(spoilt(&|image| image[entry_field(2, 39)] = b'x'), (0, 0));
-    // 24: zero, the root's, a lower entry's; not a free entry's.
-    assert_eq!(
-        spoilt(&|image| put64(image, entry_field(4, 14), 0)),
-        (fault::ID, 4)
-    );
-    assert_eq!(
-        spoilt(&|image| put64(image, entry_field(4, 14), 900)),
-        (fault::ID, 4)
-    );
-    assert_eq!(
-        spoilt(&|image| put64(image, entry_field(4, 14), 6)),
-        (fault::ID, 5)
-    );
-    assert_eq!(spoilt(&|image| put64(image, 512 + 4, 1)), (fault::ID, 0));
-    assert_eq!(
-        spoilt(&|image| {
-            put64(image, entry_field(3, 14), 1);
-            put64(image, 512 + 4, 0);
-        }),
-        (0, 0)
-    );
-    // 25: a free file, no file, and the reserve; the offset of a free extent isn't judged.
-    assert_eq!(
-        spoilt(&|image| put16(image, table_field(4, 0), 3)),
-        (fault::TABLE_ENTRY, 4)
-    );
-    assert_eq!(
-        spoilt(&|image| put16(image, table_field(0, 0), 255)),
-        (fault::TABLE_ENTRY, 0)
-    );
-    assert_eq!(
-        spoilt(&|image| put16(image, table_field(0, 0), 65_534)),
-        (fault::TABLE_ENTRY, 0)
-    );
-    assert_eq!(
-        spoilt(&|image| put16(image, table_field(5, 0), 4)),
-        (fault::TABLE_ENTRY, 5)
-    );
-    assert_eq!(spoilt(&|image| put16(image, table_field(5, 2), 4)), (0, 0));
-    assert_eq!(
-        spoilt(&|image| image[table_field(6, 0)..table_field(128, 0)].fill(0)),
-        (0, 0)
-    );
-    // 26: one too many, one too few, twice the same offset, an offset too large.
-    assert_eq!(
-        spoilt(&|image| put64(image, entry_field(1, 2), 131_072)),
-        (fault::EXTENTS, 1)
-    );
-    assert_eq!(
-        spoilt(&|image| put64(image, entry_field(1, 2), 3 * 65_536 + 1)),
-        (fault::EXTENTS, 1)
-    );
-    assert_eq!(
-        spoilt(&|image| put64(image, entry_field(1, 2), 3 * 65_536)),
-        (0, 0)
-    );
-    assert_eq!(
-        spoilt(&|image| put16(image, table_field(0, 2), 1)),
-        (fault::EXTENTS, 1)
-    );
-    assert_eq!(
-        spoilt(&|image| put16(image, table_field(0, 2), 3)),
-        (fault::EXTENTS, 1)
-    );
-    assert_eq!(
-        spoilt(&|image| put16(image, table_field(0, 0), 65_535)),
-        (fault::EXTENTS, 1)
-    );
-    assert_eq!(
-        spoilt(&|image| put16(image, table_field(0, 0), 0)),
-        (fault::EXTENTS, 0)
-    );
-}
-
-/// Changes a byte or two where it matters.
-fn spoil(image: &mut [u8], draw: &mut Draw) {
-    let index = draw.below(8);
-    let other = draw.below(8);
-    match draw.below(14) {
-        0 => put16(
-            image,
-            entry_field(draw.pick(&[index, 254]).to_owned(), 0),
-            *draw.pick(&[0, 1, 65_534, 65_535]),
-        ),
-        1 => put64(image, entry_field(index, 2), draw.number()),
-        2 => put64(
-            image,
-            entry_field(index, 2),
-            (draw.below(8) * 65_536 + draw.below(3)).wrapping_sub(1),
-        ),
-        3 => put64(
-            image,
-            entry_field(index, 14),
-            *draw.pick(&[0, 900, 1, 2, 3, 4, 5, 6, 7]),
-        ),
-        4 => put16(
-            image,
-            entry_field(index, 34),
-            *draw.pick(&[0, 1, 2, 3, 476, 477, 65_535]),
-        ),
-        5 => image[entry_field(index, 36 + draw.below(4) as usize)] = *draw.pick(b"\0abc"),
-        6 => {
-            let name: Vec<u8> = image[entry_field(other, 34)..entry_field(other, 512)].to_vec();
-            image[entry_field(index, 34)..entry_field(index, 512)].copy_from_slice(&name);
-        }
-        7 | 8 => put16(
-            image,
-            table_field(draw.below(6), 0),
-            *draw.pick(&[0, 1, 2, 3, 4, 5, 6, 254, 255, 65_535]),
-        ),
-        9 | 10 => put16(
-            image,
-            table_field(draw.below(6), 2),
-            *draw.pick(&[0, 1, 2, 3, 65_535]),
-        ),
-        11 => put64(image, 512 + 4, draw.below(8)),
-        12 => put16(
-            image,
-            18,
-            *draw.pick(&[0, 0, 0, 1, 1_024, 1_025, 65_534, 65_535]),
-        ),
-        _ => {
-            let (from, to) = (table_field(draw.below(6), 0), table_field(draw.below(6), 0));
-            let entry: [u8; 4] = image[from..from + 4].try_into().unwrap();
-            image[to..to + 4].copy_from_slice(&entry);
-        }
+        assert_eq!((answer.fault, answer.place), *expected, "fault {number}");
     }
 }
 
 #[test]
 fn spoilt_images_against_the_slow_judge() {
-    let sound = some_files().image;
-    let metadata = 290 * SECTOR;
-    let mut image = sound.clone();
-    let mut draw = Draw::new(21);
-    let mut seen = std::collections::BTreeMap::new();
-    for _ in 0..12_000 {
-        image[..metadata].copy_from_slice(&sound[..metadata]);
-        for _ in 0..draw.between(1, 3) {
-            spoil(&mut image, &mut draw);
-        }
-        let answer = judged_alike(&image);
-        *seen.entry((answer.code, answer.fault)).or_insert(0) += 1;
-    }
-    for kind in [
-        (0, 0),
-        (4, 0),
-        (5, 0),
-        (6, 0),
-        (7, 21),
-        (7, 22),
-        (7, 23),
-        (7, 24),
-        (7, 25),
-        (7, 26),
-    ] {
-        assert!(
-            seen.get(&kind).copied().unwrap_or(0) > 100,
-            "{kind:?} is too rare: {seen:?}"
-        );
-    }
+    spoil_fields(12_000, judged_alike);
 }
 
 /// Images of any length and bytes: nothing panics, and summary, check and recovery agree with the
@@ -480,7 +223,7 @@ fn any_bytes() {
         let answer = judged_alike(&image);
         *seen.entry(answer.code).or_insert(0) += 1;
         let told = summary(&image);
-        let recovered = recover(&image, &mut vec![0; super::ANY_LIST]);
+        let recovered = recover(&image, &mut vec![0; ANY_LIST]);
         if answer.code <= 3 && answer.code > 0 {
             assert_eq!((told.code, recovered.code), (answer.code, answer.code));
             assert_eq!((told.files, told.extents, told.extent_sectors), (0, 0, 0));

@@ -1,11 +1,14 @@
 //! The numbers that a call gives back, their order, and the edges of single calls.
 
-use super::{create, delete, find, formatted, read, resize, sample_image, write, Volume, SAMPLE};
 use crate::answers::{code, state, FormatRecordAnswer, SummaryAnswer};
-use crate::layout::{get32, put16, put32, Geometry, SECTOR};
-use crate::lists::{BARRIER, RECORD};
-use crate::request::{Answer, Request};
-use crate::{carry_out, check, format_record, recover, summary, FormatRequest};
+use crate::draw::Draw;
+use crate::layout::{get32, get64, put16, put32, Geometry, SECTOR};
+use crate::lists::{BARRIER, NUMBER, RECORD};
+use crate::request::Request;
+use crate::testing::requests::{create, delete, find, read, resize, write};
+use crate::testing::volumes::{Volume, ANY_LIST, SAMPLE};
+use crate::testing::{Oracle, Subject};
+use crate::{carry_out, check, recover, summary, FormatRequest};
 
 fn one_of_each_call() -> Vec<Request> {
     vec![
@@ -21,7 +24,7 @@ fn one_of_each_call() -> Vec<Request> {
 }
 
 fn code_of(request: &Request, image: &[u8], buffer_length: usize) -> u64 {
-    super::ask(request, image, buffer_length).0.code()
+    Oracle.ask(request, image, buffer_length).0.code()
 }
 
 #[test]
@@ -55,7 +58,7 @@ fn images_that_are_no_volume() {
     ];
     for (expected, image) in images {
         for request in one_of_each_call() {
-            assert_eq!(code_of(&request, &image, super::ANY_LIST), expected);
+            assert_eq!(code_of(&request, &image, ANY_LIST), expected);
         }
         assert_eq!(recover(&image, &mut []).code, expected);
         let told = summary(&image);
@@ -97,7 +100,7 @@ fn every_state() {
     for (length, refusal, expected_state, entries) in lengths {
         put16(&mut image, 18, length);
         for request in one_of_each_call() {
-            assert_eq!(code_of(&request, &image, super::ANY_LIST), refusal);
+            assert_eq!(code_of(&request, &image, ANY_LIST), refusal);
         }
         let told = summary(&image);
         assert_eq!(
@@ -174,31 +177,11 @@ fn lowest_number_first() {
         (0, resize(b"full", 3 * 65_536)),
     ];
     for (expected, request) in answers {
-        let (answer, filled) = super::ask(&request, &image, 0);
+        let (answer, filled) = Oracle.ask(&request, &image, 0);
         assert_eq!(answer.code(), expected, "{request:?}");
         assert!(filled.is_empty());
         assert_eq!(volume.ledger.call(&request, 0).answer, answer);
     }
-}
-
-#[test]
-fn directory_full() {
-    let mut volume = Volume::sample();
-    let name = |number: u64| format!("file {number}").into_bytes();
-    for number in 1..=255 {
-        volume.done(&create(&name(number), number));
-    }
-    assert_eq!(
-        volume.call(&create(&name(256), 256)).0,
-        code::DIRECTORY_FULL
-    );
-    assert_eq!(volume.call(&create(&name(256), 255)).0, code::ALREADY_THERE);
-    volume.done(&delete(&name(200)));
-    volume.done(&delete(&name(100)));
-    // The lowest free entry, and an id that is free again.
-    volume.done(&create(&name(256), 200));
-    let (answer, _) = super::ask(&find(&name(256)), &volume.image, 0);
-    assert!(matches!(answer, Answer::Find(found) if found.index == 99 && found.id == 200));
 }
 
 /// Versions wrap and times go back.
@@ -231,7 +214,7 @@ fn versions_and_times() {
             2 * SECTOR + 30,
         ),
     ] {
-        let (_, list) = super::ask(&request, &image, super::ANY_LIST);
+        let (_, list) = Oracle.ask(&request, &image, ANY_LIST);
         assert!(get32(&image, time_at) > 1);
         assert_eq!(carry_out(&mut image, &list), 0);
         assert_eq!((get32(&image, version_at), get32(&image, time_at)), (0, 1));
@@ -279,7 +262,7 @@ fn carrying_out() {
         record.extend([byte; SECTOR]);
         record
     };
-    let lent = super::lent(3 * SECTOR);
+    let lent = Draw::new(61).bytes(3 * SECTOR);
     let after = |list: &[u8]| {
         let mut image = lent.clone();
         let code = carry_out(&mut image, list);
@@ -327,14 +310,9 @@ fn format_records() {
     let geometry = request.geometry().unwrap();
     assert_eq!((geometry.extents(), geometry.table_sectors()), (129, 2));
     let record = |position| {
-        let mut output = super::lent(RECORD + 3);
-        let answer = format_record(&request, position, &mut output);
-        assert_eq!((answer.code, answer.length), (0, RECORD as u64));
-        let output = super::kept_rest(output, RECORD);
-        (
-            u64::from_be_bytes(output[..8].try_into().unwrap()),
-            output[8..].to_vec(),
-        )
+        let (answer, output) = Oracle.format_record(&request, position, RECORD + 3);
+        assert_eq!((answer.code, output.len()), (0, RECORD));
+        (get64(&output, 0), output[NUMBER..].to_vec())
     };
     let contents = |start: &[u8]| [start, &vec![0; SECTOR - start.len()]].concat();
     let superblock = |length: &[u8]| {
@@ -364,111 +342,35 @@ fn format_records() {
     assert_eq!(record(307), barrier);
     assert_eq!(request.records(), Some(308));
 
-    let refusal = |request: &FormatRequest, position, length| {
-        let mut output = super::lent(length);
-        let answer = format_record(request, position, &mut output);
-        super::kept_rest(output, 0);
-        assert_eq!(
-            answer,
-            FormatRecordAnswer {
-                code: answer.code,
-                length: 0
-            }
-        );
-        answer.code
-    };
-    assert_eq!(refusal(&request, 308, 0), 9);
-    assert_eq!(refusal(&request, u64::MAX, RECORD), 9);
-    assert_eq!(refusal(&request, 307, RECORD - 1), 14);
-    assert_eq!(
-        refusal(
-            &FormatRequest {
-                files: 254,
-                ..request
-            },
-            308,
-            0
-        ),
-        8
-    );
-    assert_eq!(
-        refusal(
-            &FormatRequest {
-                files: 1_025,
-                ..request
-            },
-            0,
-            RECORD
-        ),
-        8
-    );
-    assert_eq!(
-        refusal(
-            &FormatRequest {
-                files: u64::MAX,
-                ..request
-            },
-            0,
-            RECORD
-        ),
-        8
-    );
-    assert_eq!(
-        refusal(
-            &FormatRequest {
-                sectors: 0,
-                ..request
-            },
-            0,
-            RECORD
-        ),
-        8
-    );
-    assert_eq!(
-        refusal(
-            &FormatRequest {
-                sectors: 845,
-                ..request
-            },
-            0,
-            RECORD
-        ),
-        8
-    );
-    assert_eq!(
-        refusal(
-            &FormatRequest {
-                sectors: u64::MAX,
-                ..request
-            },
-            0,
-            RECORD
-        ),
-        8
-    );
-    let most = FormatRequest {
-        sectors: (1 << 47) + 545 + 300,
-        ..request
-    };
+    let of_files = |files| FormatRequest { files, ..request };
+    let of_sectors = |sectors| FormatRequest { sectors, ..request };
+    for (code, format, position, length) in [
+        (9, request, 308, 0),
+        (9, request, u64::MAX, RECORD),
+        (14, request, 307, RECORD - 1),
+        (8, of_files(254), 308, 0),
+        (8, of_files(1_025), 0, RECORD),
+        (8, of_files(u64::MAX), 0, RECORD),
+        (8, of_sectors(0), 0, RECORD),
+        (8, of_sectors(845), 0, RECORD),
+        (8, of_sectors(u64::MAX), 0, RECORD),
+    ] {
+        let (answer, _) = Oracle.format_record(&format, position, length);
+        assert_eq!(answer, FormatRecordAnswer { code, length: 0 }, "{format:?}");
+    }
+    let most = of_sectors((1 << 47) + 545 + 300);
     assert_eq!(most.geometry(), Geometry::new(300, 65_535, 1 << 31));
-    assert_eq!(
-        FormatRequest {
-            sectors: most.sectors + 1,
-            ..most
-        }
-        .geometry(),
-        None
-    );
+    assert_eq!(of_sectors(most.sectors + 1).geometry(), None);
 }
 
 /// A root id of 0 is allowed, and a longer image than the volume.
 #[test]
 fn odd_volumes() {
-    let mut image = formatted(&FormatRequest { id: 0, ..SAMPLE });
+    let mut image = Volume::formatted(&Oracle, &FormatRequest { id: 0, ..SAMPLE }).image;
     image.extend([9; SECTOR]);
     assert_eq!(check(&image).code, 0);
-    assert_eq!(code_of(&create(b"a", 1), &image, super::ANY_LIST), 0);
-    assert_eq!(summary(&image), summary(&sample_image()));
+    assert_eq!(code_of(&create(b"a", 1), &image, ANY_LIST), 0);
+    assert_eq!(summary(&image), summary(&Volume::sample().image));
 }
 
 /// A new extent keeps its old bytes outside the span, and the edge of an extent takes no further

@@ -1,0 +1,5 @@
+-- Laws that the proofs of the functions share.
+pub mod Sums
+pub mod Exact
+pub mod Marks
+pub mod Verdict

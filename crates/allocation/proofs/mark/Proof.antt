@@ -1,0 +1,133 @@
+-- `allocation::mark` meets its contract. Each return is a law of what one more extent changes.
+use native.Mathlib.Omega.{arith}
+use Rattle.model.specs.Disk.{view}
+use Rattle.allocation.proofs.Marks.{range, mark-later, past, again, new}
+use borrow.Author.Needs.{needs}
+use Rattle.allocation.proofs.mark.Statement.{statement}
+use Rattle.allocation.proofs.mark.Tie as tie
+
+table-file-requires : tie.Need-table-file-requires
+table-file-requires c κs = search needs
+
+returns : tie.Need-returns
+returns c =
+    let s = c .before .before .before .before .before in
+    let a = s .args in
+    let d = view (a .img .now) in
+    let f = c .before .table-file in
+    (mark-later (a .g) d (a .e .0) (a .m) (a .seen .now) (s .pre .1 .1 .1) (f .result) (f .ensures .0) (c .if1 .taken), omega arith)
+
+mul-p : tie.Need-mul-p
+mul-p c = search needs
+
+shared-slice-read-p : tie.Need-shared-slice-read-p
+shared-slice-read-p c = search needs
+
+cast-p : tie.Need-cast-p
+cast-p c =
+    let s = c .before .before .before .before .before .before in
+    let a = s .args in
+    let d = view (a .img .now) in
+    let f = c .before .before .table-file in
+    let r = range (a .g) d (a .m) (f .result) (a .starts .now) (s .pre .1 .1 .0) (c .before .if1 .left) in
+    omega arith
+
+table-offset-requires : tie.Need-table-offset-requires
+table-offset-requires c κs = search needs
+
+add-p : tie.Need-add-p
+add-p c =
+    let s = c .before .before .before .before .before .before .before in
+    let a = s .args in
+    let d = view (a .img .now) in
+    let f = c .before .before .before .table-file in
+    let r = range (a .g) d (a .m) (f .result) (a .starts .now) (s .pre .1 .1 .0) (c .before .before .if1 .left) in
+    omega arith
+
+add-if2 : tie.Need-add-if2
+add-if2 c = search needs
+
+mul-if2 : tie.Need-mul-if2
+mul-if2 c = search needs
+
+shared-slice-read-if2 : tie.Need-shared-slice-read-if2
+shared-slice-read-if2 c = search needs
+
+cast-if2 : tie.Need-cast-if2
+cast-if2 c =
+    let s = c .before .before .before .before .before .before .before .before in
+    let a = s .args in
+    let d = view (a .img .now) in
+    let f = c .before .before .before .before .table-file in
+    let r = range (a .g) d (a .m) (f .result) (a .starts .now) (s .pre .1 .1 .0) (c .before .before .before .if1 .left) in
+    omega arith
+
+returns-2 : tie.Need-returns-2
+returns-2 c =
+    let s = c .before .before .before .before .before .before .before .before .before in
+    let a = s .args in
+    let d = view (a .img .now) in
+    let f = c .before .before .before .before .before .table-file in
+    let o = c .before .before .table-offset in
+    (past (a .g) d (a .e .0) (a .m) (a .seen .now) (s .pre .1 .1 .1) (f .result) (f .ensures .0) (o .result) (o .ensures .0) (a .starts .now) (s .pre .1 .1 .0) (c .before .before .before .before .if1 .left) (omega arith), omega arith)
+
+slice-read-if3 : tie.Need-slice-read-if3
+slice-read-if3 c =
+    let s = c .before .before .before .before .before .before .before .before .before .before in
+    let a = s .args in
+    let d = view (a .img .now) in
+    let f = c .before .before .before .before .before .before .table-file in
+    let r = range (a .g) d (a .m) (f .result) (a .starts .now) (s .pre .1 .1 .0) (c .before .before .before .before .before .if1 .left) in
+    omega (arith, s .pre .1 .1 .1 .size)
+
+returns-3 : tie.Need-returns-3
+returns-3 c =
+    let s = c .before .before .before .before .before .before .before .before .before .before .before in
+    let a = s .args in
+    let d = view (a .img .now) in
+    let f = c .before .before .before .before .before .before .before .table-file in
+    let o = c .before .before .before .before .table-offset in
+    (again (a .g) d (a .e .0) (a .m) (a .seen .now) (s .pre .1 .1 .1) (f .result) (f .ensures .0) (o .result) (o .ensures .0) (a .starts .now) (s .pre .1 .1 .0) (c .before .before .before .before .before .before .if1 .left) (omega arith) (omega arith), omega arith)
+
+slice-write-seen : tie.Need-slice-write-seen
+slice-write-seen c =
+    let s = c .before .before .before .before .before .before .before .before .before .before .before in
+    let a = s .args in
+    let d = view (a .img .now) in
+    let f = c .before .before .before .before .before .before .before .table-file in
+    let r = range (a .g) d (a .m) (f .result) (a .starts .now) (s .pre .1 .1 .0) (c .before .before .before .before .before .before .if1 .left) in
+    omega (arith, s .pre .1 .1 .1 .size)
+
+same-length : tie.Need-same-length
+same-length c = search needs
+
+returns-4 : tie.Need-returns-4
+returns-4 c =
+    let s = c .before .before .before .before .before .before .before .before .before .before .before in
+    let a = s .args in
+    let d = view (a .img .now) in
+    let f = c .before .before .before .before .before .before .before .table-file in
+    let o = c .before .before .before .before .table-offset in
+    (new (a .g) d (a .e .0) (a .m) (a .seen .now) (s .pre .1 .1 .1) (f .result) (f .ensures .0) (o .result) (o .ensures .0) (a .starts .now) (s .pre .1 .1 .0) (c .before .before .before .before .before .before .if1 .left) (omega arith) (c .if3 .left), omega arith)
+
+pub mark-spec : {M : Type 1} → statement M
+mark-spec =
+    tie.close
+    (tie.spec
+    table-file-requires
+    returns
+    mul-p
+    shared-slice-read-p
+    cast-p
+    table-offset-requires
+    add-p
+    add-if2
+    mul-if2
+    shared-slice-read-if2
+    cast-if2
+    returns-2
+    slice-read-if3
+    returns-3
+    slice-write-seen
+    same-length
+    returns-4)

@@ -1,0 +1,58 @@
+-- What the arrays of fault 26's test hold. A byte stands for each extent that an occupied file needs, file after file; it is 1
+-- once a table entry with that file and offset was met. Only the contracts of inner functions rest on these.
+use Prim.Native.Nat.{ℕ, zero, suc, _+_, _≤_, _<_}
+use mathlib.Core.Path.{_≡_}
+use mathlib.Core.Logic.{_⊎_}
+use mathlib.Core.Bool.{Bool, true, false, cond, _&&_, _||_}
+use mathlib.Core.List.{List}
+use lib.Dec.{eqb, leb}
+use lib.ListN.{length, getD}
+use Rattle.model.specs.declared.Geometry.{Geometry}
+use Rattle.model.specs.Bytes.{numberIn}
+use Rattle.model.specs.Search.{some}
+use Rattle.model.specs.Geometry.{FileNumber, ExtentNumber, entryAt, extentsFor}
+use Rattle.model.specs.Disk.{Disk}
+use Rattle.model.specs.Entry.{entryField, isOccupied}
+use Rattle.model.specs.Table.{tableFile, tableOffset}
+
+-- the sum of h at the indexes below n
+unfoldable pub sumTo : (ℕ → ℕ) → ℕ → ℕ
+sumTo h zero = 0
+sumTo h (suc n) = h n + sumTo h n
+
+abbrev pub bit : Bool → ℕ
+bit b = cond b 1 0
+
+module _ (g : Geometry) (d : Disk) where
+  -- how many extents entry i's size needs; a free entry needs none
+  unfoldable pub needed : FileNumber → ℕ
+  needed i = cond (isOccupied (d (entryAt i))) (extentsFor g (numberIn (d (entryAt i)) (entryField .size))) 0
+
+  -- where file i's bytes begin
+  unfoldable pub startOf : FileNumber → ℕ
+  startOf i = sumTo needed i
+
+  -- extent e is file i's; of offset o
+  abbrev pub owns : FileNumber → ExtentNumber → Bool
+  owns i e = eqb (tableFile g d e) i
+
+  abbrev pub holds : FileNumber → ℕ → ExtentNumber → Bool
+  holds i o e = owns i e && eqb (tableOffset g d e) o
+
+  -- extent e is one too many for file i: past those that it needs, or of an offset that a lower extent has
+  abbrev pub isExtra : FileNumber → ExtentNumber → Bool
+  isExtra i e = owns i e && (leb (needed i) (tableOffset g d e) || some (holds i (tableOffset g d e)) e)
+
+  -- the starts of files 0 to m; the bytes of those below m are no more than there are extents
+  pub record Starts (m : ℕ) (starts : List ℕ) : Type 0 where
+    pub size : g .files < length starts
+    pub files : m ≤ g .files
+    pub at : (i : FileNumber) → i ≤ m → getD starts i 0 ≡ startOf i
+    pub fits : startOf m ≤ g .extents
+
+  -- after the first k extents: no file below m has one too many, and if m is a file it is at fault
+  pub record Marks (k m : ℕ) (seen : List ℕ) : Type 0 where
+    pub size : g .extents ≤ length seen
+    pub seen-at : (i : FileNumber) → i < m → (o : ℕ) → o < needed i → getD seen (startOf i + o) 0 ≡ bit (some (holds i o) k)
+    pub none : (i : FileNumber) → i < m → some (isExtra i) k ≡ false
+    pub why : m < g .files → (some (isExtra m) k ≡ true) ⊎ (g .extents < startOf (m + 1))

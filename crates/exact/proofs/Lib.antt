@@ -1,5 +1,0 @@
--- Laws that the proofs of the functions share.
-pub mod Count
-pub mod Exact
-pub mod Marks
-pub mod Verdict

@@ -1,0 +1,414 @@
+//! The table of calls: each call's time on both sides, and what it writes.
+
+use std::hint::black_box;
+
+use oracle::lists::RECORD;
+use oracle::FormatRequest;
+
+use crate::comparing::{Compared, Comparisons};
+use crate::images::{self, assert_sound};
+use crate::text::{digits, nanoseconds};
+use crate::timing::median_alone;
+use crate::write_list::{counts, up_to_start_mark, written_places, Counts};
+
+/// The most bytes of a read, write or growth.
+const LONGEST_SPAN: usize = 65_536;
+/// The longest list: the format of the largest volume.
+const LONGEST_LIST: usize = 1_542 * RECORD;
+
+pub fn print(comparisons: &mut Comparisons) {
+    println!("### Calls");
+    println!();
+    println!(
+        "| Call | Input | Rattle ns | plain Rust ns | ratio | sectors | barriers | bytes |\n\
+         |---|---|---:|---:|---:|---:|---:|---:|"
+    );
+    let mut table = CallTable {
+        comparisons,
+        list: vec![0; LONGEST_LIST],
+        output: vec![0; LONGEST_SPAN],
+        above_twice: Vec::new(),
+    };
+    sample(&mut table);
+    nearly_empty(&mut table);
+    full(&mut table);
+    almost_full(&mut table);
+    one_file(&mut table);
+    table.print_above_twice();
+}
+
+fn sample(table: &mut CallTable) {
+    let input = "sample";
+    let mut image = images::sample();
+    let name = b"calibration";
+    table.format(input, images::SAMPLE_SECTORS, 255);
+    table.summary(input, &image);
+    table.check(input, &image);
+    table.find("find", input, &image, name);
+    table.list("list", input, &image, 0);
+    table.read("read, 512 bytes", input, &image, name, 0, 512);
+    table.long_reads(input, &image, name);
+    table.memory_copy(&image[290 * 512..][..LONGEST_SPAN]);
+
+    table.create("create", input, &image);
+    table.write("write, 1 byte over an old one", input, &image, name, 0, 1);
+    table.write_new_extent(input, &image, b"empty");
+    table.resize("resize, 1 byte less", input, &image, name, 131_071);
+    table.resize("resize, to nothing", input, &image, name, 0);
+    table.delete("delete, 2 extents", input, &image, name);
+
+    let mut list = vec![0; LONGEST_LIST];
+    let data = [5; LONGEST_SPAN];
+    let length = oracle::write(&image, b"empty", 0, &data, 2, &mut list).length as usize;
+    table.carry_out(
+        "carrying out, the write into a new extent",
+        input,
+        &mut image,
+        &list[..length],
+    );
+    let mut image = images::sample();
+    let length = oracle::create(&image, b"new", 77, 1, 2, &mut list).length as usize;
+    cut(&mut image, &list[..length]);
+    table.recover("recovery, of the create", input, &image);
+    table.carry_out(
+        "carrying out, the create",
+        input,
+        &mut image,
+        &list[..length],
+    );
+}
+
+fn nearly_empty(table: &mut CallTable) {
+    let input = "largest, nearly empty";
+    let image = images::nearly_empty();
+    let name = images::short_name(0);
+    let geometry = images::largest();
+    // What a format needs besides the data: the longest table, whatever the geometry.
+    let sectors = geometry.extents() * geometry.extent_sectors() + 546 + geometry.files();
+    table.format("largest", sectors, geometry.files());
+    table.check(input, &image);
+    table.long_reads(input, &image, &name);
+    table.create("create", input, &image);
+    table.write("write, 1 byte over an old one", input, &image, &name, 0, 1);
+}
+
+fn full(table: &mut CallTable) {
+    let image = images::full(images::long_name);
+    table.check("largest, full, names of 476 bytes", &image);
+    drop(image);
+
+    let input = "largest, full";
+    let image = images::full(images::short_name);
+    let last = images::largest().files() - 1;
+    let name = images::short_name(last);
+    table.check(input, &image);
+    table.find("find, last entry", input, &image, &name);
+    table.list("list, last entry", input, &image, last);
+    table.long_reads(input, &image, &name);
+}
+
+fn almost_full(table: &mut CallTable) {
+    let input = "largest, one entry and extent free";
+    let image = images::almost_full();
+    let name = images::short_name(images::largest().files() - 2);
+    table.create("create, last entry", input, &image);
+    table.write("write, 1 byte over an old one", input, &image, &name, 0, 1);
+    table.write_new_extent(input, &image, &name);
+    table.resize("resize, to nothing", input, &image, &name, 0);
+    table.delete("delete, last entry", input, &image, &name);
+}
+
+fn one_file(table: &mut CallTable) {
+    let input = "largest, one file";
+    let mut image = images::one_file();
+    table.resize("resize, to nothing", input, &image, b"all", 0);
+    table.delete("delete, all extents", input, &image, b"all");
+    let mut list = vec![0; LONGEST_LIST];
+    let length = oracle::delete(&image, b"all", 2, &mut list).length as usize;
+    cut(&mut image, &list[..length]);
+    table.recover("recovery, of the delete", input, &image);
+    table.carry_out(
+        "carrying out, the delete",
+        input,
+        &mut image,
+        &list[..length],
+    );
+}
+
+/// Power fails when the start mark has landed.
+fn cut(image: &mut [u8], list: &[u8]) {
+    assert_eq!(oracle::carry_out(image, up_to_start_mark(list)), 0);
+}
+
+/// Prints one row for each call that it is asked for. Lent buffers are not cleared between runs.
+struct CallTable<'c> {
+    comparisons: &'c mut Comparisons,
+    list: Vec<u8>,
+    output: Vec<u8>,
+    above_twice: Vec<String>,
+}
+
+impl CallTable<'_> {
+    fn summary(&mut self, input: &str, image: &[u8]) {
+        let compared = self.comparisons.filling(
+            "summary",
+            &mut [],
+            |_| goofs::summary(black_box(image)).files,
+            |_| oracle::summary(black_box(image)).files,
+        );
+        self.row("summary", input, &compared, "", "", "");
+    }
+
+    fn check(&mut self, input: &str, image: &[u8]) {
+        assert_sound(image);
+        let compared = self.comparisons.filling(
+            "check",
+            &mut [],
+            |_| goofs::check(black_box(image)).code,
+            |_| oracle::check(black_box(image)).code,
+        );
+        self.row("check", input, &compared, "", "", "");
+    }
+
+    fn find(&mut self, call: &str, input: &str, image: &[u8], name: &[u8]) {
+        let compared = self.comparisons.filling(
+            call,
+            &mut [],
+            |_| goofs::find(black_box(image), black_box(name)).size,
+            |_| oracle::find(black_box(image), black_box(name)).size,
+        );
+        assert!(compared.answer > 0, "{call}");
+        self.row(call, input, &compared, "", "", "");
+    }
+
+    fn list(&mut self, call: &str, input: &str, image: &[u8], index: u64) {
+        let compared = self.comparisons.filling(
+            call,
+            &mut self.output,
+            |output| goofs::list(black_box(image), index, output).name_length,
+            |output| oracle::list(black_box(image), index, output).name_length,
+        );
+        self.row_of_output(call, input, &compared);
+    }
+
+    fn read(
+        &mut self,
+        call: &str,
+        input: &str,
+        image: &[u8],
+        name: &[u8],
+        offset: u64,
+        count: u64,
+    ) {
+        let compared = self.comparisons.filling(
+            call,
+            &mut self.output,
+            |output| goofs::read(black_box(image), name, offset, count, output).count,
+            |output| oracle::read(black_box(image), name, offset, count, output).count,
+        );
+        self.row_of_output(call, input, &compared);
+    }
+
+    fn long_reads(&mut self, input: &str, image: &[u8], name: &[u8]) {
+        for (call, offset) in [
+            ("read, 65,536 bytes", 0),
+            ("read, 65,536 bytes over an extent edge", 30_001),
+        ] {
+            self.read(call, input, image, name, offset, LONGEST_SPAN as u64);
+        }
+    }
+
+    /// What a read does besides finding its bytes.
+    fn memory_copy(&mut self, bytes: &[u8]) {
+        let time = median_alone(&mut self.output, |output| {
+            output.copy_from_slice(black_box(bytes));
+            0
+        });
+        println!(
+            "| memory copy, 65,536 bytes | | | {} | | | | {} |",
+            nanoseconds(time),
+            digits(bytes.len() as u64)
+        );
+    }
+
+    fn create(&mut self, call: &str, input: &str, image: &[u8]) {
+        let compared = self.comparisons.filling(
+            call,
+            &mut self.list,
+            |list| goofs::create(black_box(image), b"new", 77, 1, 2, list).length,
+            |list| oracle::create(black_box(image), b"new", 77, 1, 2, list).length,
+        );
+        self.row_of_list(call, input, &compared);
+    }
+
+    fn delete(&mut self, call: &str, input: &str, image: &[u8], name: &[u8]) {
+        let compared = self.comparisons.filling(
+            call,
+            &mut self.list,
+            |list| goofs::delete(black_box(image), name, 2, list).length,
+            |list| oracle::delete(black_box(image), name, 2, list).length,
+        );
+        self.row_of_list(call, input, &compared);
+    }
+
+    fn resize(&mut self, call: &str, input: &str, image: &[u8], name: &[u8], size: u64) {
+        let compared = self.comparisons.filling(
+            call,
+            &mut self.list,
+            |list| goofs::resize(black_box(image), name, size, 2, list).length,
+            |list| oracle::resize(black_box(image), name, size, 2, list).length,
+        );
+        self.row_of_list(call, input, &compared);
+    }
+
+    fn write(
+        &mut self,
+        call: &str,
+        input: &str,
+        image: &[u8],
+        name: &[u8],
+        offset: u64,
+        count: usize,
+    ) {
+        let data = vec![5; count];
+        let compared = self.comparisons.filling(
+            call,
+            &mut self.list,
+            |list| goofs::write(black_box(image), name, offset, &data, 2, list).length,
+            |list| oracle::write(black_box(image), name, offset, &data, 2, list).length,
+        );
+        self.row_of_list(call, input, &compared);
+    }
+
+    /// A file that ends at an extent's edge grows by the most that one call allows.
+    fn write_new_extent(&mut self, input: &str, image: &[u8], name: &[u8]) {
+        let size = oracle::find(image, name).size;
+        self.write(
+            "write, 65,536 bytes into a new extent",
+            input,
+            image,
+            name,
+            size,
+            LONGEST_SPAN,
+        );
+        self.resize(
+            "resize, 65,536 bytes more",
+            input,
+            image,
+            name,
+            size + LONGEST_SPAN as u64,
+        );
+    }
+
+    fn recover(&mut self, call: &str, input: &str, image: &[u8]) {
+        let compared = self.comparisons.filling(
+            call,
+            &mut self.list,
+            |list| goofs::recover(black_box(image), list).length,
+            |list| oracle::recover(black_box(image), list).length,
+        );
+        self.row_of_list(call, input, &compared);
+    }
+
+    /// All records of a format, asked for one at a time until there are no more.
+    fn format(&mut self, input: &str, sectors: u64, files: u64) {
+        let request = FormatRequest {
+            sectors,
+            files,
+            id: 9,
+            mode: 1,
+            time: 2,
+        };
+        let compared = self.comparisons.filling(
+            "format",
+            &mut self.list,
+            |list| {
+                all_records(list, |position, list| {
+                    let sectors = black_box(sectors);
+                    goofs::format_record(sectors, files, 9, 1, 2, position, list).length
+                })
+            },
+            |list| {
+                all_records(list, |position, list| {
+                    oracle::format_record(black_box(&request), position, list).length
+                })
+            },
+        );
+        self.row_of_list("format", input, &compared);
+    }
+
+    fn carry_out(&mut self, call: &str, input: &str, image: &mut [u8], list: &[u8]) {
+        let compared = self.comparisons.changing(
+            call,
+            image,
+            &written_places(list),
+            |image| goofs::carry_out(image, black_box(list)),
+            |image| oracle::carry_out(image, black_box(list)),
+        );
+        assert_eq!(compared.answer, 0, "{call}");
+        self.row_of_counts(call, input, &compared, counts(list));
+    }
+
+    /// A row of a call that gave the number of bytes that it put out.
+    fn row_of_output(&mut self, call: &str, input: &str, compared: &Compared) {
+        assert!(compared.answer > 0, "{call}");
+        self.row(call, input, compared, "", "", &digits(compared.answer));
+    }
+
+    /// A row of a call that gave the length of its list.
+    fn row_of_list(&mut self, call: &str, input: &str, compared: &Compared) {
+        assert!(compared.answer > 0, "{call}");
+        let counts = counts(&self.list[..compared.answer as usize]);
+        self.row_of_counts(call, input, compared, counts);
+    }
+
+    fn row_of_counts(&mut self, call: &str, input: &str, compared: &Compared, counts: Counts) {
+        let [sectors, barriers, bytes] =
+            [counts.sectors, counts.barriers, counts.bytes].map(digits);
+        self.row(call, input, compared, &sectors, &barriers, &bytes);
+    }
+
+    fn row(
+        &mut self,
+        call: &str,
+        input: &str,
+        compared: &Compared,
+        sectors: &str,
+        barriers: &str,
+        bytes: &str,
+    ) {
+        println!(
+            "| {call} | {input} | {} | {} | {:.2} | {sectors} | {barriers} | {bytes} |",
+            nanoseconds(compared.rattle),
+            nanoseconds(compared.rust),
+            compared.ratio()
+        );
+        if compared.ratio() > 2.0 {
+            let row = format!("{call} ({input}, {:.2})", compared.ratio());
+            self.above_twice.push(row);
+        }
+    }
+
+    fn print_above_twice(&self) {
+        println!();
+        if self.above_twice.is_empty() {
+            println!("No call takes more than twice the time of plain Rust.");
+        } else {
+            let rows = self.above_twice.join("; ");
+            println!("More than twice the time of plain Rust: {rows}.");
+        }
+    }
+}
+
+/// Puts the records one behind the other into the list and gives its length.
+fn all_records(list: &mut [u8], record: impl Fn(u64, &mut [u8]) -> u64) -> u64 {
+    let mut length = 0;
+    for position in 0.. {
+        let of_record = record(position, &mut list[length..]);
+        if of_record == 0 {
+            break;
+        }
+        length += of_record as usize;
+    }
+    length as u64
+}

@@ -1,0 +1,127 @@
+//! One call put to both sides: compared, measured, timed.
+
+use std::ops::Range;
+use std::slice::from_ref;
+
+use crate::memory::{taken_by, Memory};
+use crate::text::digits;
+use crate::timing::medians;
+
+/// What both sides answered, and each side's time in nanoseconds.
+pub struct Compared {
+    pub answer: u64,
+    pub rattle: f64,
+    pub rust: f64,
+}
+
+impl Compared {
+    pub fn ratio(&self) -> f64 {
+        self.rattle / self.rust
+    }
+}
+
+/// All comparisons of a run; it remembers the most memory that each call took.
+#[derive(Default)]
+pub struct Comparisons {
+    memory: Vec<CallMemory>,
+}
+
+struct CallMemory {
+    call: String,
+    rattle: Memory,
+    rust: Memory,
+}
+
+impl Comparisons {
+    /// A call that fills a buffer.
+    pub fn filling(
+        &mut self,
+        call: &str,
+        buffer: &mut [u8],
+        rattle: impl FnMut(&mut [u8]) -> u64 + Send,
+        rust: impl FnMut(&mut [u8]) -> u64 + Send,
+    ) -> Compared {
+        let whole = 0..buffer.len();
+        self.changing(call, buffer, from_ref(&whole), rattle, rust)
+    }
+
+    /// A call that changes these places of a buffer. The call's name is what stands before a comma.
+    pub fn changing(
+        &mut self,
+        call: &str,
+        buffer: &mut [u8],
+        places: &[Range<usize>],
+        mut rattle: impl FnMut(&mut [u8]) -> u64 + Send,
+        mut rust: impl FnMut(&mut [u8]) -> u64 + Send,
+    ) -> Compared {
+        let of_rattle = FirstRun::of(buffer, places, &mut rattle);
+        let of_rust = FirstRun::of(buffer, places, &mut rust);
+        // Else the times would say nothing.
+        assert_eq!(of_rattle.answer, of_rust.answer, "{call}");
+        assert!(of_rattle.left == of_rust.left, "{call}: other bytes");
+        self.note(call, of_rattle.memory, of_rust.memory);
+        let answer = of_rattle.answer;
+        let (rattle, rust) = medians(buffer, rattle, rust);
+        Compared {
+            answer,
+            rattle,
+            rust,
+        }
+    }
+
+    fn note(&mut self, call: &str, rattle: Memory, rust: Memory) {
+        let name = call.split(',').next().unwrap_or(call);
+        match self.memory.iter_mut().find(|noted| noted.call == name) {
+            Some(noted) => {
+                noted.rattle = noted.rattle.max(rattle);
+                noted.rust = noted.rust.max(rust);
+            }
+            None => self.memory.push(CallMemory {
+                call: name.to_string(),
+                rattle,
+                rust,
+            }),
+        }
+    }
+
+    pub fn print_memory(&self) {
+        println!();
+        println!("### Peak stack and heap, bytes");
+        println!();
+        println!("| Call | Rattle stack | plain Rust stack | Rattle heap | plain Rust heap |");
+        println!("|---|---:|---:|---:|---:|");
+        for CallMemory { call, rattle, rust } in &self.memory {
+            let figures = [rattle.stack, rust.stack, rattle.heap, rust.heap];
+            let figures = figures.map(|bytes| digits(bytes as u64));
+            println!("| {call} | {} |", figures.join(" | "));
+        }
+    }
+}
+
+/// The first run of a side, whose answer and bytes are compared.
+struct FirstRun {
+    answer: u64,
+    /// What the call left in its places.
+    left: Vec<u8>,
+    memory: Memory,
+}
+
+impl FirstRun {
+    fn of(
+        buffer: &mut [u8],
+        places: &[Range<usize>],
+        side: &mut (impl FnMut(&mut [u8]) -> u64 + Send),
+    ) -> FirstRun {
+        for place in places {
+            buffer[place.clone()].fill(0);
+        }
+        let mut answer = 0;
+        let memory = taken_by(&mut || answer = side(buffer));
+        let left = places.iter().flat_map(|place| &buffer[place.clone()]);
+        FirstRun {
+            answer,
+            left: left.copied().collect(),
+            memory,
+        }
+    }
+}

@@ -1,0 +1,123 @@
+//! Volumes longer than the memory, as sparse files: all commands on one of 6 GiB and on one of 400 GiB.
+
+mod shared;
+
+use std::fs::{self, File, OpenOptions};
+use std::os::unix::fs::{FileExt, MetadataExt};
+use std::path::Path;
+
+use goofs::change::Change;
+use goofs::device::Disk;
+use goofs::image::Image;
+use shared::{good, on, with_limit, Folder};
+
+/// The first bytes of a card, past its metadata. The whole of it is too long to be compared.
+fn start(card: &Path) -> Vec<u8> {
+    let mut bytes = vec![0; 2 << 20];
+    File::open(card)
+        .and_then(|file| file.read_exact_at(&mut bytes, 0))
+        .unwrap();
+    bytes
+}
+
+/// Puts a card into the state of a create that was cut right after its start mark.
+fn cut_create(card: &Path, name: &[u8]) {
+    let file = OpenOptions::new()
+        .read(true)
+        .write(true)
+        .open(card)
+        .unwrap();
+    let image = Image::load(&Disk::shared(file.try_clone().unwrap()).unwrap()).unwrap();
+    let create = Change::Create {
+        name,
+        id: 99,
+        mode: 0,
+        time: 2,
+    };
+    let list = image.list_of(&create).unwrap();
+    for write in list.groups().iter().take(2).flatten() {
+        file.write_all_at(write.contents, write.sector * 512)
+            .unwrap();
+    }
+}
+
+fn all_commands(gib: u64, extent_bytes: u64) {
+    let folder = Folder::new(&format!("{gib}-gib"));
+    let card = folder.file("card");
+    let sectors = (gib << 21).to_string();
+    let said = good("format", &card, &["--sectors", &sectors]);
+    let room: u64 = said
+        .split_whitespace()
+        .filter_map(|word| word.parse().ok())
+        .next_back()
+        .unwrap();
+    assert!(
+        room > (gib << 30) - (gib << 24) && room < gib << 30,
+        "{said}"
+    );
+    // Only the metadata are written.
+    let metadata = fs::metadata(&card).unwrap();
+    assert_eq!(metadata.len(), gib << 30);
+    assert!(metadata.blocks() * 512 < 4 << 20);
+
+    let contents: Vec<u8> = (0..200_000_u32).map(|i| (i * 7 + i / 256) as u8).collect();
+    let file = folder.write("source", &contents);
+    let file = file.to_str().unwrap();
+    let copy = folder.file("copy");
+    for name in ["a", "b"] {
+        good("put", &card, &[file, name]);
+        good("get", &card, &[name, copy.to_str().unwrap()]);
+        assert!(fs::read(&copy).unwrap() == contents);
+    }
+    good("resize", &card, &["b", "300000"]);
+    good("rm", &card, &["a"]);
+    assert_eq!(good("check", &card, &[]), "sound, 1 files\n");
+    let used = 300_000_u64.div_ceil(extent_bytes);
+    let info = good("info", &card, &[]);
+    assert!(
+        info.contains(&format!("extents used     {used}\n"))
+            && info.contains(&format!("sectors ({extent_bytes} bytes)")),
+        "{info}"
+    );
+
+    let held = start(&card);
+    assert!(good("trial", &card, &["create", "c"]).contains("recoveries cut in 36 of 36 ways"));
+    let said = on("rm", &card, &["c"]);
+    assert!(
+        said.status == 1 && said.err.contains("refused (9)"),
+        "{said:?}"
+    );
+    let said = on("resize", &card, &["b", &(room + 1).to_string()]);
+    assert!(
+        said.status == 1 && said.err.contains("refused (13)"),
+        "{said:?}"
+    );
+    // Where the memory is limited, the volume can be neither mapped nor read.
+    let said = with_limit("-v 2000000", "ls", &card, &[]);
+    assert_eq!(said.status, 1);
+    assert!(
+        said.err.contains("has no memory or addresses for so many") && said.err.contains("Next: "),
+        "{}",
+        said.err
+    );
+    assert!(start(&card) == held);
+
+    cut_create(&card, b"c");
+    let said = on("ls", &card, &[]);
+    assert!(
+        said.status == 1 && said.err.contains("refused (5)"),
+        "{said:?}"
+    );
+    assert!(good("recover", &card, &[]).starts_with("recovered"));
+    assert_eq!(good("check", &card, &[]), "sound, 2 files\n");
+}
+
+#[test]
+fn a_volume_of_6_gib() {
+    all_commands(6, 1 << 17);
+}
+
+#[test]
+fn a_volume_of_400_gib() {
+    all_commands(400, 1 << 23);
+}

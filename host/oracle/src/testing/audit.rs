@@ -1,0 +1,206 @@
+//! A write list held against the rules of its four groups, and its contents against the ledger
+//! before and after the call. It asks nothing of the code that made the list.
+
+use crate::layout::{get64, put16, put32, put64, Extent, Geometry, SECTOR};
+use crate::ledger::{File, Ledger};
+use crate::lists::RECORD;
+use crate::power::{groups, Group, Record};
+use crate::request::Request;
+
+/// Panics if the list of a changing call on this image breaks a rule. The ledgers stand before and
+/// after it.
+pub fn audit(request: &Request, before: &Ledger, after: &Ledger, image: &[u8], list: &[u8]) {
+    let geometry = before.geometry();
+    let groups = groups(list);
+    assert_eq!(groups.len(), 4);
+    let records: usize = groups.iter().map(Vec::len).sum();
+    assert_eq!(list.len(), (records + 4) * RECORD);
+    assert_eq!(list[list.len() - RECORD..], barrier());
+
+    let targets = &groups[2];
+    assert_eq!(target_sectors(targets), expected_targets(before, after));
+    for target in targets {
+        assert_eq!(
+            target.contents,
+            expected_target(before, after, image, target.sector),
+            "target {}",
+            target.sector
+        );
+    }
+    audit_superblock(&groups[1], image, targets.len() as u16);
+    audit_superblock(&groups[3], image, 0);
+    let journal_sectors = targets.len().div_ceil(32);
+    let (data, staged) = groups[0].split_at(groups[0].len() - targets.len() - journal_sectors);
+    let (copies, journal) = staged.split_at(targets.len());
+    audit_staging(geometry, copies, journal, targets);
+    audit_data(request, before, after, image, data);
+}
+
+fn barrier() -> [u8; RECORD] {
+    let mut record = [0; RECORD];
+    record[..8].fill(255);
+    record
+}
+
+fn target_sectors(targets: &Group) -> Vec<u64> {
+    targets.iter().map(|target| target.sector).collect()
+}
+
+fn audit_superblock(group: &Group, image: &[u8], journal_length: u16) {
+    let mut expected = old_sector(image, 0);
+    put16(&mut expected, 18, journal_length);
+    assert_eq!(group.len(), 1);
+    assert_eq!((group[0].sector, group[0].contents), (0, &expected[..]));
+}
+
+/// The k-th copy stands in the k-th reserve sector, and the journal names the copy first.
+fn audit_staging(geometry: Geometry, copies: &[Record], journal: &[Record], targets: &Group) {
+    let mut expected_journal = vec![0; journal.len() * SECTOR];
+    for (k, (copy, target)) in copies.iter().zip(targets).enumerate() {
+        assert_eq!(copy.sector, geometry.reserve_at().0 + k as u64);
+        assert_eq!(copy.contents, target.contents);
+        put64(&mut expected_journal, 16 * k, copy.sector);
+        put64(&mut expected_journal, 16 * k + 8, target.sector);
+    }
+    for (j, (found, expected)) in journal
+        .iter()
+        .zip(expected_journal.chunks(SECTOR))
+        .enumerate()
+    {
+        assert_eq!(found.sector, geometry.journal_at().0 + j as u64);
+        assert_eq!(found.contents, expected);
+        assert_ne!(get64(found.contents, 0), 0);
+    }
+}
+
+/// Data sectors in file order; bytes outside the span stay.
+fn audit_data(request: &Request, before: &Ledger, after: &Ledger, image: &[u8], data: &[Record]) {
+    let geometry = before.geometry();
+    let (name, offset, bytes) = match request {
+        Request::Write {
+            name, offset, data, ..
+        } => (name, *offset as usize, data.clone()),
+        Request::Resize { name, size, .. } => {
+            let old_size = file_named(before, name).bytes.len();
+            (
+                name,
+                old_size,
+                vec![0; (*size as usize).saturating_sub(old_size)],
+            )
+        }
+        _ => (&Vec::new(), 0, Vec::new()),
+    };
+    if bytes.is_empty() {
+        assert!(data.is_empty());
+        return;
+    }
+    let extents = &file_named(after, name).extents;
+    let first = offset / SECTOR;
+    let last = (offset + bytes.len() - 1) / SECTOR;
+    assert_eq!(data.len(), last - first + 1);
+    for (record, in_file) in data.iter().zip(first..) {
+        let extent_sectors = geometry.extent_sectors() as usize;
+        let start = geometry.extent_at(extents[in_file / extent_sectors]).0;
+        assert_eq!(record.sector, start + (in_file % extent_sectors) as u64);
+        let mut expected = old_sector(image, record.sector);
+        for (at, byte) in expected.iter_mut().enumerate() {
+            let in_span = (in_file * SECTOR + at)
+                .checked_sub(offset)
+                .and_then(|place| bytes.get(place));
+            *byte = *in_span.unwrap_or(byte);
+        }
+        assert_eq!(record.contents, expected);
+    }
+}
+
+fn file_named<'l>(ledger: &'l Ledger, name: &[u8]) -> &'l File {
+    ledger
+        .slots()
+        .iter()
+        .flatten()
+        .find(|file| file.name == name)
+        .expect("the file is there")
+}
+
+/// The sectors in which root, directory or table differ, in rising order.
+fn expected_targets(before: &Ledger, after: &Ledger) -> Vec<u64> {
+    let geometry = before.geometry();
+    let mut sectors = Vec::new();
+    if before.slots().iter().flatten().count() != after.slots().iter().flatten().count() {
+        sectors.push(1);
+    }
+    for (index, (old, new)) in before.slots().iter().zip(after.slots()).enumerate() {
+        if old != new {
+            sectors.push(2 + index as u64);
+        }
+    }
+    let (old, new) = (owners(before), owners(after));
+    let changed = (0..old.len()).filter(|extent| old[*extent] != new[*extent]);
+    let mut table: Vec<u64> = changed
+        .map(|extent| geometry.table_at().0 + extent as u64 / 128)
+        .collect();
+    table.dedup();
+    sectors.extend(table);
+    sectors
+}
+
+/// The owner and the offset of each extent.
+fn owners(ledger: &Ledger) -> Vec<Option<(u16, u16)>> {
+    let mut owners = vec![None; ledger.geometry().extents() as usize];
+    for (index, slot) in ledger.slots().iter().enumerate() {
+        for (offset, Extent(extent)) in slot.iter().flat_map(|file| &file.extents).enumerate() {
+            owners[*extent as usize] = Some((index as u16, offset as u16));
+        }
+    }
+    owners
+}
+
+/// The old contents of the sector with only the bytes changed that the rules name.
+fn expected_target(before: &Ledger, after: &Ledger, image: &[u8], sector: u64) -> [u8; SECTOR] {
+    let geometry = before.geometry();
+    let mut contents = old_sector(image, sector);
+    if sector == 1 {
+        put32(&mut contents, 0, before.root().version.wrapping_add(1));
+        put32(&mut contents, 20, after.root().change_time);
+    } else if sector < geometry.journal_at().0 {
+        let index = (sector - 2) as usize;
+        match (&before.slots()[index], &after.slots()[index]) {
+            (_, None) => contents = [0; SECTOR],
+            (None, Some(file)) => contents = fresh_entry(file),
+            (Some(_), Some(file)) => {
+                put64(&mut contents, 2, file.bytes.len() as u64);
+                put32(&mut contents, 10, file.version);
+                put32(&mut contents, 30, file.change_time);
+            }
+        }
+    } else {
+        let first = (sector - geometry.table_at().0) as usize * 128;
+        let (old, new) = (owners(before), owners(after));
+        for extent in first..(first + 128).min(new.len()) {
+            if old[extent] != new[extent] {
+                let (owner, offset) = new[extent].unwrap_or((65_535, 65_535));
+                put16(&mut contents, 4 * (extent - first), owner);
+                put16(&mut contents, 4 * (extent - first) + 2, offset);
+            }
+        }
+    }
+    contents
+}
+
+fn fresh_entry(file: &File) -> [u8; SECTOR] {
+    let mut contents = [0; SECTOR];
+    put16(&mut contents, 0, 65_535);
+    put64(&mut contents, 14, file.id);
+    put32(&mut contents, 22, file.mode);
+    put32(&mut contents, 26, file.access_time);
+    put32(&mut contents, 30, file.change_time);
+    put16(&mut contents, 34, file.name.len() as u16);
+    contents[36..36 + file.name.len()].copy_from_slice(&file.name);
+    contents
+}
+
+fn old_sector(image: &[u8], sector: u64) -> [u8; SECTOR] {
+    image[sector as usize * SECTOR..][..SECTOR]
+        .try_into()
+        .expect("a sector")
+}

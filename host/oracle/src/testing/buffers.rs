@@ -1,0 +1,107 @@
+//! Buffers to lend to a call: filled with a pattern, with more of it before and after the lent part,
+//! so that a stray byte shows wherever it lands.
+
+use std::sync::LazyLock;
+
+use crate::draw::Draw;
+use crate::lists::RECORD;
+
+/// Bytes before the lent part, an odd number so that it is not aligned, and after it.
+const GUARD: usize = 61;
+/// The longest list has 1,051 records.
+const LONGEST: usize = 1_060 * RECORD;
+
+static PATTERN: LazyLock<Vec<u8>> = LazyLock::new(|| Draw::new(165).bytes(LONGEST));
+
+pub struct LentBuffer {
+    bytes: Vec<u8>,
+}
+
+impl LentBuffer {
+    /// A buffer of this length that holds the pattern.
+    pub fn new(length: usize) -> LentBuffer {
+        LentBuffer::holding(&PATTERN[..length])
+    }
+
+    /// A buffer that holds these bytes between its guards.
+    pub fn holding(contents: &[u8]) -> LentBuffer {
+        let guard = &PATTERN[..GUARD];
+        LentBuffer {
+            bytes: [guard, contents, guard].concat(),
+        }
+    }
+
+    /// The part to lend.
+    pub fn lent(&mut self) -> &mut [u8] {
+        let end = self.bytes.len() - GUARD;
+        &mut self.bytes[GUARD..end]
+    }
+
+    /// What the lent part holds now, after making sure that the guards were left alone.
+    pub fn contents(mut self) -> Vec<u8> {
+        let end = self.bytes.len() - GUARD;
+        let guard = &PATTERN[..GUARD];
+        assert!(
+            self.bytes[..GUARD] == *guard,
+            "bytes before the buffer changed"
+        );
+        assert!(
+            self.bytes[end..] == *guard,
+            "bytes after the buffer changed"
+        );
+        self.bytes.truncate(end);
+        self.bytes.drain(..GUARD);
+        self.bytes
+    }
+
+    /// The filled start of a buffer that held the pattern, after making sure that the rest still
+    /// does.
+    pub fn filled(self, filled: usize) -> Vec<u8> {
+        let mut contents = self.contents();
+        assert!(
+            contents[filled..] == PATTERN[filled..contents.len()],
+            "bytes past the answer changed"
+        );
+        contents.truncate(filled);
+        contents
+    }
+}
+
+#[cfg(test)]
+mod tests {
+    use super::*;
+
+    /// Changes one byte of a buffer of 20 bytes, guards included, and says that 10 were filled.
+    fn change(at: usize) {
+        let mut buffer = LentBuffer::new(20);
+        buffer.lent()[..10].fill(7);
+        buffer.bytes[at] ^= 1;
+        assert_eq!(buffer.filled(10), [7; 10]);
+    }
+
+    #[test]
+    #[should_panic(expected = "bytes before the buffer changed")]
+    fn stray_byte_before() {
+        change(GUARD - 1);
+    }
+
+    #[test]
+    #[should_panic(expected = "bytes past the answer changed")]
+    fn stray_byte_past_the_answer() {
+        change(GUARD + 10);
+    }
+
+    #[test]
+    #[should_panic(expected = "bytes after the buffer changed")]
+    fn stray_byte_after() {
+        change(GUARD + 20);
+    }
+
+    #[test]
+    fn filled_and_kept() {
+        let mut buffer = LentBuffer::new(20);
+        buffer.lent()[..10].fill(7);
+        assert_eq!(buffer.filled(10), [7; 10]);
+        assert_eq!(LentBuffer::holding(&[1, 2, 3]).contents(), [1, 2, 3]);
+    }
+}

@@ -1,0 +1,216 @@
+//! Every cut of a call, each followed by recovery, and by every cut of that recovery. Large groups
+//! are cut by all prefixes, all singles, all but one, and some random subsets.
+
+use super::audit::audit;
+use super::requests::{create, delete, resize, write};
+use super::volumes::{format_list, Volume, ANY_LIST, SAMPLE};
+use super::{Counts, Oracle, Subject};
+use crate::answers::{code, state, SummaryAnswer};
+use crate::draw::Draw;
+use crate::layout::superblock;
+use crate::ledger::Ledger;
+use crate::lists::RECORD;
+use crate::power::{every_cut, groups, Cut};
+use crate::request::{Answer, Request};
+use crate::FormatRequest;
+
+/// The sample: "alpha" has two of the three usable extents, "beta" is empty.
+pub fn two_files() -> Volume {
+    let mut volume = Volume::sample();
+    let mut draw = Draw::new(11);
+    volume.done(&create(b"alpha", 1));
+    volume.done(&create(b"beta", 2));
+    volume.done(&write(b"alpha", 0, draw.bytes(65_536)));
+    volume.done(&write(b"alpha", 65_536, draw.bytes(4_464)));
+    volume
+}
+
+/// Each kind of call on `two_files`, with lists of every shape.
+fn calls_with_lists(draw: &mut Draw) -> Vec<Request> {
+    vec![
+        create(b"gamma", 3),
+        delete(b"alpha"),
+        delete(b"beta"),
+        // Over the extent edge without growing; the last bytes of the file; growing within the
+        // extent.
+        write(b"alpha", 65_000, draw.bytes(2_000)),
+        write(b"alpha", 69_990, draw.bytes(10)),
+        write(b"alpha", 69_000, draw.bytes(5_000)),
+        // A new extent for an empty file, and one for a file that has two.
+        write(b"beta", 0, draw.bytes(65_536)),
+        write(b"alpha", 69_999, draw.bytes(65_536)),
+        write(b"beta", 0, draw.bytes(1)),
+        resize(b"alpha", 0),
+        resize(b"alpha", 65_536),
+        resize(b"alpha", 69_999),
+        resize(b"alpha", 70_001),
+        resize(b"alpha", 70_000 + 65_536),
+        resize(b"beta", 600),
+    ]
+}
+
+/// Cuts each kind of call on the sample everywhere.
+pub fn cut_each_kind_of_call(subject: &dyn Subject) -> Counts {
+    let mut draw = Draw::new(12);
+    let requests = calls_with_lists(&mut draw);
+    cut_everywhere(subject, &two_files(), &requests, &mut draw)
+}
+
+/// Cuts a delete and a resize everywhere whose freed extents stand in two table sectors.
+pub fn cut_over_two_table_sectors(subject: &dyn Subject) -> Counts {
+    let format = FormatRequest {
+        sectors: 546 + 255 + 130 * 128,
+        ..SAMPLE
+    };
+    let mut volume = Volume::formatted(&Oracle, &format);
+    volume.done(&create(b"all", 1));
+    for extents in 1..=129 {
+        volume.done(&resize(b"all", extents * 65_536));
+    }
+    let requests = [delete(b"all"), resize(b"all", 65_536)];
+    cut_everywhere(subject, &volume, &requests, &mut Draw::new(14))
+}
+
+/// Cuts each of the calls everywhere; some cuts leave it undone, some done.
+fn cut_everywhere(
+    subject: &dyn Subject,
+    volume: &Volume,
+    requests: &[Request],
+    draw: &mut Draw,
+) -> Counts {
+    let mut counts = Counts::default();
+    for request in requests {
+        let before = counts.clone();
+        cut_call_everywhere(subject, volume, request, draw, &mut counts);
+        assert!(counts.undone_cuts > before.undone_cuts);
+        assert!(counts.done_cuts > before.done_cuts);
+        assert!(counts.cut_recoveries > before.cut_recoveries);
+    }
+    counts
+}
+
+/// Lands every cut of the call and recovers; the ledger says what must stand there then.
+fn cut_call_everywhere(
+    subject: &dyn Subject,
+    volume: &Volume,
+    request: &Request,
+    draw: &mut Draw,
+    counts: &mut Counts,
+) {
+    let (answer, list) = subject.ask(request, &volume.image, ANY_LIST);
+    assert!(matches!(answer, Answer::Change(change) if change.code == 0 && change.length > 0));
+    let mut after = volume.ledger.clone();
+    after.call(request, ANY_LIST);
+    audit(request, &volume.ledger, &after, &volume.image, &list);
+
+    let call_groups = groups(&list);
+    for cut in every_cut(&call_groups, 60, draw) {
+        let mut image = volume.image.clone();
+        cut.apply(&call_groups, &mut image);
+        let mut ledger = volume.ledger.clone();
+        let report = cut.report(&call_groups);
+        let told = ledger
+            .cut_call(request, ANY_LIST, &report)
+            .expect("a list that is not empty is cut");
+        assert_eq!(told.answer, answer);
+        if report.start_mark {
+            assert!(ledger == after, "{cut:?}");
+            counts.done_cuts += 1;
+        } else {
+            counts.undone_cuts += 1;
+        }
+
+        let recovery = recovery_list(subject, &image, counts);
+        let waiting = !recovery.is_empty();
+        assert_eq!(
+            check(subject, &image),
+            if waiting { code::WAITING } else { 0 }
+        );
+        assert_eq!(
+            waiting,
+            report.start_mark && !cut.landed_whole(&call_groups)
+        );
+        let recovery_groups = groups(&recovery);
+        for second_cut in every_cut(&recovery_groups, 0, draw) {
+            let mut image = image.clone();
+            second_cut.apply(&recovery_groups, &mut image);
+            counts.cut_recoveries += 1;
+            let second_recovery = recovery_list(subject, &image, counts);
+            assert_eq!(subject.carry_out(&mut image, &second_recovery), 0);
+            finished(subject, &image, &ledger, &cut);
+        }
+        assert_eq!(subject.carry_out(&mut image, &recovery), 0);
+        finished(subject, &image, &ledger, &cut);
+    }
+}
+
+/// Recovers the image with a list of exactly the right length; one byte less is 14.
+fn recovery_list(subject: &dyn Subject, image: &[u8], counts: &mut Counts) -> Vec<u8> {
+    let needed = recovery_length(subject, image);
+    if needed > 0 {
+        let (refused, _) = subject.recover(image, needed - 1);
+        assert_eq!((refused.code, refused.length), (code::BUFFER_TOO_SHORT, 0));
+        counts.recoveries += 1;
+        counts.short_recoveries += 1;
+    }
+    let (answer, list) = subject.recover(image, needed);
+    assert_eq!((answer.code, list.len()), (0, needed));
+    counts.recoveries += 1;
+    list
+}
+
+/// The length of the list that recovery needs, by the volume's state.
+pub fn recovery_length(subject: &dyn Subject, image: &[u8]) -> usize {
+    let summary = summary(subject, image);
+    match summary.state {
+        state::WAITING => (summary.entries as usize + 3) * RECORD,
+        _ => 0,
+    }
+}
+
+fn summary(subject: &dyn Subject, image: &[u8]) -> SummaryAnswer {
+    match subject.ask(&Request::Summary, image, 0).0 {
+        Answer::Summary(summary) => summary,
+        other => panic!("{other:?} is no summary"),
+    }
+}
+
+fn check(subject: &dyn Subject, image: &[u8]) -> u64 {
+    subject.ask(&Request::Check, image, 0).0.code()
+}
+
+fn finished(subject: &dyn Subject, image: &[u8], ledger: &Ledger, cut: &Cut) {
+    assert_eq!(check(subject, image), 0, "{cut:?}");
+    ledger
+        .compare(image)
+        .unwrap_or_else(|difference| panic!("{difference} after {cut:?}"));
+}
+
+/// Cuts the sample's format everywhere: from its first record to its last it leaves an unfinished
+/// volume, whatever subset of its middle landed. Gives the number of cuts.
+pub fn cut_the_format(subject: &dyn Subject) -> usize {
+    let list = format_list(subject, &SAMPLE);
+    let format_groups = groups(&list);
+    let mut draw = Draw::new(13);
+    // An older volume of another geometry stands there.
+    let mut older = Volume::sample().image;
+    older[superblock::EXTENTS + 1] = 3;
+    let cuts = every_cut(&format_groups, 20, &mut draw);
+    for cut in &cuts {
+        let mut image = older.clone();
+        cut.apply(&format_groups, &mut image);
+        let told = summary(subject, &image);
+        if cut.groups_before == 0 && cut.landed.is_empty() {
+            assert_eq!(told, summary(subject, &older));
+        } else if cut.landed_whole(&format_groups) {
+            assert_eq!((told.state, told.extents), (state::CLEAN, 4));
+            let ledger = Ledger::new(&SAMPLE).expect("the sample has a geometry");
+            finished(subject, &image, &ledger, cut);
+        } else {
+            assert_eq!((told.state, told.extents), (state::UNFINISHED, 4));
+            assert_eq!(check(subject, &image), code::UNFINISHED);
+            assert_eq!(subject.recover(&image, 0).0.code, code::UNFINISHED);
+        }
+    }
+    cuts.len()
+}

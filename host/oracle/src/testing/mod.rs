@@ -1,0 +1,92 @@
+//! What tests of these rules share: volumes to begin with, lent buffers that show a stray byte,
+//! damage, random runs and power cuts. The calls are made through a `Subject`, so the same runs and
+//! cuts serve the oracle alone and the oracle beside another program.
+
+pub mod audit;
+pub mod buffers;
+pub mod cases;
+pub mod cuts;
+pub mod damage;
+pub mod images;
+pub mod requests;
+pub mod runs;
+pub mod volumes;
+
+use crate::answers::{FormatRecordAnswer, RecoverAnswer};
+use crate::request::{Answer, Request};
+use crate::FormatRequest;
+use buffers::LentBuffer;
+
+/// What is under test: it makes each call, compares what it can, and gives the answer with the
+/// bytes that the call put at the start of its lent buffer. It panics at a difference.
+pub trait Subject {
+    fn ask(&self, request: &Request, image: &[u8], buffer_length: usize) -> (Answer, Vec<u8>);
+
+    fn recover(&self, image: &[u8], list_length: usize) -> (RecoverAnswer, Vec<u8>);
+
+    fn format_record(
+        &self,
+        format: &FormatRequest,
+        position: u64,
+        output_length: usize,
+    ) -> (FormatRecordAnswer, Vec<u8>);
+
+    fn carry_out(&self, image: &mut [u8], list: &[u8]) -> u64;
+}
+
+/// The oracle alone: nothing outside its answer's bytes may change.
+pub struct Oracle;
+
+impl Subject for Oracle {
+    fn ask(&self, request: &Request, image: &[u8], buffer_length: usize) -> (Answer, Vec<u8>) {
+        let mut buffer = LentBuffer::new(buffer_length);
+        let answer = request.ask(image, buffer.lent());
+        (answer, buffer.filled(answer.filled()))
+    }
+
+    fn recover(&self, image: &[u8], list_length: usize) -> (RecoverAnswer, Vec<u8>) {
+        let mut list = LentBuffer::new(list_length);
+        let answer = crate::recover(image, list.lent());
+        (answer, list.filled(answer.length as usize))
+    }
+
+    fn format_record(
+        &self,
+        format: &FormatRequest,
+        position: u64,
+        output_length: usize,
+    ) -> (FormatRecordAnswer, Vec<u8>) {
+        let mut output = LentBuffer::new(output_length);
+        let answer = crate::format_record(format, position, output.lent());
+        (answer, output.filled(answer.length as usize))
+    }
+
+    fn carry_out(&self, image: &mut [u8], list: &[u8]) -> u64 {
+        crate::carry_out(image, list)
+    }
+}
+
+/// What runs and cuts went through.
+#[derive(Clone, Debug, Default)]
+pub struct Counts {
+    pub runs: usize,
+    pub calls: usize,
+    /// How often each number was given back.
+    pub codes: [usize; 15],
+    /// Cuts before the start mark, and later ones.
+    pub undone_cuts: usize,
+    pub done_cuts: usize,
+    /// All calls of recovery; the lists of some were cut, some had too short a list.
+    pub recoveries: usize,
+    pub cut_recoveries: usize,
+    pub short_recoveries: usize,
+    /// Changes while some file had several extents, and those with several table sectors.
+    pub several_extents: usize,
+    pub several_table_sectors: usize,
+}
+
+impl Counts {
+    pub fn cuts(&self) -> usize {
+        self.undone_cuts + self.done_cuts
+    }
+}

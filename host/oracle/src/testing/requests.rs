@@ -1,0 +1,55 @@
+//! Calls with the arguments that matter; modes and times are fixed.
+
+use crate::request::Request;
+
+pub fn create(name: &[u8], id: u64) -> Request {
+    Request::Create {
+        name: name.to_vec(),
+        id,
+        mode: 0o644,
+        time: 2_000,
+    }
+}
+
+pub fn delete(name: &[u8]) -> Request {
+    Request::Delete {
+        name: name.to_vec(),
+        time: 3_000,
+    }
+}
+
+pub fn resize(name: &[u8], size: u64) -> Request {
+    Request::Resize {
+        name: name.to_vec(),
+        size,
+        time: 4_000,
+    }
+}
+
+pub fn write(name: &[u8], offset: u64, data: Vec<u8>) -> Request {
+    Request::Write {
+        name: name.to_vec(),
+        offset,
+        data,
+        time: 5_000,
+    }
+}
+
+pub fn read(name: &[u8], offset: u64, count: u64) -> Request {
+    Request::Read {
+        name: name.to_vec(),
+        offset,
+        count,
+    }
+}
+
+pub fn find(name: &[u8]) -> Request {
+    Request::Find {
+        name: name.to_vec(),
+    }
+}
+
+/// The request as text, without all of a long name or data.
+pub fn shortened(request: &Request) -> String {
+    format!("{request:?}").chars().take(400).collect()
+}

@@ -1,0 +1,459 @@
+//! Random runs: after a format, calls with good and bad arguments and buffers of any length, some
+//! of them cut, with recoveries that may be cut too. The ledger says every answer and what the
+//! image holds; what the subject compares comes on top.
+//!
+//! All of a run is drawn from its seed. The environment variable RUN_SEED asks for other seeds than
+//! the usual ones: `RUN_SEED=17` replays one run, `RUN_SEED=1-100000` makes many.
+
+use std::ops::RangeInclusive;
+
+use super::audit::audit;
+use super::cuts::recovery_length;
+use super::requests::{create, resize, shortened};
+use super::volumes::{format_list, Volume};
+use super::{Counts, Oracle, Subject};
+use crate::answers::code;
+use crate::draw::Draw;
+use crate::layout::{put32, superblock, Geometry, LONGEST_SPAN, SECTOR};
+use crate::ledger::{File, Ledger};
+use crate::lists::RECORD;
+use crate::power::{draw_cut, groups};
+use crate::request::{Answer, Request};
+use crate::FormatRequest;
+
+const SEED_VARIABLE: &str = "RUN_SEED";
+
+/// Makes this many runs, or those that RUN_SEED asks for.
+pub fn random_runs(subject: &dyn Subject, usual: u64) -> Counts {
+    let seeds = match std::env::var(SEED_VARIABLE) {
+        Ok(text) => seeds(&text).expect("RUN_SEED is a number, or two with '-' between them"),
+        Err(_) => 1..=usual,
+    };
+    let mut counts = Counts::default();
+    for seed in seeds {
+        random_run(subject, seed, &mut counts);
+    }
+    if counts.runs as u64 >= usual {
+        counts.assert_all_reached();
+    }
+    counts
+}
+
+fn seeds(text: &str) -> Option<RangeInclusive<u64>> {
+    let (first, last) = text.split_once('-').unwrap_or((text, text));
+    Some(first.parse().ok()?..=last.parse().ok()?)
+}
+
+impl Counts {
+    /// Makes sure that together the runs met all that a run can meet, each many times.
+    fn assert_all_reached(&self) {
+        let least = self.runs / 10;
+        for code in [0, 5, 8, 9, 10, 11, 12, 13, 14] {
+            assert!(self.codes[code] > least, "{code} is too rare: {self:?}");
+        }
+        for code in [1, 2, 3, 4, 6, 7] {
+            assert_eq!(self.codes[code], 0, "{code} in a run: {self:?}");
+        }
+        for reached in [
+            self.undone_cuts,
+            self.done_cuts,
+            self.recoveries,
+            self.cut_recoveries,
+            self.short_recoveries,
+            self.several_extents,
+        ] {
+            assert!(reached > least, "too rare: {self:?}");
+        }
+        assert!(self.several_table_sectors > least / 10, "{self:?}");
+    }
+}
+
+/// Tells the seed of a run that failed.
+struct Replay(u64);
+
+impl Drop for Replay {
+    fn drop(&mut self) {
+        if std::thread::panicking() {
+            eprintln!(
+                "the run with seed {0} failed; {SEED_VARIABLE}={0} makes only this run",
+                self.0
+            );
+        }
+    }
+}
+
+/// Draws one run and puts it to the subject: a small volume, or once in so many times one with two
+/// table sectors or with a full directory.
+fn random_run(subject: &dyn Subject, seed: u64, counts: &mut Counts) {
+    let _told_on_failure = Replay(seed);
+    let mut draw = Draw::new(seed);
+    counts.runs += 1;
+    let (two_table_sectors, full_directory) = match draw.below(64) {
+        0 => (true, false),
+        1 | 2 => (false, true),
+        _ => (false, false),
+    };
+    let geometry = if two_table_sectors {
+        Geometry::new(255, draw.between(129, 134), 128)
+    } else {
+        draw_small_geometry(&mut draw)
+    };
+    let geometry = geometry.expect("within the bounds");
+    let mut run = Run {
+        subject,
+        volume: draw_format(subject, geometry, &mut draw),
+        draw,
+        counts,
+    };
+    if two_table_sectors {
+        run.fill_both_table_sectors();
+    }
+    if full_directory {
+        run.fill_the_directory();
+    }
+    run.volume.compare();
+    run.volume.disturb(&mut run.draw);
+    run.volume.compare();
+    let steps = if two_table_sectors { 40 } else { 100 };
+    for _ in 0..steps {
+        run.step();
+    }
+}
+
+fn draw_small_geometry(draw: &mut Draw) -> Option<Geometry> {
+    let files = match draw.below(8) {
+        0 => draw.between(255, 1_024),
+        _ => 255,
+    };
+    let extents = draw.between(2, 9);
+    let extent_sectors = match draw.below(3) {
+        0 => draw.between(128, 300),
+        _ => 128,
+    };
+    Geometry::new(files, extents, extent_sectors)
+}
+
+/// A fresh volume of this geometry on an image of noise. A format only gives extents of 128 sectors
+/// to small volumes; other lengths are put in the superblock by hand.
+fn draw_format(subject: &dyn Subject, geometry: Geometry, draw: &mut Draw) -> Volume {
+    let format = FormatRequest {
+        sectors: 546 + geometry.files() + 128 * geometry.extents() + draw.below(128),
+        files: geometry.files(),
+        id: *draw.pick(&[0, 3, 900, u64::MAX]),
+        mode: draw.number() as u32,
+        time: draw.number() as u32,
+    };
+    let sectors = format.sectors.max(geometry.end().0) + draw.below(3);
+    let mut image = draw.bytes(sectors as usize * SECTOR);
+    let list = format_list(subject, &format);
+    assert_eq!(subject.carry_out(&mut image, &list), 0);
+    let mut ledger = Ledger::new(&format).expect("the format is not refused");
+    if geometry.extent_sectors() != 128 {
+        let extent_sectors = geometry.extent_sectors() as u32;
+        put32(&mut image, superblock::EXTENT_SECTORS, extent_sectors);
+        ledger = Ledger::with_geometry(geometry, format.id, format.mode, format.time);
+    }
+    Volume { image, ledger }
+}
+
+struct Run<'s> {
+    subject: &'s dyn Subject,
+    volume: Volume,
+    draw: Draw,
+    counts: &'s mut Counts,
+}
+
+impl Run<'_> {
+    /// A call of the oracle that only brings the volume into a state to begin with.
+    fn prepare(&mut self, request: &Request) {
+        let Volume { image, ledger } = &mut self.volume;
+        let (answer, list) = Oracle.ask(request, image, 150 * RECORD);
+        assert_eq!(answer.code(), 0, "{}", shortened(request));
+        assert_eq!(ledger.call(request, 150 * RECORD).answer, answer);
+        assert_eq!(Oracle.carry_out(image, &list), 0);
+    }
+
+    /// Two files whose extents reach over both table sectors; one usable extent stays free.
+    fn fill_both_table_sectors(&mut self) {
+        self.prepare(&create(b"a", 1));
+        self.prepare(&create(b"ab", 2));
+        for _ in 1..self.volume.ledger.geometry().usable_extents() {
+            let name: &[u8] = if self.draw.one_in(2) { b"a" } else { b"ab" };
+            let grown = resize(name, self.size_of(name) + LONGEST_SPAN);
+            self.prepare(&grown);
+        }
+    }
+
+    fn fill_the_directory(&mut self) {
+        for number in 0..self.volume.ledger.geometry().files() {
+            let name = format!("file {number}");
+            self.prepare(&create(name.as_bytes(), 1_000 + number));
+        }
+    }
+
+    fn step(&mut self) {
+        if self.draw.one_in(12) {
+            // On a clean volume recovery has nothing to do.
+            let (answer, _) = self.subject.recover(&self.volume.image, 0);
+            assert_eq!((answer.code, answer.length), (0, 0));
+            self.counts.recoveries += 1;
+        }
+        if self.draw.one_in(40) {
+            self.volume.disturb(&mut self.draw);
+        }
+        let request = self.draw_request();
+        let buffer_length = self.draw_buffer_length(&request);
+        self.call(&request, buffer_length);
+    }
+
+    fn ask(&mut self, request: &Request, buffer_length: usize) -> (Answer, Vec<u8>) {
+        let asked = self.subject.ask(request, &self.volume.image, buffer_length);
+        self.counts.calls += 1;
+        self.counts.codes[asked.0.code() as usize] += 1;
+        asked
+    }
+
+    fn call(&mut self, request: &Request, buffer_length: usize) {
+        let (answer, filled) = self.ask(request, buffer_length);
+        let Answer::Change(change) = answer else {
+            let told = self.volume.ledger.call(request, buffer_length);
+            assert_eq!(told.answer, answer, "{}", shortened(request));
+            assert!(told.output == filled, "{}", shortened(request));
+            return;
+        };
+        let before = self.volume.ledger.clone();
+        let mut after = before.clone();
+        let told = after.call(request, buffer_length);
+        assert_eq!(told.answer, answer, "{}", shortened(request));
+        if change.length == 0 {
+            assert!(after == before, "{}", shortened(request));
+            return;
+        }
+        audit(request, &before, &after, &self.volume.image, &filled);
+        self.count_targets(&filled);
+        if self.draw.one_in(3) {
+            self.cut(request, buffer_length, &filled);
+        } else {
+            let carried = self.subject.carry_out(&mut self.volume.image, &filled);
+            assert_eq!(carried, 0);
+            self.volume.ledger = after;
+        }
+        self.volume.compare();
+    }
+
+    /// The power fails while the list is carried out; recoveries follow until one is completed.
+    fn cut(&mut self, request: &Request, buffer_length: usize, list: &[u8]) {
+        let groups = groups(list);
+        let cut = draw_cut(&groups, &mut self.draw).expect("the list is not empty");
+        cut.apply(&groups, &mut self.volume.image);
+        let report = cut.report(&groups);
+        if report.start_mark {
+            self.counts.done_cuts += 1;
+        } else {
+            self.counts.undone_cuts += 1;
+        }
+        self.volume
+            .ledger
+            .cut_call(request, buffer_length, &report)
+            .expect("a cut call");
+        while !self.recovery_completed() {}
+        assert_eq!(self.ask(&Request::Check, 0).0.code(), code::DONE);
+    }
+
+    fn recovery_completed(&mut self) -> bool {
+        let needed = recovery_length(self.subject, &self.volume.image);
+        if needed > 0 && self.draw.one_in(2) {
+            self.call_of_a_waiting_volume();
+        }
+        let length = match self.draw.below(4) {
+            0 => self.draw.below(needed as u64 + 1) as usize,
+            1 => needed,
+            _ => needed + 1_000,
+        };
+        let (answer, list) = self.subject.recover(&self.volume.image, length);
+        self.counts.recoveries += 1;
+        if length < needed {
+            self.counts.short_recoveries += 1;
+            assert_eq!((answer.code, answer.length), (code::BUFFER_TOO_SHORT, 0));
+            return false;
+        }
+        assert_eq!((answer.code, list.len()), (code::DONE, needed));
+        let groups = groups(&list);
+        let cut = draw_cut(&groups, &mut self.draw).filter(|_| self.draw.one_in(2));
+        match cut {
+            Some(cut) => {
+                self.counts.cut_recoveries += 1;
+                cut.apply(&groups, &mut self.volume.image);
+                cut.landed_whole(&groups)
+            }
+            None => {
+                let carried = self.subject.carry_out(&mut self.volume.image, &list);
+                assert_eq!(carried, 0);
+                true
+            }
+        }
+    }
+
+    /// Until it is recovered, the volume refuses every other call but the summary.
+    fn call_of_a_waiting_volume(&mut self) {
+        let request = self.draw_request();
+        let (answer, _) = self.ask(&request, 150 * RECORD);
+        let expected = match request {
+            Request::Summary => code::DONE,
+            _ => code::WAITING,
+        };
+        assert_eq!(answer.code(), expected, "{}", shortened(&request));
+    }
+
+    fn count_targets(&mut self, list: &[u8]) {
+        let table_at = self.volume.ledger.geometry().table_at().0;
+        let targets = &groups(list)[2];
+        let in_table = targets.iter().filter(|target| target.sector >= table_at);
+        if in_table.count() > 1 {
+            self.counts.several_table_sectors += 1;
+        }
+        if self.files().any(|file| file.extents.len() > 1) {
+            self.counts.several_extents += 1;
+        }
+    }
+
+    fn files(&self) -> impl Iterator<Item = &File> {
+        self.volume.ledger.slots().iter().flatten()
+    }
+
+    fn size_of(&self, name: &[u8]) -> u64 {
+        self.files()
+            .find(|file| file.name == name)
+            .map_or(0, |file| file.bytes.len() as u64)
+    }
+
+    /// Often just enough, or a little less or more than the call needs.
+    fn draw_buffer_length(&mut self, request: &Request) -> usize {
+        match self.draw.below(16) {
+            0 => self.draw.below(700) as usize,
+            1 => 0,
+            2..=4 => {
+                let mut ledger = self.volume.ledger.clone();
+                let needed = ledger.call(request, usize::MAX).answer.filled();
+                *self
+                    .draw
+                    .pick(&[needed, needed.saturating_sub(1), needed + 1])
+            }
+            _ => 150 * RECORD,
+        }
+    }
+
+    fn draw_request(&mut self) -> Request {
+        let time = self.draw.number() as u32;
+        let kind = self.draw.below(20);
+        let name = self.draw_name(if (7..=9).contains(&kind) { 1 } else { 8 });
+        match kind {
+            0 => Request::Summary,
+            1 => Request::Check,
+            2 => Request::Find { name },
+            3 => {
+                let files = self.volume.ledger.geometry().files();
+                let near = self.draw.below(8);
+                let index = *self
+                    .draw
+                    .pick(&[near, near, near, files - 1, files, u64::MAX]);
+                Request::List { index }
+            }
+            4..=6 => {
+                let (offset, count) = self.draw_span(&name);
+                Request::Read {
+                    name,
+                    offset,
+                    count,
+                }
+            }
+            7..=9 => Request::Create {
+                name,
+                id: *self.draw.pick(&[0, 1, 2, 3, 4, 5, 6, 7, 8, 900, u64::MAX]),
+                mode: self.draw.number() as u32,
+                time,
+            },
+            10 => Request::Delete { name, time },
+            11..=13 => {
+                let size = self.draw_size(&name);
+                Request::Resize { name, size, time }
+            }
+            _ => {
+                let (offset, count) = self.draw_span(&name);
+                Request::Write {
+                    name,
+                    offset,
+                    data: self.draw.bytes(count as usize),
+                    time,
+                }
+            }
+        }
+    }
+
+    /// The name of a file, or, once in so many times, any of a few names; some begin alike, some
+    /// are bad.
+    fn draw_name(&mut self, any_name_once_in: u64) -> Vec<u8> {
+        let existing: Vec<Vec<u8>> = self.files().map(|file| file.name.clone()).collect();
+        if !existing.is_empty() && !self.draw.one_in(any_name_once_in) {
+            return self.draw.pick(&existing).clone();
+        }
+        match self.draw.below(12) {
+            0 => vec![b'x'; 476],
+            1 => vec![b'x'; 475],
+            2 => vec![255; 200],
+            3 => b"\xe4\xff\x01".to_vec(),
+            4 => self
+                .draw
+                .pick(&[Vec::new(), vec![b'x'; 477], b"zero\0".to_vec(), vec![0]])
+                .clone(),
+            length => b"abcdefg"[..length as usize - 4].to_vec(),
+        }
+    }
+
+    fn draw_size(&mut self, name: &[u8]) -> u64 {
+        let size = self.size_of(name);
+        let edge = self.volume.ledger.geometry().extent_bytes() * self.draw.below(4);
+        match self.draw.below(12) {
+            0 => 0,
+            1 => size,
+            2 => size.saturating_sub(1),
+            3 => size + 1,
+            4 => size + LONGEST_SPAN,
+            5 => size + LONGEST_SPAN + 1,
+            6 => u64::MAX,
+            7 => edge,
+            8 => edge + 1,
+            9 => edge.saturating_sub(1),
+            10 => self.draw.below(size + 1),
+            _ => size + self.draw.below(LONGEST_SPAN),
+        }
+    }
+
+    /// An offset and a count, often at the edge of an extent, of the file or of the longest span.
+    fn draw_span(&mut self, name: &[u8]) -> (u64, u64) {
+        let size = self.size_of(name);
+        let extent_bytes = self.volume.ledger.geometry().extent_bytes();
+        let offset = match self.draw.below(10) {
+            0 => 0,
+            1 => size + 1,
+            2 => u64::MAX,
+            3 => (size / extent_bytes) * extent_bytes,
+            4 => size.saturating_sub(self.draw.below(600)),
+            5 | 6 => self.draw.below(size + 1),
+            _ => size,
+        };
+        let to_edge = extent_bytes - offset % extent_bytes;
+        let count = match self.draw.below(12) {
+            0 => 0,
+            1 => 1,
+            2 => self.draw.between(511, 513),
+            3 => to_edge.min(LONGEST_SPAN),
+            4 => (to_edge + 1).min(LONGEST_SPAN),
+            5 | 6 => LONGEST_SPAN,
+            7 => LONGEST_SPAN + 1,
+            8 => self.draw.below(2_000),
+            _ => self.draw.below(LONGEST_SPAN + 1),
+        };
+        (offset, count)
+    }
+}

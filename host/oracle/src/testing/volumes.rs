@@ -1,0 +1,136 @@
+//! Volumes to begin with: the sample, one with some files, any format's; each with the ledger of
+//! the calls that made it.
+
+use super::requests::{create, delete, shortened, write};
+use super::{Oracle, Subject};
+use crate::draw::Draw;
+use crate::layout::{put16, SECTOR};
+use crate::ledger::Ledger;
+use crate::lists::RECORD;
+use crate::request::{Answer, Request};
+use crate::FormatRequest;
+
+/// The sample volume: 1,313 sectors and 255 files.
+pub const SAMPLE: FormatRequest = FormatRequest {
+    sectors: 1_313,
+    files: 255,
+    id: 900,
+    mode: 0o755,
+    time: 1_000,
+};
+
+/// Long enough for every list of a volume with few table sectors.
+pub const ANY_LIST: usize = 200 * RECORD;
+
+/// All records of a format, asked for one at a time.
+pub fn format_list(subject: &dyn Subject, format: &FormatRequest) -> Vec<u8> {
+    let mut list = Vec::new();
+    for position in 0..format.records().expect("the format is not refused") {
+        let (answer, record) = subject.format_record(format, position, RECORD);
+        assert_eq!((answer.code, record.len()), (0, RECORD));
+        list.extend(record);
+    }
+    list
+}
+
+/// An image with the ledger of the same run.
+#[derive(Clone)]
+pub struct Volume {
+    pub image: Vec<u8>,
+    pub ledger: Ledger,
+}
+
+impl Volume {
+    /// A formatted image of the format's sectors; what the format does not write is noise.
+    pub fn formatted(subject: &dyn Subject, format: &FormatRequest) -> Volume {
+        let mut image = Draw::new(format.sectors).bytes(format.sectors as usize * SECTOR);
+        let list = format_list(subject, format);
+        assert_eq!(subject.carry_out(&mut image, &list), 0);
+        let ledger = Ledger::new(format).expect("the format is not refused");
+        Volume { image, ledger }
+    }
+
+    pub fn sample() -> Volume {
+        Volume::formatted(&Oracle, &SAMPLE)
+    }
+
+    /// Puts a call to image and ledger, compares the answers, lands the list and compares again.
+    /// Gives the code and what the buffer was filled with.
+    pub fn call(&mut self, subject: &dyn Subject, request: &Request) -> (u64, Vec<u8>) {
+        let (answer, filled) = subject.ask(request, &self.image, ANY_LIST);
+        let told = self.ledger.call(request, ANY_LIST);
+        assert_eq!(answer, told.answer, "{}", shortened(request));
+        if let Answer::Change(_) = answer {
+            assert_eq!(subject.carry_out(&mut self.image, &filled), 0);
+        } else {
+            assert!(filled == told.output, "{}", shortened(request));
+        }
+        self.compare();
+        (answer.code(), filled)
+    }
+
+    /// A call of the oracle that must not be refused.
+    pub fn done(&mut self, request: &Request) -> Vec<u8> {
+        let (code, filled) = self.call(&Oracle, request);
+        assert_eq!(code, 0, "{}", shortened(request));
+        filled
+    }
+
+    pub fn compare(&self) {
+        self.ledger
+            .compare(&self.image)
+            .expect("image and ledger agree");
+    }
+
+    /// Puts noise in unused bytes: after superblock and root, in free entries, after names, in the
+    /// table's padding and in the offsets of free extents.
+    pub fn disturb(&mut self, draw: &mut Draw) {
+        let geometry = self.ledger.geometry();
+        draw.fill(&mut self.image[20..SECTOR]);
+        draw.fill(&mut self.image[SECTOR + 24..2 * SECTOR]);
+        for (index, slot) in self.ledger.slots().iter().enumerate() {
+            let unused = slot.as_ref().map_or(2, |file| 36 + file.name.len());
+            let at = (2 + index) * SECTOR;
+            draw.fill(&mut self.image[at + unused..at + SECTOR]);
+        }
+        let table = geometry.table_at().0 as usize * SECTOR;
+        let padding = table + 4 * geometry.extents() as usize;
+        draw.fill(&mut self.image[padding..geometry.data_at().0 as usize * SECTOR]);
+        for extent in 0..geometry.extents() as usize {
+            let at = table + 4 * extent;
+            if self.image[at..at + 2] == [255, 255] {
+                put16(&mut self.image, at + 2, draw.number() as u16);
+            }
+        }
+    }
+}
+
+/// Six extents, five of them usable: "ab" has three, "abc" and "cab" one each. Entry 3 is free
+/// again between occupied ones.
+pub fn some_files() -> Volume {
+    let mut volume = Volume::formatted(
+        &Oracle,
+        &FormatRequest {
+            sectors: 546 + 255 + 6 * 128,
+            ..SAMPLE
+        },
+    );
+    let mut draw = Draw::new(5);
+    for (name, id) in [
+        (&b"a"[..], 1),
+        (b"ab", 2),
+        (b"abc", 3),
+        (b"b", 4),
+        (b"c", 5),
+        (b"cab", 6),
+    ] {
+        volume.done(&create(name, id));
+    }
+    volume.done(&write(b"ab", 0, draw.bytes(65_536)));
+    volume.done(&write(b"abc", 0, draw.bytes(5)));
+    volume.done(&write(b"ab", 65_536, draw.bytes(65_536)));
+    volume.done(&write(b"ab", 131_072, draw.bytes(1)));
+    volume.done(&write(b"cab", 0, draw.bytes(600)));
+    volume.done(&delete(b"b"));
+    volume
+}

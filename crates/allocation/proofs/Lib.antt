@@ -2,4 +2,5 @@
 pub mod Sums
 pub mod Exact
 pub mod Marks
+pub mod Misplaced
 pub mod Verdict

@@ -25,7 +25,7 @@ use Rattle.model.specs.Catalogue.{catalogueOf}
 use Rattle.model.specs.Faults.{exact, fault25, fault26, orElse}
 use Rattle.laws.proofs.Search.{some-ext, some-no, first-ext, first-missed}
 use Rattle.laws.proofs.Catalogue.{fault26-is, exact-is}
-use Rattle.table.proofs.Laws.{fault25-on}
+use Rattle.allocation.proofs.Misplaced.{fault25-on}
 use Rattle.allocation.specs.Marks.{bit, needed, startOf, owns, holds, isExtra, Starts, Marks}
 use Rattle.laws.proofs.Seeking.{first-found, first-there}
 use Rattle.laws.proofs.Count.{count-le}

@@ -12,6 +12,7 @@ ghost use lib.ListN.{length, getD};
 ghost use Rattle.model.specs.declared.Place.the-variants.{Nowhere};
 ghost use Rattle.model.specs.declared.Soundness.the-variants.{Sound};
 ghost use Rattle.model.specs.Search.{first, some};
+ghost use Rattle.model.specs.Geometry.{usable};
 ghost use Rattle.model.specs.Disk.{view};
 ghost use Rattle.model.specs.Opened.{Opened};
 ghost use Rattle.model.specs.Catalogue.{catalogueOf};
@@ -25,7 +26,7 @@ fn needed(img: &[u8], g: Geometry, i: FileIndex) -> u64
     ensures { λ r. ⌜ r ≡ needed g (view (now (img .entry))) (i .0) ⌝ }
     ensures { λ r. ⌜ r ≤ 281474976710656 ⌝ }
 {
-    if table::is_occupied(img, g, i) {
+    if directory::is_occupied(img, i) {
         return table::extents_for(g, fields::number(img, i.sector(), 2, 8));
     }
     0
@@ -85,6 +86,28 @@ fn mark(
     m
 }
 
+// Extent e's entry names no occupied file and isn't free, or is the reserve's and isn't free; u extents are usable.
+fn is_misplaced(img: &[u8], g: Geometry, u: u64, e: Extent) -> bool
+    requires { ⌜ Opened (now img) g ⌝ }
+    requires { ⌜ (u ≡ usable g) × (e .0 < g .extents) ⌝ }
+    ensures { λ r. ⌜ r ≡ fault25 (catalogueOf (view (now (img .entry)))) (e .0) ⌝ }
+{
+    let f = table::table_file(img, g, e);
+    if f == 65535 {
+        return false;
+    }
+    if e.0 < u {
+        if f < g.files {
+            if directory::is_occupied(img, FileIndex(f)) {
+                return false;
+            }
+            return true;
+        }
+        return true;
+    }
+    true
+}
+
 // What the pass over the table has met.
 struct Pass {
     // the lowest extent of fault 25
@@ -105,7 +128,7 @@ fn pass_over(img: &[u8], g: Geometry, starts: &[u16], f: usize, seen: &mut [u8])
     let mut m = f;
     let mut e: usize = 0;
     while e < n {
-        if table::is_misplaced(img, g, u, Extent(e as u64)) {
+        if is_misplaced(img, g, u, Extent(e as u64)) {
             return Pass {
                 misplaced: Place::At(e),
                 reached: m,

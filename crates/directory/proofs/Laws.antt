@@ -13,11 +13,7 @@ use Rattle.model.specs.Entry.{Entry, entryIn, isOccupied, nameIn, badName}
 use Rattle.model.specs.Catalogue.{catalogueOf, hasId}
 use Rattle.model.specs.Faults.{fault22}
 use Rattle.laws.proofs.Search.{first-ext, some-ext}
-use Rattle.laws.proofs.Catalogue.{slot-on, fault22-is}
-
-id-if : (b : Bool) (e : Entry) (n : ℕ) → hasId n (cond b (just e) none) ≡ (b && eqb (e .id) n)
-id-if true e n = refl
-id-if false e n = refl
+use Rattle.laws.proofs.Catalogue.{id-if, slot-on, fault22-is}
 
 pub id-on : (d : Disk) (n : ℕ)
     → some (λ i. hasId n (catalogueOf d .entries i)) (catalogueOf d .geometry .files)

@@ -31,7 +31,7 @@ name-if : (b : Bool) (e : Entry) (n : List ℕ) → hasName n (cond b (just e) n
 name-if true e n = refl
 name-if false e n = refl
 
-id-if : (b : Bool) (e : Entry) (n : ℕ) → hasId n (cond b (just e) none) ≡ (b && eqb (e .id) n)
+pub id-if : (b : Bool) (e : Entry) (n : ℕ) → hasId n (cond b (just e) none) ≡ (b && eqb (e .id) n)
 id-if true e n = refl
 id-if false e n = refl
 

@@ -1,10 +1,10 @@
-// Write lists: records, barriers, the group that is a superblock, and a journal sector's entries.
+// Write lists: records, barriers, and the group that is a superblock.
 use model::Sector;
 ghost use mathlib.Core.Path.{_≡_};
-ghost use mathlib.Core.List.{[], _∷_, _++_};
-ghost use Prim.Native.Nat.{_+_, _*_, _≤_, _<_};
+ghost use mathlib.Core.List.{[], _∷_};
+ghost use Prim.Native.Nat.{_+_, _*_, _≤_};
 ghost use lib.ListN.{length};
-ghost use Rattle.model.specs.Bytes.{beBytes, run, put};
+ghost use Rattle.model.specs.Bytes.{run};
 ghost use Rattle.model.specs.Disk.{view};
 ghost use Rattle.model.specs.Superblock.{withJournalLength};
 ghost use Rattle.model.specs.WriteList.{sectorWrite, barrier, Emitted};
@@ -67,15 +67,4 @@ pub fn put_superblock(list: &mut [u8], k: usize, img: &[u8], n: u64) -> usize
 {
     let s = with_journal_length(img, n);
     put_closed(list, k, Sector(0), s)
-}
-
-// A journal sector with entry k put in: the source is the copy, the target the true place.
-pub fn with_entry(s: [u8; 512], k: usize, source: Sector, target: Sector) -> [u8; 512]
-    requires { ⌜ k < 32 ⌝ }
-    ensures { λ r. ⌜ r ≡ put s (16 * k) (beBytes 8 (source .0) ++ beBytes 8 (target .0)) ⌝ }
-{
-    let mut a = s;
-    fields::put_be(&mut a, 16 * k, 8, source.0);
-    fields::put_be(&mut a, 16 * k + 8, 8, target.0);
-    a
 }

@@ -16,21 +16,15 @@ use Rattle.model.specs.Search.{first, count, indexOf}
 use Rattle.model.specs.Geometry.{usable, entryAt, tableAt, tableSectors}
 use Rattle.model.specs.Disk.{Disk, view}
 use Rattle.model.specs.Superblock.{geometryIn}
-use Rattle.model.specs.Entry.{isOccupied}
 use Rattle.model.specs.Table.{freeFile, tableFile, tableOffset, tableEntryBytes, freedIn}
 use Rattle.model.specs.Catalogue.{Owner, catalogueOf, isFree, isPart, isBeyond, freeExtent, extentOf, holdsBeyond, sectorsBeyond}
-use Rattle.model.specs.Faults.{fault25}
 use Rattle.laws.proofs.Disk.{beAt-view}
 use Rattle.laws.proofs.Search.{first-ext}
-use Rattle.laws.proofs.Catalogue.{table-on, part-is, fault25-is}
+use Rattle.laws.proofs.Catalogue.{table-on, part-is}
 
 vacant : (b : Bool) (w : Owner) → isFree (cond (not b) (just w) none) ≡ b
 vacant true w = refl
 vacant false w = refl
-
-pub or-true : (b : Bool) → (b || true) ≡ true
-or-true true = refl
-or-true false = refl
 
 beyond-of : (d : Disk) (i o e : ℕ) → i < freeFile → e < geometryIn (d 0) .extents
     → isBeyond i o (catalogueOf d .table e) ≡ (eqb (tableFile (geometryIn (d 0)) d e) i && leb o (tableOffset (geometryIn (d 0)) d e))
@@ -60,10 +54,6 @@ module _ (d : Disk) (g : Geometry) (is : g ≡ geometryIn (d 0)) where
 
   pub part-on : (i o e : ℕ) → i < freeFile → e < g .extents → isPart i o (catalogueOf d .table e) ≡ (eqb (tableFile g d e) i && eqb (tableOffset g d e) o)
   part-on i o e few l = rw is (part-is d i few o e (rw is at l))
-
-  pub fault25-on : (e : ℕ) → e < g .extents
-      → fault25 (catalogueOf d) e ≡ (not (eqb (tableFile g d e) freeFile) && (not (ltb (tableFile g d e) (g .files) && isOccupied (d (entryAt (tableFile g d e)))) || leb (usable g) e))
-  fault25-on e l = rw is (fault25-is d e (rw is at l))
 
   pub beyond-on : (i o e : ℕ) → i < freeFile → e < g .extents → isBeyond i o (catalogueOf d .table e) ≡ (eqb (tableFile g d e) i && leb o (tableOffset g d e))
   beyond-on i o e few l = rw is (beyond-of d i o e few (rw is at l))

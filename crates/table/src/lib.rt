@@ -1,4 +1,4 @@
-// The allocation table: its entries, the searches of it, the test of fault 25, and its sectors with a file's extents freed.
+// The allocation table: its entries, the searches of it, and its sectors with a file's extents freed.
 use model::Extent;
 use model::FileIndex;
 use model::Geometry;
@@ -9,13 +9,11 @@ ghost use mathlib.Core.Bool.{cond};
 ghost use Prim.Native.Nat.{_+_, _*_, _≤_, _<_};
 ghost use lib.ListN.{length};
 ghost use Rattle.model.specs.Bytes.{put};
-ghost use Rattle.model.specs.Geometry.{tableAt, tableSectors, entryAt, extentsFor, usable};
+ghost use Rattle.model.specs.Geometry.{tableAt, tableSectors, extentsFor};
 ghost use Rattle.model.specs.Disk.{view};
 ghost use Rattle.model.specs.Opened.{Bounded, Opened};
-ghost use Rattle.model.specs.Entry.{isOccupied};
 ghost use Rattle.model.specs.Table.{tableFile, tableOffset, tableEntryBytes, freeFile, freedIn};
 ghost use Rattle.model.specs.Catalogue.{catalogueOf, freeExtent, extentOf, isPart, isBeyond, holdsBeyond, sectorsBeyond};
-ghost use Rattle.model.specs.Faults.{fault25};
 
 // The file that extent e's entry names; 65535 where it is free. Table sectors follow one another, 128 entries in each, so an
 // entry's place in the image is a product.
@@ -169,37 +167,6 @@ pub fn freed(img: &[u8], g: Geometry, i: FileIndex, o: u64, t: u64) -> [u8; 512]
         k += 1;
     }
     a
-}
-
-// Entry i's mark says occupied.
-pub fn is_occupied(img: &[u8], g: Geometry, i: FileIndex) -> bool
-    requires { ⌜ Opened (now img) g ⌝ }
-    requires { ⌜ i .0 < g .files ⌝ }
-    ensures { λ r. ⌜ r ≡ isOccupied (view (now (img .entry)) (entryAt (i .0))) ⌝ }
-{
-    fields::number(img, i.sector(), 0, 2) == 65535
-}
-
-// Extent e's entry names no occupied file and isn't free, or is the reserve's and isn't free; u extents are usable.
-pub fn is_misplaced(img: &[u8], g: Geometry, u: u64, e: Extent) -> bool
-    requires { ⌜ Opened (now img) g ⌝ }
-    requires { ⌜ (u ≡ usable g) × (e .0 < g .extents) ⌝ }
-    ensures { λ r. ⌜ r ≡ fault25 (catalogueOf (view (now (img .entry)))) (e .0) ⌝ }
-{
-    let f = table_file(img, g, e);
-    if f == 65535 {
-        return false;
-    }
-    if e.0 < u {
-        if f < g.files {
-            if is_occupied(img, g, FileIndex(f)) {
-                return false;
-            }
-            return true;
-        }
-        return true;
-    }
-    true
 }
 
 // How many extents a size needs: z / E rounded up. In this order no sum can overflow, whatever an entry says.

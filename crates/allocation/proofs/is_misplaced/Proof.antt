@@ -1,11 +1,11 @@
--- `table::is_misplaced` meets its contract. Each return is a case of fault 25.
+-- `allocation::is_misplaced` meets its contract. Each return is a case of fault 25.
 use native.Mathlib.Omega.{arith}
 use borrow.Author.Tests.{eq-eqb, ne-eqb, lt-ltb, le-ltb, le-leb, lt-leb}
 use Rattle.model.specs.Disk.{view}
-use Rattle.table.proofs.Laws.{fault25-on, or-true}
+use Rattle.allocation.proofs.Misplaced.{fault25-on, or-true}
 use borrow.Author.Needs.{needs}
-use Rattle.table.proofs.is_misplaced.Statement.{statement}
-use Rattle.table.proofs.is_misplaced.Tie as tie
+use Rattle.allocation.proofs.is_misplaced.Statement.{statement}
+use Rattle.allocation.proofs.is_misplaced.Tie as tie
 
 table-file-requires : tie.Need-table-file-requires
 table-file-requires c κs = search needs

@@ -1,6 +1,6 @@
 -- "P1 to P10 form a single table with a single statement about the definitions (P6 to P9 about the list's order and the four table
 -- entries, not a whole image)." Sample: 1,313 sectors, F 255.
-use Prim.Native.Nat.{ℕ, _+_, _*_}
+use Prim.Native.Nat.{ℕ, _*_}
 use mathlib.Core.Path.{_≡_}
 use mathlib.Core.List.{List, [], _∷_, _++_}
 use mathlib.Core.Option.{Option, none, some as just}

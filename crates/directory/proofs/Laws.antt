@@ -1,15 +1,14 @@
 -- Searches of the catalogue, by id and for fault 22, as searches of the directory. Rests on the crate `laws`.
 use Prim.Native.Nat.{ℕ, _*_}
-use mathlib.Core.Path.{_≡_, refl, ap, _∙_}
-use mathlib.Core.Bool.{Bool, true, false, cond, _&&_, _||_}
-use mathlib.Core.Option.{none, some as just}
+use mathlib.Core.Path.{_≡_, ap, _∙_}
+use mathlib.Core.Bool.{Bool, _&&_, _||_}
 use lib.Dec.{eqb, ltb}
 use Rattle.model.specs.Bytes.{beAt}
 use Rattle.model.specs.Search.{first, some}
 use Rattle.model.specs.Geometry.{usable, extentBytes, entryAt}
 use Rattle.model.specs.Disk.{Disk}
 use Rattle.model.specs.Superblock.{geometryIn}
-use Rattle.model.specs.Entry.{Entry, entryIn, isOccupied, nameIn, badName}
+use Rattle.model.specs.Entry.{entryIn, isOccupied, nameIn, badName}
 use Rattle.model.specs.Catalogue.{catalogueOf, hasId}
 use Rattle.model.specs.Faults.{fault22}
 use Rattle.laws.proofs.Search.{first-ext, some-ext}

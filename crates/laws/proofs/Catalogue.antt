@@ -1,6 +1,6 @@
 -- What a disk's catalogue says, in the terms that code tests: searches of the catalogue as searches of the directory, faults 22 to
 -- 26 as tests of sectors. Assumes nothing.
-use Prim.Native.Nat.{ℕ, _+_, _*_, _<_}
+use Prim.Native.Nat.{ℕ, _*_, _<_}
 use mathlib.Core.Path.{_≡_, refl, sym, ap, ap₂, _∙_}
 use mathlib.Core.Bool.{Bool, true, false, cond, not, _&&_, _||_}
 use mathlib.Core.List.{List}
@@ -9,7 +9,6 @@ use native.Mathlib.Omega.{arith}
 use lib.Dec.{eqb, leb, ltb}
 use borrow.Author.Tests.{lt-ltb, eqb-true, ne-eqb}
 use Rattle.model.specs.declared.Geometry.{Geometry}
-use Rattle.model.specs.declared.Place.{Place}
 use Rattle.model.specs.Bytes.{beAt}
 use Rattle.model.specs.Search.{first, some, every, count, same}
 use Rattle.model.specs.Geometry.{usable, extentBytes, extentsFor, rootAt, entryAt}

@@ -1,6 +1,6 @@
 -- What it says of a volume that the refusals 1 to 7 let it pass: it is open, and it has no fault. Assumes nothing.
-use Prim.Native.Nat.{ℕ, _≤_, _<_}
-use mathlib.Core.Path.{_≡_, refl, sym, ap, _∙_}
+use Prim.Native.Nat.{ℕ, _≤_}
+use mathlib.Core.Path.{_≡_, refl, ap}
 use mathlib.Core.Bool.{Bool, true, false, cond}
 use mathlib.Core.List.{List}
 use native.Mathlib.Omega.{arith}
@@ -19,7 +19,7 @@ use Rattle.model.specs.Disk.{Disk, view}
 use Rattle.model.specs.Superblock.{geometryIn, stateOn}
 use Rattle.model.specs.Catalogue.{catalogueOf}
 use Rattle.model.specs.Faults.{fault21, fault22, fault23, fault24, fault25, fault26, orElse, firstFault}
-use Rattle.model.specs.Refusals.{andThen, isDone, refusal, stateNumber, faultVerdict, imageVerdict, soundVerdict, judged}
+use Rattle.model.specs.Refusals.{refusal, stateNumber, faultVerdict, imageVerdict, soundVerdict, judged}
 use Rattle.model.specs.Opened.{Opened}
 use Rattle.laws.proofs.Refusals.{opened}
 

@@ -3,23 +3,22 @@ use Prim.Native.Nat.{ℕ, _+_, _-_, _*_, _≤_, _<_, _^_}
 use mathlib.Core.Path.{_≡_, refl, sym, ap, _∙_}
 use mathlib.Core.Bool.{Bool, true, false, cond, not, _&&_, _||_}
 use mathlib.Core.List.{List}
-use mathlib.Core.Option.{Option, none, some as just}
+use mathlib.Core.Option.{none, some as just}
 use native.Mathlib.Nat.{mul-le-mul}
 use native.Mathlib.Omega.{arith}
 use native.Mathlib.Decide.{decLt}
-use lib.Dec.{leb, ltb}
+use lib.Dec.{ltb}
 use lib.ListN.{length}
 use borrow.Author.Tests.{ltb-false}
 use Rattle.model.specs.declared.Fields.{Fields}
 use Rattle.model.specs.declared.Geometry.{Geometry}
-use Rattle.model.specs.declared.Place.{Place}
-use Rattle.model.specs.declared.Place.the-variants.{At, Nowhere}
+use Rattle.model.specs.declared.Place.the-variants.{At}
 use Rattle.model.specs.Bytes.{beAt, run}
-use Rattle.model.specs.Search.{scan, first, same}
+use Rattle.model.specs.Search.{scan, same}
 use Rattle.model.specs.Geometry.{superblockAt, entryAt, usable, extentBytes}
 use Rattle.model.specs.Disk.{Disk, view}
 use Rattle.model.specs.Superblock.{geometryIn}
-use Rattle.model.specs.Entry.{Entry, nameIn, entryIn, isOccupied, fieldsOf, badName}
+use Rattle.model.specs.Entry.{nameIn, entryIn, isOccupied, fieldsOf, badName}
 use Rattle.model.specs.Catalogue.{catalogueOf, isFree, fileNamed, entryOf, entryOr}
 use Rattle.model.specs.Faults.{fault22, firstFault}
 use Rattle.model.specs.Opened.{Opened}

@@ -23,7 +23,7 @@ use Rattle.model.specs.Geometry.{ExtentNumber, FileNumber, extentsFor}
 use Rattle.model.specs.Root.{Root, newRoot, updatedRoot}
 use Rattle.model.specs.Entry.{Entry, newEntry, updatedEntry}
 use Rattle.model.specs.Catalogue.{Owner, Catalogue, noEntry, fileNamed, freeEntry, freeExtent}
-use Rattle.model.specs.Refusals.{Conditions, verdictOf, given, isDone, done}
+use Rattle.model.specs.Refusals.{Conditions, verdictOf, given, done}
 use Rattle.model.specs.WriteList.{recordSize, ownVerdict}
 use Rattle.model.specs.Format.{Format, geometryFor}
 use Rattle.model.specs.Find.{foundBy, nameConditions}

@@ -16,7 +16,7 @@ use Rattle.model.specs.Geometry.{SectorNumber, superblockAt, rootAt, jou
 use Rattle.model.specs.Disk.{Disk}
 use Rattle.model.specs.Superblock.{geometryIn, stateOn}
 use Rattle.model.specs.Journal.{sourceAt, targetAt}
-use Rattle.model.specs.Refusals.{andThen, given, isDone, refusal, imageVerdict, stateNumber}
+use Rattle.model.specs.Refusals.{andThen, isDone, refusal, imageVerdict, stateNumber}
 use Rattle.model.specs.WriteList.{Record, Group, sectorWrite, superblockGroup, closed, listLength, emit, ownVerdict}
 
 -- in the data area; in root, directory or table

@@ -1,7 +1,7 @@
 -- "Numbers that a call gives back." Conditions stand in the rising order of their numbers; "the lowest number whose condition
 -- holds is the answer".
 use Prim.Native.Nat.{ℕ, _/_, _%_}
-use mathlib.Core.Bool.{Bool, true, false, cond, not, _&&_}
+use mathlib.Core.Bool.{Bool, cond, not, _&&_}
 use mathlib.Core.List.{List, [], _∷_}
 use lib.Dec.{eqb, leb, ltb}
 use Rattle.model.specs.declared.Verdict.{Verdict}

@@ -3,13 +3,13 @@
 use Prim.Native.Nat.{ℕ, _*_, _%_, _^_, _≤_, _<_}
 use mathlib.Core.Path.{_≡_}
 use mathlib.Core.Logic.{_≢_}
-use mathlib.Core.Bool.{Bool, true, cond}
+use mathlib.Core.Bool.{true, cond}
 use mathlib.Core.List.{List, [], _∷_}
 use mathlib.Core.Option.{Option, none, some as just}
 use lib.ListN.{length}
 use Rattle.model.specs.Disk.{view}
 use Rattle.model.specs.Refusals.{isDone}
-use Rattle.model.specs.WriteList.{Plan, stored, groupsFor, closed, answerOf, Decision}
+use Rattle.model.specs.WriteList.{Plan, stored, groupsFor, closed}
 use Rattle.model.specs.Format.{Format, canFormat, formattedImage}
 use Rattle.model.specs.Summary.{summaryAnswer, checkAnswer}
 use Rattle.model.specs.Find.{findAnswer}

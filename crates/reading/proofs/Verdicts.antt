@@ -2,9 +2,8 @@
 use Prim.Native.Nat.{ℕ, _≤_, _<_}
 use mathlib.Core.Path.{_≡_, refl, sym, ap, _∙_}
 use mathlib.Core.Bool.{Bool, true, false, cond, not, _||_}
-use mathlib.Core.List.{List, [], _∷_}
-use native.Mathlib.Omega.{arith}
-use lib.Dec.{leb, ltb}
+use mathlib.Core.List.{List}
+use lib.Dec.{ltb}
 use lib.ListN.{length}
 use borrow.Author.Tests.{le-leb, lt-leb, lt-ltb, le-ltb}
 use Rattle.model.specs.declared.Place.{Place}
@@ -19,7 +18,7 @@ use Rattle.model.specs.Entry.{Entry, nameIn, entryIn, isOccupied, badName}
 use Rattle.model.specs.Catalogue.{catalogueOf, isFree, fileNamed, entryOf}
 use Rattle.model.specs.Refusals.{verdictOf, refusal, done}
 use Rattle.model.specs.Listing.{listConditions}
-use Rattle.model.specs.Read.{longestTransfer, readCount, sizeNamed, readConditions}
+use Rattle.model.specs.Read.{longestTransfer, sizeNamed, readConditions}
 use Rattle.laws.proofs.Entry.{length-nameIn}
 use Rattle.reading.specs.FileVerdict.{fileVerdict}
 use Rattle.laws.proofs.Named.{entry-on, free-is, named-entry}

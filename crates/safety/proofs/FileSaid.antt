@@ -14,7 +14,7 @@ use borrow.Author.Tests.{leb-true, ltb-true, ltb-false, eqb-true, eqb-false, eq-
 use Rattle.model.specs.declared.Place.{Place}
 use Rattle.model.specs.declared.Place.the-variants.{At, Nowhere}
 use Rattle.model.specs.Bytes.{run, put}
-use Rattle.model.specs.Search.{first, some, indexOf, same}
+use Rattle.model.specs.Search.{some, indexOf, same}
 use Rattle.model.specs.Disk.{view}
 use Rattle.model.specs.Entry.{Entry, newEntry, updatedEntry}
 use Rattle.model.specs.Catalogue.{Catalogue, catalogueOf, hasName, fileNamed, freeEntry, entryOf, entryOr, fileByte, fileBytes}

@@ -11,8 +11,8 @@ use Rattle.model.specs.declared.Geometry.{Geometry}
 use Rattle.model.specs.declared.Place.{Place}
 use Rattle.model.specs.declared.Place.the-variants.{At, Nowhere}
 use Rattle.model.specs.Bytes.{run}
-use Rattle.model.specs.Search.{scan, first, tab, indexOf}
-use Rattle.model.specs.Geometry.{extentSectors, extentBytes, extentAt, usable, reserveExtents, superblockAt, volumeSectors}
+use Rattle.model.specs.Search.{scan, tab, indexOf}
+use Rattle.model.specs.Geometry.{extentSectors, extentBytes, extentAt, usable, reserveExtents, superblockAt}
 use Rattle.model.specs.Disk.{view}
 use Rattle.model.specs.Superblock.{geometryIn}
 use Rattle.model.specs.Catalogue.{Catalogue, catalogueOf, isPart, extentOf, sectorOf, fileByte, fileBytes}

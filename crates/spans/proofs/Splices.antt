@@ -1,28 +1,26 @@
 -- A sector of a span as it is emitted: whole, or spliced into its old bytes; and where consecutive file sectors of one extent
 -- stand. Assumes nothing.
-use Prim.Native.Nat.{ℕ, suc, _+_, _*_, _-_, _/_, _%_, _≤_, _<_, min, max}
-use mathlib.Core.Path.{_≡_, refl, sym, ap, ap₂, _∙_}
+use Prim.Native.Nat.{ℕ, _+_, _*_, _-_, _/_, _%_, _≤_, _<_, min, max}
+use mathlib.Core.Path.{_≡_, sym, ap, ap₂, _∙_}
 use mathlib.Core.Bool.{Bool, true, false, cond}
 use mathlib.Core.List.{List}
-use native.Mathlib.Nat.{mod-lt, div-add-mod'}
+use native.Mathlib.Nat.{div-add-mod'}
 use native.Mathlib.Omega.{arith}
 use lib.Arith.{digits-div, digits-mod}
 use lib.Dec.{ltb}
 use lib.ListN.{length}
 use Rattle.model.specs.declared.Geometry.{Geometry}
-use Rattle.model.specs.declared.Place.{Place}
 use Rattle.model.specs.Bytes.{run, put}
 use Rattle.model.specs.Search.{scan, tab, indexOf}
 use Rattle.model.specs.Geometry.{extentSectors, extentAt, usable, superblockAt}
 use Rattle.model.specs.Disk.{view}
 use Rattle.model.specs.Superblock.{geometryIn}
 use Rattle.model.specs.Catalogue.{catalogueOf, isFree, extentOf, freeExtent}
-use Rattle.model.specs.WriteList.{Record, sectorWrite}
+use Rattle.model.specs.WriteList.{sectorWrite}
 use Rattle.model.specs.Write.{spliced, splicedFrom, heldExtents, placeOf, dataSector}
 use Rattle.model.specs.Opened.{Opened}
 use Rattle.laws.proofs.Bytes.{length-run, put-all}
 use Rattle.laws.proofs.Search.{scan-hit, tab-ext}
-use Rattle.laws.proofs.Disk.{length-view}
 use Rattle.spans.specs.Touched.{Lent}
 use Rattle.spans.proofs.Laws.{found-below, usable-some, extent-below, extent-inside}
 

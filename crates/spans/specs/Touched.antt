@@ -1,9 +1,8 @@
 -- What the emission of a span's data sectors may rest on.
-use Prim.Native.Nat.{ℕ, _+_, _*_, _<_, _≤_, _^_}
+use Prim.Native.Nat.{ℕ, _+_, _*_, _<_, _^_}
 use mathlib.Core.Path.{_≡_}
 use mathlib.Core.List.{List}
 use Rattle.model.specs.Search.{indexOf}
-use Rattle.model.specs.Geometry.{usable}
 use Rattle.model.specs.Disk.{view}
 use Rattle.model.specs.Table.{freeFile}
 use Rattle.model.specs.Catalogue.{catalogueOf, freeExtent}

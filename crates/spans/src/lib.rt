@@ -11,12 +11,12 @@ ghost use Prim.Native.Nat.{_+_, _*_, _-_, _≤_, _<_, _^_, min, max};
 ghost use lib.Dec.{ltb};
 ghost use lib.ListN.{length};
 ghost use Rattle.model.specs.Bytes.{put};
-ghost use Rattle.model.specs.Search.{tab, indexOf};
+ghost use Rattle.model.specs.Search.{tab};
 ghost use Rattle.model.specs.Disk.{view};
 ghost use Rattle.model.specs.Table.{freeFile};
-ghost use Rattle.model.specs.Catalogue.{catalogueOf, fileBytes, extentOf, freeExtent};
+ghost use Rattle.model.specs.Catalogue.{catalogueOf, fileBytes, extentOf};
 ghost use Rattle.model.specs.WriteList.{sectorWrite, Emitted};
-ghost use Rattle.model.specs.Write.{spliced, heldExtents, dataSector};
+ghost use Rattle.model.specs.Write.{spliced, dataSector};
 ghost use Rattle.model.specs.Opened.{Opened};
 ghost use Rattle.spans.specs.Touched.{Touched, Lent};
 

@@ -1,19 +1,19 @@
 -- What a disk's catalogue says of an extent, in the terms that the code tests; a quotient rounded up. Assumes nothing.
 use Prim.Native.Nat.{ℕ, _+_, _-_, _*_, _/_, _%_, _≤_, _<_}
 use mathlib.Core.Path.{_≡_, refl, sym, ap, _∙_}
-use mathlib.Core.Bool.{Bool, true, false, cond, not, _&&_, _||_}
+use mathlib.Core.Bool.{Bool, true, false, cond, not, _&&_}
 use mathlib.Core.List.{List}
 use mathlib.Core.Option.{none, some as just}
 use native.Mathlib.Numerals.{add-one}
 use native.Mathlib.Nat.{div-add-mod', div-lt-iff-lt-mul, mul-le-mul-left, suc-mul, mod-lt}
 use native.Mathlib.Omega.{arith}
 use lib.Arith.{digits-div}
-use lib.Dec.{eqb, leb, ltb}
+use lib.Dec.{eqb, leb}
 use borrow.Author.Tests.{le-ltb, eqb-true, ne-eqb}
 use Rattle.model.specs.declared.Geometry.{Geometry}
 use Rattle.model.specs.Bytes.{beAt, put}
 use Rattle.model.specs.Search.{first, count, indexOf}
-use Rattle.model.specs.Geometry.{usable, entryAt, tableAt, tableSectors}
+use Rattle.model.specs.Geometry.{usable, tableAt, tableSectors}
 use Rattle.model.specs.Disk.{Disk, view}
 use Rattle.model.specs.Superblock.{geometryIn}
 use Rattle.model.specs.Table.{freeFile, tableFile, tableOffset, tableEntryBytes, freedIn}

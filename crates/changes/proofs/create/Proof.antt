@@ -2,9 +2,8 @@ use mathlib.Core.Path.{sym, ap, _∙_}
 use mathlib.Core.Option.{some as just}
 use lib.ListN.{length}
 use Rattle.model.specs.declared.Verdict.{Verdict}
-use Rattle.model.specs.Search.{indexOf}
 use Rattle.model.specs.Disk.{view}
-use Rattle.model.specs.Catalogue.{catalogueOf, fileNamed}
+use Rattle.model.specs.Catalogue.{catalogueOf}
 use Rattle.model.specs.Create.{createConditions, createPlan, createDecision, createAnswer, createList}
 use Rattle.commit.proofs.Decided.{refused-as-judged}
 use borrow.Author.Needs.{needs}

@@ -1,5 +1,4 @@
 use mathlib.Core.Path.{sym, ap, _∙_}
-use mathlib.Core.Option.{some as just}
 use lib.ListN.{length}
 use Rattle.model.specs.declared.Verdict.{Verdict}
 use Rattle.model.specs.Search.{indexOf}

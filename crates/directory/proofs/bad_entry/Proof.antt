@@ -1,5 +1,4 @@
 use borrow.Author.Needs.{needs}
-use Prim.Native.Nat.{_-_}
 use Rattle.directory.proofs.bad_entry.Statement.{statement}
 use Rattle.directory.proofs.bad_entry.Tie as tie
 

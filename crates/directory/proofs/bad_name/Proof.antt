@@ -1,5 +1,4 @@
 use borrow.Author.Needs.{needs}
-use Prim.Native.Nat.{_-_}
 use borrow.Author.Tests.{le-leb, lt-leb}
 use Rattle.model.specs.Entry.{badName}
 use Rattle.directory.proofs.bad_name.Statement.{statement}

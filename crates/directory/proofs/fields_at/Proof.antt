@@ -1,5 +1,4 @@
 use borrow.Author.Needs.{needs}
-use Prim.Native.Nat.{_-_}
 use Rattle.model.specs.Entry.{fieldsOf, entryIn}
 use Rattle.laws.proofs.Entry.{length-nameIn}
 use Rattle.directory.proofs.fields_at.Statement.{statement}

@@ -1,5 +1,4 @@
 use borrow.Author.Needs.{needs}
-use Prim.Native.Nat.{_-_}
 use Rattle.model.specs.Entry.{isOccupied}
 use Rattle.directory.proofs.is_occupied.Statement.{statement}
 use Rattle.directory.proofs.is_occupied.Tie as tie

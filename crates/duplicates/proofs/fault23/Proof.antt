@@ -1,4 +1,3 @@
-use Prim.Native.Nat.{_-_}
 use mathlib.Core.Path.{sym, _∙_}
 use Rattle.model.specs.Disk.{view}
 use Rattle.duplicates.proofs.Keys.{names-faulty, names-fit}

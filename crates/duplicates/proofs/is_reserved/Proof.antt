@@ -1,5 +1,4 @@
 use borrow.Author.Needs.{needs}
-use Prim.Native.Nat.{_-_}
 use mathlib.Core.Path.{_≡_}
 use Rattle.duplicates.specs.declared.Key.the-variants.{Id}
 use Rattle.duplicates.proofs.is_reserved.Statement.{statement}

@@ -1,5 +1,4 @@
 use borrow.Author.Needs.{needs}
-use Prim.Native.Nat.{_-_}
 use mathlib.Core.Path.{_≡_}
 use borrow.Author.Tests.{leb-true}
 use Rattle.laws.proofs.Entry.{length-nameIn}

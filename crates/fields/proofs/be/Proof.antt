@@ -1,7 +1,7 @@
 use mathlib.Core.Path.{_≡_, refl, ap, sym, _∙_}
 use Prim.Native.Nat.{ℕ, _+_, _-_, _*_, _^_, _≤_, _<_}
 use native.Mathlib.Omega.{arith}
-use lib.ListN.{length, getD}
+use lib.ListN.{getD}
 use Rattle.model.specs.Bytes.{beAt}
 use Rattle.laws.proofs.Bytes.{beAt-more, pow-more, pow-seven}
 use Rattle.fields.proofs.be.Statement.{statement}

@@ -1,7 +1,7 @@
-use mathlib.Core.Path.{_≡_, refl, ap, sym, _∙_}
-use Prim.Native.Nat.{ℕ, _+_, _-_, _≤_, _<_}
+use mathlib.Core.Path.{_≡_, refl, sym}
+use Prim.Native.Nat.{_-_, _≤_}
 use native.Mathlib.Omega.{arith}
-use lib.ListN.{length, set, length-set}
+use lib.ListN.{length, length-set}
 use Rattle.model.specs.Bytes.{run, put}
 use Rattle.laws.proofs.Bytes.{run-more, put-snoc, put-nil, length-run}
 use Rattle.fields.proofs.copy_run.Statement.{statement}

@@ -1,7 +1,7 @@
-use mathlib.Core.Path.{_≡_, refl, ap, sym, _∙_}
-use Prim.Native.Nat.{ℕ, _+_, _-_, _≤_, _<_}
+use mathlib.Core.Path.{_≡_, refl, sym}
+use Prim.Native.Nat.{_-_, _≤_}
 use native.Mathlib.Omega.{arith}
-use lib.ListN.{length, set, length-set, replicate, length-replicate}
+use lib.ListN.{length, length-set, replicate, length-replicate}
 use Rattle.model.specs.Bytes.{put}
 use Rattle.laws.proofs.Bytes.{replicate-more, put-snoc, put-nil}
 use Rattle.fields.proofs.fill_run.Statement.{statement}

@@ -1,4 +1,4 @@
-use mathlib.Core.Path.{_≡_, _∙_}
+use mathlib.Core.Path.{_∙_}
 use Rattle.model.specs.Disk.{view}
 use Rattle.laws.proofs.Bytes.{length-run, put-all}
 use borrow.Author.Needs.{needs}

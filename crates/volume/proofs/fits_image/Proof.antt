@@ -1,7 +1,7 @@
 use Rattle.model.proofs.Areas.{bounds}
-use Rattle.model.specs.Refusals.{isWhole, fitsImage}
+use Rattle.model.specs.Refusals.{fitsImage}
 use native.Mathlib.Omega.{arith}
-use mathlib.Core.Path.{_≡_, refl, sym, ap, _∙_}
+use mathlib.Core.Path.{sym, _∙_}
 use borrow.Author.Needs.{needs}
 use Rattle.volume.proofs.fits_image.Statement.{statement}
 use Rattle.volume.proofs.fits_image.Tie as tie

@@ -1,5 +1,4 @@
-use Rattle.model.specs.Superblock.{isVolume, geometryIn, journalLength, stateOf, magic}
-use mathlib.Core.Path.{_≡_, refl, sym, ap, _∙_}
+use Rattle.model.specs.Superblock.{geometryIn}
 use borrow.Author.Needs.{needs}
 use Rattle.volume.proofs.geometry_in.Statement.{statement}
 use Rattle.volume.proofs.geometry_in.Tie as tie

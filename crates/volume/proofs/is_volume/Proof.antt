@@ -3,9 +3,9 @@ use Rattle.laws.proofs.Bytes.{run-part}
 use Rattle.model.specs.Search.{same}
 use Rattle.model.specs.Disk.{view}
 use Rattle.model.specs.Bytes.{run}
-use Rattle.model.specs.Superblock.{isVolume, geometryIn, journalLength, stateOf, magic}
+use Rattle.model.specs.Superblock.{isVolume, magic}
 use native.Mathlib.Omega.{arith}
-use mathlib.Core.Path.{_≡_, refl, sym, ap, _∙_}
+use mathlib.Core.Path.{_≡_, sym}
 use borrow.Author.Needs.{needs}
 use Rattle.volume.proofs.is_volume.Statement.{statement}
 use Rattle.volume.proofs.is_volume.Tie as tie

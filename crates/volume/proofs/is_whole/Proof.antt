@@ -1,7 +1,5 @@
-use Rattle.model.specs.Refusals.{isWhole, fitsImage}
-use borrow.Author.Tests.{eq-eqb, ne-eqb, le-leb, lt-leb, lt-ltb, le-ltb}
-use mathlib.Core.Path.{_≡_, refl, sym, ap, _∙_}
-use borrow.Author.Needs.{needs}
+use Rattle.model.specs.Refusals.{isWhole}
+use borrow.Author.Tests.{lt-ltb, le-ltb}
 use Rattle.volume.proofs.is_whole.Statement.{statement}
 use Rattle.volume.proofs.is_whole.Tie as tie
 

@@ -1,7 +1,5 @@
-use Rattle.model.specs.Superblock.{isVolume, geometryIn, journalLength, stateOf, magic}
-use borrow.Author.Tests.{eq-eqb, ne-eqb, le-leb, lt-leb, lt-ltb, le-ltb}
-use mathlib.Core.Path.{_≡_, refl, sym, ap, _∙_}
-use borrow.Author.Needs.{needs}
+use Rattle.model.specs.Superblock.{stateOf}
+use borrow.Author.Tests.{eq-eqb, ne-eqb, le-leb, lt-leb}
 use Rattle.volume.proofs.state_of.Statement.{statement}
 use Rattle.volume.proofs.state_of.Tie as tie
 

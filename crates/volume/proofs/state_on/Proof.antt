@@ -1,5 +1,4 @@
-use Rattle.model.specs.Superblock.{isVolume, geometryIn, journalLength, stateOf, magic}
-use mathlib.Core.Path.{_≡_, refl, sym, ap, _∙_}
+use Rattle.model.specs.Superblock.{journalLength}
 use borrow.Author.Needs.{needs}
 use Rattle.volume.proofs.state_on.Statement.{statement}
 use Rattle.volume.proofs.state_on.Tie as tie

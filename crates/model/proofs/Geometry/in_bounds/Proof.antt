@@ -1,7 +1,5 @@
 use Rattle.model.specs.Geometry.{inBounds}
-use borrow.Author.Tests.{eq-eqb, ne-eqb, le-leb, lt-leb, lt-ltb, le-ltb}
-use mathlib.Core.Path.{_≡_}
-use borrow.Author.Needs.{needs}
+use borrow.Author.Tests.{le-leb, lt-leb}
 use Rattle.model.proofs.Geometry.in_bounds.Statement.{statement}
 use Rattle.model.proofs.Geometry.in_bounds.Tie as tie
 

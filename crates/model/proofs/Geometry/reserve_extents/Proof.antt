@@ -1,4 +1,3 @@
-use mathlib.Core.Path.{_≡_}
 use borrow.Author.Needs.{needs}
 use Rattle.model.proofs.Geometry.reserve_extents.Statement.{statement}
 use Rattle.model.proofs.Geometry.reserve_extents.Tie as tie

@@ -56,14 +56,7 @@ fn fill_starts(img: &[u8], g: Geometry, starts: &mut [u16]) -> usize
 }
 
 // Extent e is marked, unless its file is m or later. Where its offset is too large or was met before, its file is the next m.
-fn mark(
-    img: &[u8],
-    g: Geometry,
-    e: Extent,
-    starts: &[u16],
-    m: usize,
-    seen: &mut [u8],
-) -> usize
+fn mark(img: &[u8], g: Geometry, e: Extent, starts: &[u16], m: usize, seen: &mut [u8]) -> usize
     requires { ⌜ Opened (now img) g ⌝ }
     requires { ⌜ e .0 < g .extents ⌝ }
     requires { ⌜ Starts g (view (now img)) m (now starts) ⌝ }

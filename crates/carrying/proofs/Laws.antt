@@ -1,7 +1,7 @@
 -- Laws of carrying out: writes one after the other, and the answer by the code's tests. Assumes nothing.
 use Prim.Native.Nat.{ℕ, _+_, _*_, _/_, _%_, _<_}
 use mathlib.Core.Path.{_≡_, refl, sym, ap, _∙_}
-use mathlib.Core.Bool.{Bool, true, false, cond, not, true≢false}
+use mathlib.Core.Bool.{true, false, cond, not}
 use mathlib.Core.List.{List, [], _∷_, _++_}
 use native.Mathlib.Nat.{zero-add}
 use lib.Dec.{eqb, leb}
@@ -13,15 +13,7 @@ use Rattle.model.specs.Refusals.{verdictOf, refusal, isWhole}
 use Rattle.model.specs.WriteList.{Record, barrierNumber, stored}
 use Rattle.model.specs.CarryOut.{recordIn, recordsIn, badRecord, carryVerdict, carryAnswer, carryImage}
 use Rattle.laws.proofs.Bytes.{getD-run}
-use Rattle.laws.proofs.Search.{every-ext, some-true, tab-more}
-
--- where no index passes, each fails
-pub none-at : (p : ℕ → Bool) (n : ℕ) → some p n ≡ false → (j : ℕ) → j < n → p j ≡ false
-none-at p n e j h = go (p j) refl
-  where
-    go : (b : Bool) → p j ≡ b → p j ≡ false
-    go true q = absurd (true≢false (sym (some-true p j n h q) ∙ e))
-    go false q = q
+use Rattle.laws.proofs.Search.{every-ext, tab-more}
 
 -- ---- writes
 

@@ -3,9 +3,8 @@
 //! take up memory.
 
 use oracle::draw::Draw;
-use oracle::layout::{
-    entry, put16, put32, put64, root, superblock, Extent, FileIndex, Geometry, SECTOR,
-};
+use oracle::layout::{Extent, Geometry, SECTOR};
+use oracle::testing::images::{blank, put_file};
 
 pub const SAMPLE_SECTORS: u64 = 1_313;
 
@@ -73,7 +72,8 @@ pub fn almost_full() -> Vec<u8> {
     )
 }
 
-/// The first entries are occupied and the first extents taken, The extents of a file are scattered, and the last file begins in the last of them.
+/// The first entries are occupied and the first extents taken. The extents of a file are scattered,
+/// and the last file begins in the last of them.
 pub fn filled(geometry: Geometry, occupied: u64, taken: u64, name: fn(u64) -> Vec<u8>) -> Vec<u8> {
     let mut image = blank(geometry, geometry.end().0);
     let mut extents = vec![Vec::new(); occupied as usize];
@@ -107,51 +107,11 @@ pub fn one_file() -> Vec<u8> {
     image
 }
 
-fn blank(geometry: Geometry, image_sectors: u64) -> Vec<u8> {
-    let mut image = vec![0; image_sectors as usize * SECTOR];
-    put16(&mut image, superblock::FILES, geometry.files() as u16);
-    put16(&mut image, superblock::EXTENTS, geometry.extents() as u16);
-    put32(
-        &mut image,
-        superblock::EXTENT_SECTORS,
-        geometry.extent_sectors() as u32,
-    );
-    image[superblock::MAGIC..superblock::VERSION].copy_from_slice(&superblock::MAGIC_TEXT);
-    put16(&mut image, superblock::VERSION, superblock::THIS_VERSION);
-    put64(&mut image[SECTOR..], root::ID, 900_000);
-    let table = geometry.table_at().0 as usize * SECTOR;
-    image[table..geometry.data_at().0 as usize * SECTOR].fill(255);
-    image
-}
-
 /// Makes sure that both sides take the image for a sound volume, so that no refusal is timed.
 pub fn assert_sound(image: &[u8]) {
     let (proved, plain) = (goofs::check(image), oracle::check(image));
     assert_eq!((proved.code, proved.fault, proved.place), (0, 0, 0));
     assert_eq!((plain.code, plain.fault, plain.place), (0, 0, 0));
-}
-
-fn put_file(
-    image: &mut [u8],
-    geometry: Geometry,
-    index: u64,
-    name: &[u8],
-    size: u64,
-    extents: &[u64],
-) {
-    let at = geometry.entry_at(FileIndex(index)).0 as usize * SECTOR;
-    let sector = &mut image[at..at + SECTOR];
-    put16(sector, entry::MARK, entry::OCCUPIED);
-    put64(sector, entry::SIZE, size);
-    put64(sector, entry::ID, 1_000 + index);
-    put16(sector, entry::NAME_LENGTH, name.len() as u16);
-    sector[entry::NAME..entry::NAME + name.len()].copy_from_slice(name);
-    for (offset, extent) in extents.iter().enumerate() {
-        let (table_sector, at) = geometry.table_place(Extent(*extent));
-        let at = table_sector.0 as usize * SECTOR + at;
-        put16(image, at, index as u16);
-        put16(image, at + 2, offset as u16);
-    }
 }
 
 /// Noise in the extents that are read, so that they are real memory.

@@ -6,7 +6,8 @@ use lib.ListN.{length}
 use Rattle.model.specs.Search.{tab}
 use Rattle.model.specs.WriteList.{stored}
 use Rattle.model.specs.CarryOut.{recordIn, recordsIn, badRecord}
-use Rattle.carrying.proofs.Laws.{none-at, stored-more}
+use Rattle.laws.proofs.Search.{none-at}
+use Rattle.carrying.proofs.Laws.{stored-more}
 use Rattle.carrying.proofs.put_records.Statement.{statement}
 use Rattle.carrying.proofs.put_records.Tie as tie
 

@@ -12,7 +12,6 @@ use borrow.Author.Tests.{lt-ltb, ne-eqb, eqb-true}
 use Rattle.model.specs.declared.Geometry.{Geometry}
 use Rattle.model.specs.declared.Place.{Place}
 use Rattle.model.specs.declared.Place.the-variants.{At, Nowhere}
-use Rattle.model.specs.declared.Soundness.{Soundness}
 use Rattle.model.specs.declared.Soundness.the-variants.{Sound, Faulty}
 use Rattle.model.specs.Bytes.{beAt}
 use Rattle.model.specs.Search.{first, some, count}
@@ -26,7 +25,7 @@ use Rattle.model.specs.Faults.{exact, fault25, fault26, orElse}
 use Rattle.laws.proofs.Search.{some-ext, some-no, first-ext, first-missed}
 use Rattle.laws.proofs.Catalogue.{fault26-is, exact-is}
 use Rattle.allocation.proofs.Misplaced.{fault25-on}
-use Rattle.allocation.specs.Marks.{bit, needed, startOf, owns, holds, isExtra, Starts, Marks}
+use Rattle.allocation.specs.Marks.{tableFault, bit, needed, startOf, owns, holds, isExtra, Starts, Marks}
 use Rattle.laws.proofs.Seeking.{first-found, first-there}
 use Rattle.laws.proofs.Count.{count-le}
 use Rattle.allocation.proofs.Sums.{by-value, sumTo-mono}
@@ -99,15 +98,12 @@ module _ (g : Geometry) (d : Disk) (is : g ≡ geometryIn (d 0)) (small : g .fil
             count-le (λ k. true && ltb (tableFile g d k) (m + 1)) (g .extents),
           ))
 
-  abbrev faultsOn : Soundness
-  faultsOn = orElse 25 (first (fault25 (catalogueOf d)) (g .extents)) (orElse 26 (first (fault26 (catalogueOf d)) (g .files)) Sound)
-
-  pub misplaced-at : (e : ℕ) → At e ≡ first (fault25 (catalogueOf d)) (g .extents) → Faulty 25 e ≡ faultsOn
+  pub misplaced-at : (e : ℕ) → At e ≡ first (fault25 (catalogueOf d)) (g .extents) → Faulty 25 e ≡ tableFault g d
   misplaced-at e h = ap (λ (p : Place). orElse 25 p (orElse 26 (first (fault26 (catalogueOf d)) (g .files)) Sound)) h
 
   module _ (sound : first (fault25 (catalogueOf d)) (g .extents) ≡ Nowhere) where
     -- what the search for fault 26 finds is the answer
-    rest : {p : Place} → first (fault26 (catalogueOf d)) (g .files) ≡ p → orElse 26 p Sound ≡ faultsOn
+    rest : {p : Place} → first (fault26 (catalogueOf d)) (g .files) ≡ p → orElse 26 p Sound ≡ tableFault g d
     rest h = rw (sound, h)
 
     -- an extent is an occupied file's
@@ -151,15 +147,15 @@ module _ (g : Geometry) (d : Disk) (is : g ≡ geometryIn (d 0)) (small : g .fil
       same-first = first-ext (lacks starts seen) (fault26 (catalogueOf d)) m judged
 
       -- the three answers
-      pub lacking-at : (i : ℕ) → At i ≡ first (lacks starts seen) m → Faulty 26 i ≡ faultsOn
+      pub lacking-at : (i : ℕ) → At i ≡ first (lacks starts seen) m → Faulty 26 i ≡ tableFault g d
       lacking-at i e = rest (first-found (fault26 (catalogueOf d)) m (g .files) i (S .files) (sym same-first ∙ sym e))
 
       module _ (e : Nowhere ≡ first (lacks starts seen) m) where
         missed : first (fault26 (catalogueOf d)) m ≡ Nowhere
         missed = sym same-first ∙ sym e
 
-        pub stopped-at : m < g .files → Faulty 26 m ≡ faultsOn
+        pub stopped-at : m < g .files → Faulty 26 m ≡ tableFault g d
         stopped-at l = rest (first-there (fault26 (catalogueOf d)) m (g .files) l missed (at-fault l (first-missed (fault26 (catalogueOf d)) m missed)))
 
-        pub nowhere : g .files ≤ m → Sound ≡ faultsOn
+        pub nowhere : g .files ≤ m → Sound ≡ tableFault g d
         nowhere h = let q : g .files ≡ m = omega (arith, S .files) in rest {p = Nowhere} (rw q missed)

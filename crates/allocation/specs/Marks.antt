@@ -1,5 +1,5 @@
--- What the arrays of fault 26's test hold. A byte stands for each extent that an occupied file needs, file after file; it is 1
--- once a table entry with that file and offset was met. Only the contracts of inner functions rest on these.
+-- The first fault of the allocation table, and what the arrays of fault 26's test hold: a byte stands for each extent that an occupied
+-- file needs, file after file; it is 1 once a table entry with that file and offset was met.
 use Prim.Native.Nat.{ℕ, zero, suc, _+_, _≤_, _<_}
 use mathlib.Core.Path.{_≡_}
 use mathlib.Core.Logic.{_⊎_}
@@ -8,12 +8,16 @@ use mathlib.Core.List.{List}
 use lib.Dec.{eqb, leb}
 use lib.ListN.{length, getD}
 use Rattle.model.specs.declared.Geometry.{Geometry}
+use Rattle.model.specs.declared.Soundness.{Soundness}
+use Rattle.model.specs.declared.Soundness.the-variants.{Sound}
 use Rattle.model.specs.Bytes.{numberIn}
-use Rattle.model.specs.Search.{some}
+use Rattle.model.specs.Search.{first, some}
 use Rattle.model.specs.Geometry.{FileNumber, ExtentNumber, entryAt, extentsFor}
 use Rattle.model.specs.Disk.{Disk}
 use Rattle.model.specs.Entry.{entryField, isOccupied}
 use Rattle.model.specs.Table.{tableFile, tableOffset}
+use Rattle.model.specs.Catalogue.{catalogueOf}
+use Rattle.model.specs.Faults.{fault25, fault26, orElse}
 
 -- the sum of h at the indexes below n
 unfoldable pub sumTo : (ℕ → ℕ) → ℕ → ℕ
@@ -24,6 +28,10 @@ abbrev pub bit : Bool → ℕ
 bit b = cond b 1 0
 
 module _ (g : Geometry) (d : Disk) where
+  -- the first of the faults 25 and 26
+  abbrev pub tableFault : Soundness
+  tableFault = orElse 25 (first (fault25 (catalogueOf d)) (g .extents)) (orElse 26 (first (fault26 (catalogueOf d)) (g .files)) Sound)
+
   -- how many extents entry i's size needs; a free entry needs none
   unfoldable pub needed : FileNumber → ℕ
   needed i = cond (isOccupied (d (entryAt i))) (extentsFor g (numberIn (d (entryAt i)) (entryField .size))) 0

@@ -10,14 +10,13 @@ ghost use Prim.Native.Nat.{ℕ, _+_, _-_, _≤_, _<_};
 ghost use lib.Dec.{eqb};
 ghost use lib.ListN.{length, getD};
 ghost use Rattle.model.specs.declared.Place.the-variants.{Nowhere};
-ghost use Rattle.model.specs.declared.Soundness.the-variants.{Sound};
 ghost use Rattle.model.specs.Search.{first, some};
 ghost use Rattle.model.specs.Geometry.{usable};
 ghost use Rattle.model.specs.Disk.{view};
 ghost use Rattle.model.specs.Opened.{Opened};
 ghost use Rattle.model.specs.Catalogue.{catalogueOf};
-ghost use Rattle.model.specs.Faults.{fault25, fault26, orElse};
-ghost use Rattle.allocation.specs.Marks.{needed, startOf, Starts, Marks};
+ghost use Rattle.model.specs.Faults.{fault25};
+ghost use Rattle.allocation.specs.Marks.{tableFault, needed, startOf, Starts, Marks};
 
 // How many extents entry i's size needs; a free entry needs none.
 fn needed(img: &[u8], g: Geometry, i: FileIndex) -> u64
@@ -172,7 +171,7 @@ fn faults_in(img: &[u8], g: Geometry, starts: &mut [u16], seen: &mut [u8]) -> So
     requires { ⌜ Opened (now img) g ⌝ }
     requires { ⌜ (g .files < length (now starts)) × (g .extents ≤ length (now seen)) ⌝ }
     requires { ⌜ ((p : ℕ) → p < length (now seen) → getD (now seen) p 0 ≡ 0) ⌝ }
-    ensures { λ r. ⌜ r ≡ orElse 25 (first (fault25 (catalogueOf (view (now (img .entry))))) (g .extents)) (orElse 26 (first (fault26 (catalogueOf (view (now (img .entry))))) (g .files)) Sound) ⌝ }
+    ensures { λ r. ⌜ r ≡ tableFault g (view (now (img .entry))) ⌝ }
 {
     let f = fill_starts(img, g, starts);
     let pass = pass_over(img, g, starts, f, seen);
@@ -193,7 +192,7 @@ fn faults_in(img: &[u8], g: Geometry, starts: &mut [u16], seen: &mut [u8]) -> So
 fn faults_of_few(img: &[u8], g: Geometry) -> Soundness
     requires { ⌜ Opened (now img) g ⌝ }
     requires { ⌜ (g .files < 4096) × (g .extents ≤ 4096) ⌝ }
-    ensures { λ r. ⌜ r ≡ orElse 25 (first (fault25 (catalogueOf (view (now (img .entry))))) (g .extents)) (orElse 26 (first (fault26 (catalogueOf (view (now (img .entry))))) (g .files)) Sound) ⌝ }
+    ensures { λ r. ⌜ r ≡ tableFault g (view (now (img .entry))) ⌝ }
 {
     let mut starts = [0u16; 4096];
     let mut seen = [0u8; 4096];
@@ -202,7 +201,7 @@ fn faults_of_few(img: &[u8], g: Geometry) -> Soundness
 
 fn faults_of_many(img: &[u8], g: Geometry) -> Soundness
     requires { ⌜ Opened (now img) g ⌝ }
-    ensures { λ r. ⌜ r ≡ orElse 25 (first (fault25 (catalogueOf (view (now (img .entry))))) (g .extents)) (orElse 26 (first (fault26 (catalogueOf (view (now (img .entry))))) (g .files)) Sound) ⌝ }
+    ensures { λ r. ⌜ r ≡ tableFault g (view (now (img .entry))) ⌝ }
 {
     let mut starts = [0u16; 65536];
     let mut seen = [0u8; 65536];
@@ -213,7 +212,7 @@ fn faults_of_many(img: &[u8], g: Geometry) -> Soundness
 // costs to judge.
 pub fn faults(img: &[u8], g: Geometry) -> Soundness
     requires { ⌜ Opened (now img) g ⌝ }
-    ensures { λ r. ⌜ r ≡ orElse 25 (first (fault25 (catalogueOf (view (now (img .entry))))) (g .extents)) (orElse 26 (first (fault26 (catalogueOf (view (now (img .entry))))) (g .files)) Sound) ⌝ }
+    ensures { λ r. ⌜ r ≡ tableFault g (view (now (img .entry))) ⌝ }
 {
     if g.files < 4096 {
         if g.extents <= 4096 {

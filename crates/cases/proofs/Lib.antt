@@ -1,1 +1,2 @@
+-- The proof that the cases hold.
 pub mod Computed

@@ -1,8 +1,8 @@
-// Leaves on byte slices: big-endian numbers, runs of bytes copied, filled and compared, sectors by value.
+// Leaves on byte slices: big-endian numbers, runs of bytes copied and compared, sectors by value.
 use model::Sector;
 ghost use mathlib.Core.Path.{_≡_};
 ghost use Prim.Native.Nat.{_+_, _*_, _≤_, _<_, _^_};
-ghost use lib.ListN.{length, replicate};
+ghost use lib.ListN.{length};
 ghost use Rattle.model.specs.Bytes.{beAt, beBytes, run, put};
 ghost use Rattle.model.specs.Disk.{view};
 ghost use Rattle.model.specs.Search.{same};
@@ -68,18 +68,6 @@ pub fn copy_run(src: &[u8], from: usize, dst: &mut [u8], at: usize, n: usize)
     let mut i: usize = 0;
     while i < n {
         dst[at + i] = src[from + i];
-        i += 1;
-    }
-}
-
-// Fills `n` bytes of `dst` at `at` with `v`.
-pub fn fill_run(dst: &mut [u8], at: usize, n: usize, v: u8)
-    requires { ⌜ at + n ≤ length (now dst) ⌝ }
-    ensures { λ _. ⌜ now (dst .exit) ≡ put (now (dst .entry)) at (replicate n v) ⌝ }
-{
-    let mut i: usize = 0;
-    while i < n {
-        dst[at + i] = v;
         i += 1;
     }
 }

@@ -1,1 +1,2 @@
+-- What the contracts of the C interface speak of, beside the definitions of `model`.
 pub mod Numbers

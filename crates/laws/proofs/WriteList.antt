@@ -4,10 +4,10 @@ use mathlib.Core.Path.{_≡_, refl, ap, sym, _∙_}
 use mathlib.Core.List.{List, [], _∷_, _++_, append-assoc, append-nil}
 use native.Mathlib.Nat.{add-zero}
 use native.Mathlib.Omega.{arith}
-use lib.ListN.{length, length-append, length-replicate, replicate}
-use Rattle.model.specs.Bytes.{beBytes, run, put, zeroSector}
-use Rattle.model.specs.WriteList.{Record, sectorWrite, barrier, barrierNumber, recordBytes, listBytes, emit, Emitted}
-use Rattle.laws.proofs.Bytes.{length-beBytes, length-run, put-append, put-nil, run-all}
+use lib.ListN.{length, length-append}
+use Rattle.model.specs.Bytes.{beBytes, run, put}
+use Rattle.model.specs.WriteList.{Record, sectorWrite, recordBytes, listBytes, emit, Emitted}
+use Rattle.laws.proofs.Bytes.{length-beBytes, length-run, put-append, put-nil}
 
 pub length-recordBytes : (r : Record) → length (recordBytes r) ≡ 520
 unfolding recordBytes
@@ -37,14 +37,6 @@ emit-append l k a b =
 pub emit-run : (l : List ℕ) (k s : ℕ) (c : List ℕ) → emit l k (sectorWrite s c ∷ []) ≡ put (put l (k * 520) (beBytes 8 s)) (k * 520 + 8) (run c 0 512)
 unfolding emit listBytes recordBytes
 emit-run l k s c = rw (append-nil, put-append, length-beBytes)
-
-pub emit-one : (l : List ℕ) (k s : ℕ) (c : List ℕ) → length c ≡ 512 → emit l k (sectorWrite s c ∷ []) ≡ put (put l (k * 520) (beBytes 8 s)) (k * 520 + 8) c
-unfolding emit listBytes recordBytes
-emit-one l k s c h = rw (append-nil, put-append, length-beBytes, run-all c 512 h)
-
-pub emit-barrier : (l : List ℕ) (k : ℕ) → emit l k (barrier ∷ []) ≡ put (put l (k * 520) (beBytes 8 barrierNumber)) (k * 520 + 8) (replicate 512 0)
-unfolding barrier zeroSector
-emit-barrier l k = emit-one l k barrierNumber (replicate 512 0) (length-replicate {A = ℕ} 512 0)
 
 -- ---- what emitting calls compose by
 

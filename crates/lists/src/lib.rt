@@ -29,15 +29,12 @@ pub fn put_from(list: &mut [u8], k: usize, sector: Sector, src: &[u8], from: usi
     k + 1
 }
 
-// Record k is a barrier.
+// Record k is a barrier: the highest number, and zeros.
 pub fn put_barrier(list: &mut [u8], k: usize) -> usize
     requires { ⌜ (k + 1) * 520 ≤ length (now list) ⌝ }
     ensures { λ r. ⌜ Emitted (now (list .entry)) k (barrier ∷ []) (now (list .exit)) r ⌝ }
 {
-    let at = k * 520;
-    fields::put_be(list, at, 8, 18446744073709551615);
-    fields::fill_run(list, at + 8, 512, 0);
-    k + 1
+    put_sector(list, k, Sector(18446744073709551615), [0u8; 512])
 }
 
 // A sector, and the barrier that closes its group.

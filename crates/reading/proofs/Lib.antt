@@ -1,1 +1,2 @@
+-- Laws of the verdicts of list and read.
 pub mod Verdicts

@@ -1,1 +1,2 @@
+-- What the contracts of the functions that emit data sectors speak of.
 pub mod Touched

@@ -1,3 +1,4 @@
+-- `carrying::carry_out` meets its contract. Refused for a bad record, the list's length or the image's length, or carried out.
 use borrow.Author.Needs.{needs}
 use mathlib.Core.Path.{sym, _∙_}
 use Rattle.carrying.proofs.Laws.{refused-1, cut-record, bad-record, carried}

@@ -1,3 +1,4 @@
+-- `carrying::has_bad` meets its contract. The loop's invariant: none of the records passed is bad.
 use borrow.Author.Needs.{needs}
 use Prim.Native.Nat.{_-_, _/_, _≤_}
 use mathlib.Core.Path.{_≡_, refl, sym, _∙_}

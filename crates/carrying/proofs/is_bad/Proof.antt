@@ -1,3 +1,4 @@
+-- `carrying::is_bad` meets its contract. A barrier's bytes are compared with 0, a sector's number with the image's length.
 use borrow.Author.Needs.{needs}
 use mathlib.Core.Path.{_∙_}
 use Rattle.carrying.proofs.Laws.{barrier-bad, sector-bad}

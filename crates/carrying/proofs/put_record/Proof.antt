@@ -1,3 +1,4 @@
+-- `carrying::put_record` meets its contract. A barrier writes nothing; a good record's sector lies in the image.
 use borrow.Author.Needs.{needs}
 use Prim.Native.Nat.{_/_}
 use mathlib.Core.Path.{_∙_}

@@ -1,3 +1,4 @@
+-- `carrying::put_records` meets its contract. The loop's invariant: the records passed are written.
 use borrow.Author.Needs.{needs}
 use Prim.Native.Nat.{_-_, _/_, _≤_}
 use mathlib.Core.Path.{_≡_, refl}

@@ -1,3 +1,4 @@
+-- `changes::create` meets its contract. The judgement refuses, or `create::create_in` gives the answer and the list.
 use mathlib.Core.Path.{sym, ap, _∙_}
 use mathlib.Core.Option.{some as just}
 use lib.ListN.{length}

@@ -1,3 +1,4 @@
+-- `changes::delete` meets its contract. The judgement refuses, or `delete::delete_in` gives the answer and the list.
 use mathlib.Core.Path.{sym, ap, _∙_}
 use mathlib.Core.Option.{some as just}
 use lib.ListN.{length}

@@ -1,3 +1,4 @@
+-- `changes::resize` meets its contract. The judgement refuses, or `write::resize_in` gives the answer and the list.
 use mathlib.Core.Path.{sym, ap, _∙_}
 use lib.ListN.{length}
 use Rattle.model.specs.declared.Verdict.{Verdict}

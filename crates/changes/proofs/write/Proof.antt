@@ -1,3 +1,4 @@
+-- `changes::write` meets its contract. The judgement refuses, or `write::write_in` gives the answer and the list.
 use mathlib.Core.Path.{sym, ap, _∙_}
 use lib.ListN.{length}
 use Rattle.model.specs.declared.Verdict.{Verdict}

@@ -1,3 +1,4 @@
+-- `commit::contents_at` meets its contract. 512 bytes copied into an array of 512 are the whole array.
 use mathlib.Core.Path.{_∙_}
 use Rattle.laws.proofs.Bytes.{length-run, put-all}
 use borrow.Author.Needs.{needs}

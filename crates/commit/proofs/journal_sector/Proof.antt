@@ -1,3 +1,4 @@
+-- `commit::journal_sector` meets its contract. The entries are those of `entries_in`: 32, or as many as are left.
 use mathlib.Core.Path.{ap₂, _∙_}
 use Prim.Native.Nat.{ℕ, _+_, _*_}
 use native.Mathlib.Omega.{arith}

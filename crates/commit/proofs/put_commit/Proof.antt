@@ -1,3 +1,4 @@
+-- `commit::put_commit` meets its contract. The parts, emitted one after the other, are the groups; none of them changes a copy.
 use Prim.Native.Nat.{_-_}
 use native.Mathlib.Omega.{arith}
 use Rattle.laws.proofs.WriteList.{emitted-then}

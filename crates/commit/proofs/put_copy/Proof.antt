@@ -1,3 +1,4 @@
+-- `commit::put_copy` meets its contract. The record is put in by `lists::put_sector`, and its number fits 64 bits.
 use mathlib.Core.Path.{refl}
 use native.Mathlib.Omega.{arith}
 use Rattle.commit.proofs.Turns.{reserve-fits}

@@ -1,3 +1,4 @@
+-- `commit::put_journal` meets its contract. The loop's invariant: the first j journal sectors are emitted.
 use mathlib.Core.Path.{_≡_, refl}
 use Prim.Native.Nat.{_+_, _-_, _/_, _≤_}
 use native.Mathlib.Nat.{add-zero}

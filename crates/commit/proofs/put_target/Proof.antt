@@ -1,3 +1,4 @@
+-- `commit::put_target` meets its contract. The record is put in by `lists::put_sector`, with the contents of the copy.
 use borrow.Author.Needs.{needs}
 use Rattle.commit.proofs.put_target.Statement.{statement}
 use Rattle.commit.proofs.put_target.Tie as tie

@@ -1,3 +1,4 @@
+-- `create::bad_argument` meets its contract. The name is bad, or the id is compared with 0.
 use borrow.Author.Needs.{needs}
 use Rattle.create.proofs.bad_argument.Statement.{statement}
 use Rattle.create.proofs.bad_argument.Tie as tie

@@ -1,3 +1,4 @@
+-- `create::create_in` meets its contract. Done, the list too short, or refused for the call's own reasons.
 use mathlib.Core.Path.{sym, ap, _∙_}
 use native.Mathlib.Omega.{arith}
 use Rattle.model.specs.declared.Verdict.{Verdict}

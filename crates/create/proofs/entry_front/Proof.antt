@@ -1,3 +1,4 @@
+-- `create::entry_front` meets its contract. The four stores are those of the definition.
 use Rattle.model.specs.Bytes.{zeroSector}
 use Rattle.create.specs.Front.{entryFront}
 use borrow.Author.Needs.{needs}

@@ -1,3 +1,4 @@
+-- `create::is_taken` meets its contract. The name is there, an entry has the id, or the id is compared with the root's.
 use Rattle.create.proofs.Laws.{root-on}
 use borrow.Author.Needs.{needs}
 use Rattle.create.proofs.is_taken.Statement.{statement}

@@ -1,3 +1,4 @@
+-- `create::new_entry` meets its contract. The stores are those of the definition, and the bytes copied are the whole name.
 use mathlib.Core.Path.{_≡_, refl}
 use lib.ListN.{length}
 use Rattle.model.specs.Bytes.{run}

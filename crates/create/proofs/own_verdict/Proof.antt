@@ -1,3 +1,4 @@
+-- `create::own_verdict` meets its contract. Refusal 8, 10 or 11 by the first condition that holds, or none.
 use mathlib.Core.Path.{sym, _∙_}
 use Rattle.model.specs.Refusals.{verdictOf}
 use Rattle.model.specs.Create.{createConditions}

@@ -1,3 +1,4 @@
+-- `create::put_create` meets its contract. The two targets are those of the plan: the root, and the lowest free entry.
 use Prim.Native.Nat.{_≤_}
 use native.Mathlib.Omega.{arith}
 use Rattle.model.specs.Create.{createPlan}

@@ -1,3 +1,4 @@
+-- `create::put_pair` meets its contract. Two copies staged one after the other, and the commit, are the groups of the plan.
 use mathlib.Core.Path.{refl}
 use mathlib.Core.List.{[], _∷_}
 use native.Mathlib.Omega.{arith}

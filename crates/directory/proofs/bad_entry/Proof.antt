@@ -1,3 +1,4 @@
+-- `directory::bad_entry` meets its contract. The name is bad, the size is compared, or the entry is free.
 use borrow.Author.Needs.{needs}
 use Rattle.directory.proofs.bad_entry.Statement.{statement}
 use Rattle.directory.proofs.bad_entry.Tie as tie

@@ -1,3 +1,4 @@
+-- `directory::bad_mark` meets its contract. The mark is 0, or it is compared with 65535.
 use borrow.Author.Needs.{needs}
 use borrow.Author.Tests.{eq-eqb, ne-eqb}
 use Rattle.model.specs.Entry.{isOccupied}

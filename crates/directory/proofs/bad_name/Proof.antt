@@ -1,3 +1,4 @@
+-- `directory::bad_name` meets its contract. The length is 1 to 476 and the bytes are searched, or it is greater, or it is 0.
 use borrow.Author.Needs.{needs}
 use borrow.Author.Tests.{le-leb, lt-leb}
 use Rattle.model.specs.Entry.{badName}

@@ -1,3 +1,4 @@
+-- `directory::bad_name_at` meets its contract. A name of up to 476 bytes ends in its sector; a longer one is bad.
 use borrow.Author.Needs.{needs}
 use mathlib.Core.Path.{_≡_, sym, ap, _∙_}
 use native.Mathlib.Omega.{arith}

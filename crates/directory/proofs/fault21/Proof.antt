@@ -1,3 +1,4 @@
+-- `directory::fault21` meets its contract. The loop's invariant: the search has passed the entries below i.
 use borrow.Author.Needs.{needs}
 use Prim.Native.Nat.{_-_}
 use mathlib.Core.Path.{sym, _∙_}

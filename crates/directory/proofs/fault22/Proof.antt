@@ -1,3 +1,4 @@
+-- `directory::fault22` meets its contract. The loop's invariant: the search for a bad entry has passed the entries below i.
 use borrow.Author.Needs.{needs}
 use Prim.Native.Nat.{_-_}
 use mathlib.Core.Path.{sym, _∙_}

@@ -1,3 +1,4 @@
+-- `directory::fields_at` meets its contract. Each field is a number in the entry's sector, the name's length too.
 use borrow.Author.Needs.{needs}
 use Rattle.model.specs.Entry.{fieldsOf, entryIn}
 use Rattle.laws.proofs.Entry.{length-nameIn}

@@ -1,3 +1,4 @@
+-- `directory::file_named` meets its contract. The loop's invariant: the search for the name has passed the entries below i.
 use borrow.Author.Needs.{needs}
 use Prim.Native.Nat.{ℕ, _-_}
 use mathlib.Core.Path.{sym, _∙_}

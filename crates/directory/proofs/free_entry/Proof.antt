@@ -1,3 +1,4 @@
+-- `directory::free_entry` meets its contract. The loop's invariant: the search for a free entry has passed the entries below i.
 use borrow.Author.Needs.{needs}
 use Prim.Native.Nat.{_-_}
 use mathlib.Core.Bool.{not}

@@ -1,3 +1,4 @@
+-- `directory::has_id` meets its contract. The loop's invariant: none of the entries passed is occupied and has the id.
 use borrow.Author.Needs.{needs}
 use Prim.Native.Nat.{ℕ, _-_, _≤_}
 use mathlib.Core.Path.{_≡_, refl, sym, _∙_}

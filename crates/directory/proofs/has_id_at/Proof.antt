@@ -1,3 +1,4 @@
+-- `directory::has_id_at` meets its contract. The entry is occupied and its id is compared, or it is free.
 use borrow.Author.Needs.{needs}
 use Rattle.directory.proofs.has_id_at.Statement.{statement}
 use Rattle.directory.proofs.has_id_at.Tie as tie

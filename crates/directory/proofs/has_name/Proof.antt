@@ -1,3 +1,4 @@
+-- `directory::has_name` meets its contract. The bytes are compared, the lengths differ, or the entry is free.
 use borrow.Author.Needs.{needs}
 use Prim.Native.Nat.{_+_, _-_, _*_}
 use mathlib.Core.Path.{_≡_, sym, _∙_}

@@ -1,3 +1,4 @@
+-- `directory::id_at` meets its contract. The id is a number in the entry's sector.
 use borrow.Author.Needs.{needs}
 use Rattle.directory.proofs.id_at.Statement.{statement}
 use Rattle.directory.proofs.id_at.Tie as tie

@@ -1,3 +1,4 @@
+-- `directory::is_occupied` meets its contract. The mark is a number in the entry's sector.
 use borrow.Author.Needs.{needs}
 use Rattle.model.specs.Entry.{isOccupied}
 use Rattle.directory.proofs.is_occupied.Statement.{statement}

@@ -1,3 +1,4 @@
+-- `directory::most_bytes` meets its contract. The product fits 64 bits, since N has two bytes and S four.
 use borrow.Author.Needs.{needs}
 use Prim.Native.Nat.{_*_}
 use native.Mathlib.Nat.{mul-le-mul}

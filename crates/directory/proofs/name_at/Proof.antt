@@ -1,3 +1,4 @@
+-- `directory::name_at` meets its contract. The name ends in its sector, and the slice is the name.
 use borrow.Author.Needs.{needs}
 use Prim.Native.Nat.{_+_, _-_, _*_, _≤_}
 use mathlib.Core.Path.{_≡_, sym, _∙_}

@@ -1,3 +1,4 @@
+-- `duplicates::bucket_of` meets its contract. A hash of 32 bits, scaled, is below the number of buckets.
 use borrow.Author.Needs.{needs}
 use native.Mathlib.Nat.{mul-le-mul}
 use native.Mathlib.Omega.{arith}

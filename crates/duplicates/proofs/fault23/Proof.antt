@@ -1,3 +1,4 @@
+-- `duplicates::fault23` meets its contract. Fault 23 is a repeated name; without fault 22 every name ends in its sector.
 use mathlib.Core.Path.{sym, _∙_}
 use Rattle.model.specs.Disk.{view}
 use Rattle.duplicates.proofs.Keys.{names-faulty, names-fit}

@@ -1,3 +1,4 @@
+-- `duplicates::fault24` meets its contract. Fault 24 is a reserved or a repeated id.
 use borrow.Author.Needs.{needs}
 use mathlib.Core.Path.{sym, _∙_}
 use Rattle.model.specs.Disk.{view}

@@ -1,3 +1,5 @@
+-- `duplicates::first_in` meets its contract. The loop's invariant: the search has passed the entries below i, and the chains are
+-- those of these entries.
 use borrow.Author.Needs.{needs}
 use Prim.Native.Nat.{_-_}
 use mathlib.Core.Path.{_≡_, refl, sym, _∙_}

@@ -1,3 +1,4 @@
+-- `duplicates::first_of_many` meets its contract. Arrays of zeros are lent.
 use borrow.Author.Needs.{needs}
 use Prim.Native.Nat.{ℕ}
 use native.Mathlib.Omega.{arith}

@@ -1,3 +1,4 @@
+-- `duplicates::is_faulty` meets its contract. The key is reserved or repeated, or the entry joins its chain, or it is free.
 use borrow.Author.Needs.{needs}
 use Prim.Native.Nat.{_+_}
 use mathlib.Core.Path.{_≡_, sym, _∙_}

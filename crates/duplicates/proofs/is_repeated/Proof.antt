@@ -1,3 +1,5 @@
+-- `duplicates::is_repeated` meets its contract. The loop's invariant: an occupied entry below i has the key exactly if one below
+-- j has it, and j is 0 or entry j - 1 stands in the bucket.
 use borrow.Author.Needs.{needs}
 use Prim.Native.Nat.{_-_}
 use mathlib.Core.Path.{sym, _∙_}

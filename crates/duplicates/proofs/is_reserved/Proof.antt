@@ -1,3 +1,4 @@
+-- `duplicates::is_reserved` meets its contract. A case for each key: no name is reserved, and the id is tested.
 use borrow.Author.Needs.{needs}
 use mathlib.Core.Path.{_≡_}
 use Rattle.duplicates.specs.declared.Key.the-variants.{Id}

@@ -1,3 +1,4 @@
+-- `duplicates::is_reserved_id` meets its contract. The id is 0, or it is compared with the root's.
 use borrow.Author.Needs.{needs}
 use borrow.Author.Tests.{eq-eqb, ne-eqb}
 use Rattle.model.specs.Root.{rootIn}

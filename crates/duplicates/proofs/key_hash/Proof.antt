@@ -1,3 +1,4 @@
+-- `duplicates::key_hash` meets its contract. A case for each key: the hash of the name, or of the id.
 use borrow.Author.Needs.{needs}
 use mathlib.Core.Path.{_≡_, ap, _∙_}
 use borrow.Author.Tests.{leb-true}

@@ -1,3 +1,4 @@
+-- `duplicates::name_hash` meets its contract. The loop's invariant: h is the hash of the first i words.
 use borrow.Author.Needs.{needs}
 use Prim.Native.Nat.{_-_, _/_, _≤_}
 use mathlib.Core.Path.{_≡_, refl, _∙_}

@@ -1,3 +1,4 @@
+-- `duplicates::shares` meets its contract. A case for each key: the name is compared, or the id.
 use borrow.Author.Needs.{needs}
 use mathlib.Core.Path.{_≡_}
 use borrow.Author.Tests.{leb-true}

@@ -1,3 +1,4 @@
+-- `fields::be` meets its contract. The loop's invariant: v is the number of the first i bytes, and below 256 ^ i.
 use mathlib.Core.Path.{_≡_, refl, ap, sym, _∙_}
 use Prim.Native.Nat.{ℕ, _+_, _-_, _*_, _^_, _≤_, _<_}
 use native.Mathlib.Omega.{arith}

@@ -1,3 +1,4 @@
+-- `fields::copy_run` meets its contract. The loop's invariant: the first i bytes are copied.
 use mathlib.Core.Path.{_≡_, refl, sym}
 use Prim.Native.Nat.{_-_, _≤_}
 use native.Mathlib.Omega.{arith}

@@ -1,3 +1,4 @@
+-- `fields::has_zero` meets its contract. The loop's invariant: none of the bytes passed is 0.
 use Rattle.laws.proofs.Search.{some-more, some-true}
 use Rattle.model.specs.Entry.{hasZero}
 use Rattle.model.specs.Search.{some}

@@ -1,3 +1,4 @@
+-- `fields::number` meets its contract. A number in sector k is a number in the image, 512 * k bytes further on.
 use mathlib.Core.Path.{_∙_, sym}
 use native.Mathlib.Omega.{arith}
 use Rattle.laws.proofs.Disk.{beAt-view}

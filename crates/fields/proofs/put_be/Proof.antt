@@ -1,3 +1,4 @@
+-- `fields::put_be` meets its contract. The loop's invariant: x stored in the first i bytes gives what the whole store gives.
 use mathlib.Core.Path.{_≡_, refl, sym, _∙_}
 use Prim.Native.Nat.{_+_, _-_, _≤_, _/_, _%_}
 use native.Mathlib.Omega.{arith}

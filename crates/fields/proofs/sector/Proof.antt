@@ -1,3 +1,4 @@
+-- `fields::sector` meets its contract. 512 bytes copied into an array of 512 are the whole array.
 use mathlib.Core.Path.{_∙_}
 use Rattle.model.specs.Disk.{view}
 use Rattle.laws.proofs.Bytes.{length-run, put-all}

@@ -1,3 +1,4 @@
+-- `fields::starts_with` meets its contract. The loop's invariant: all bytes passed are equal.
 use Rattle.laws.proofs.Search.{every-more, every-false, same-run}
 use Rattle.model.specs.Search.{every}
 use native.Mathlib.Nat.{zero-add}

@@ -1,3 +1,4 @@
+-- `format::can_format` meets its contract. In bounds the sum doesn't overflow and is compared; out of bounds the answer is no.
 use borrow.Author.Needs.{needs}
 use mathlib.Core.Path.{sym, _∙_}
 use native.Mathlib.Omega.{arith}

@@ -1,3 +1,5 @@
+-- `format::extent_sectors_for` meets its contract. The loop's invariant: s is 128 doubled so many times, and the doublings that
+-- are left give what all 24 give.
 use borrow.Author.Needs.{needs}
 use Prim.Native.Nat.{_+_, _-_, _≤_, _^_}
 use mathlib.Core.Path.{_≡_, refl, sym, _∙_}

@@ -1,3 +1,4 @@
+-- `format::format_record` meets its contract. The record, or refusal 14, 9 or 8.
 use borrow.Author.Needs.{needs}
 use mathlib.Core.Path.{refl, sym, _∙_}
 use Rattle.model.specs.Format.{Format}

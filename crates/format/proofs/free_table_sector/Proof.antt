@@ -1,3 +1,4 @@
+-- `format::free_table_sector` meets its contract. The array is the definition.
 use mathlib.Core.Path.{refl}
 use Rattle.model.specs.Bytes.{onesSector}
 use Rattle.format.proofs.free_table_sector.Statement.{statement}

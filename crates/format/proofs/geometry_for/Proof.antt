@@ -1,3 +1,4 @@
+-- `format::geometry_for` meets its contract. G and S are those of the definition, and N is their quotient.
 use borrow.Author.Needs.{needs}
 use Rattle.model.specs.Format.{geometryFor}
 use Rattle.format.proofs.geometry_for.Statement.{statement}

@@ -1,3 +1,4 @@
+-- `format::new_root` meets its contract. The four stores are those of the definition.
 use borrow.Author.Needs.{needs}
 use Rattle.model.specs.Root.{newRootSector}
 use Rattle.format.proofs.new_root.Statement.{statement}

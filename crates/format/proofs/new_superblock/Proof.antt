@@ -1,3 +1,4 @@
+-- `format::new_superblock` meets its contract. The stores are those of the definition, and the bytes copied are the whole magic.
 use borrow.Author.Needs.{needs}
 use Rattle.model.specs.Superblock.{newSuperblock, magic}
 use Rattle.laws.proofs.Bytes.{run-all}

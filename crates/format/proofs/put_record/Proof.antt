@@ -1,3 +1,4 @@
+-- `format::put_record` meets its contract. Each return is a case of the definition.
 use borrow.Author.Needs.{needs}
 use Prim.Native.Nat.{_+_}
 use mathlib.Core.Path.{_≡_}

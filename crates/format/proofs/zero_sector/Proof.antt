@@ -1,3 +1,4 @@
+-- `format::zero_sector` meets its contract. The array is the definition.
 use mathlib.Core.Path.{refl}
 use Rattle.model.specs.Bytes.{zeroSector}
 use Rattle.format.proofs.zero_sector.Statement.{statement}

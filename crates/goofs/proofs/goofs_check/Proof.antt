@@ -1,3 +1,4 @@
+-- `goofs::goofs_check` meets its contract. The numbers are those of `queries::check`.
 use mathlib.Core.Path.{ap, _∙_}
 use Rattle.goofs.specs.Numbers.{checkNumbers}
 use borrow.Author.Needs.{needs}

@@ -1,3 +1,4 @@
+-- `goofs::goofs_find` meets its contract. The numbers are those of `queries::find`.
 use mathlib.Core.Path.{ap, _∙_}
 use Rattle.goofs.specs.Numbers.{findNumbers}
 use borrow.Author.Needs.{needs}

@@ -1,3 +1,4 @@
+-- `goofs::goofs_format_record` meets its contract. The numbers and the output are those of `format::format_record`.
 use mathlib.Core.Path.{ap}
 use Rattle.goofs.specs.Numbers.{formatNumbers}
 use borrow.Author.Needs.{needs}

@@ -1,3 +1,4 @@
+-- `goofs::goofs_list` meets its contract. The numbers and the output are those of `queries::list`.
 use mathlib.Core.Path.{ap, _∙_}
 use Rattle.goofs.specs.Numbers.{listNumbers}
 use borrow.Author.Needs.{needs}

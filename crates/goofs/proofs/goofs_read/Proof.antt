@@ -1,3 +1,4 @@
+-- `goofs::goofs_read` meets its contract. The numbers and the output are those of `queries::read`.
 use mathlib.Core.Path.{ap, _∙_}
 use Rattle.goofs.specs.Numbers.{readNumbers}
 use borrow.Author.Needs.{needs}

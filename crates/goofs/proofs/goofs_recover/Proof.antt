@@ -1,3 +1,4 @@
+-- `goofs::goofs_recover` meets its contract. The numbers and the list are those of `recovery::recover`.
 use mathlib.Core.Path.{ap}
 use Rattle.goofs.specs.Numbers.{recoverNumbers}
 use borrow.Author.Needs.{needs}

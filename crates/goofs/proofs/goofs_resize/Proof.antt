@@ -1,3 +1,4 @@
+-- `goofs::goofs_resize` meets its contract. The numbers and the list are those of `changes::resize`.
 use mathlib.Core.Path.{ap, _∙_}
 use Rattle.goofs.specs.Numbers.{changeNumbers}
 use borrow.Author.Needs.{needs}

@@ -1,3 +1,4 @@
+-- `goofs::goofs_summary` meets its contract. The numbers are those of `volume::summary`.
 use mathlib.Core.Path.{ap, _∙_}
 use Rattle.goofs.specs.Numbers.{summaryNumbers}
 use borrow.Author.Needs.{needs}

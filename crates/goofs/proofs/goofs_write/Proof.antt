@@ -1,3 +1,4 @@
+-- `goofs::goofs_write` meets its contract. The numbers and the list are those of `changes::write`.
 use mathlib.Core.Path.{ap, _∙_}
 use Rattle.goofs.specs.Numbers.{changeNumbers}
 use borrow.Author.Needs.{needs}

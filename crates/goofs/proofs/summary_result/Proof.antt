@@ -1,3 +1,4 @@
+-- `goofs::summary_result` meets its contract. The state is given as its code and its entry count.
 use borrow.Author.Needs.{needs}
 use Rattle.goofs.proofs.summary_result.Statement.{statement}
 use Rattle.goofs.proofs.summary_result.Tie as tie

@@ -1,31 +1,19 @@
-use Rattle.laws.proofs.WriteList.{emit-barrier}
-use mathlib.Core.Path.{refl}
+-- `lists::put_barrier` meets its contract. A barrier is a record like any other.
+use Rattle.model.specs.Bytes.{zeroSector}
+use Rattle.model.specs.WriteList.{barrier}
 use borrow.Author.Needs.{needs}
 use Rattle.lists.proofs.put_barrier.Statement.{statement}
 use Rattle.lists.proofs.put_barrier.Tie as tie
 
-mul-at : tie.Need-mul-at
-mul-at c = search needs
-
-put-be-requires : tie.Need-put-be-requires
-put-be-requires c κs = search needs
-
-add-fill-run : tie.Need-add-fill-run
-add-fill-run c = search needs
-
-fill-run-requires : tie.Need-fill-run-requires
-fill-run-requires c κs = search needs
-
-add-result : tie.Need-add-result
-add-result c = search needs
+put-sector-requires : tie.Need-put-sector-requires
+put-sector-requires c κs = search needs
 
 same-length : tie.Need-same-length
 same-length c = search needs
 
 returns : tie.Need-returns
-returns c = record { holds = rw emit-barrier (cc); next = refl }
+unfolding barrier zeroSector
+returns c = c .before .before .put-sector .ensures
 
 pub put-barrier-spec : {M : Type 1} → statement M
-put-barrier-spec =
-    tie.close
-    (tie.spec mul-at put-be-requires add-fill-run fill-run-requires add-result same-length returns)
+put-barrier-spec = tie.close (tie.spec put-sector-requires same-length returns)

@@ -1,3 +1,4 @@
+-- `lists::put_closed` meets its contract. The sector's record and the barrier are emitted one after the other.
 use Rattle.laws.proofs.WriteList.{emitted-then}
 use borrow.Author.Needs.{needs}
 use Rattle.lists.proofs.put_closed.Statement.{statement}

@@ -1,3 +1,4 @@
+-- `lists::put_from` meets its contract. The stores of the number and of the contents are the bytes of the record.
 use mathlib.Core.Path.{refl}
 use Rattle.model.specs.Bytes.{run}
 use Rattle.laws.proofs.Bytes.{run-all, length-run}

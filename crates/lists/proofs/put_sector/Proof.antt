@@ -1,3 +1,4 @@
+-- `lists::put_sector` meets its contract. 512 bytes from the front of an array of 512 are the whole array.
 use mathlib.Core.Path.{_≡_}
 use lib.ListN.{length}
 use Rattle.laws.proofs.Bytes.{run-all}

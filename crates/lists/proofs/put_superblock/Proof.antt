@@ -1,3 +1,4 @@
+-- `lists::put_superblock` meets its contract. The group is the superblock with the new journal length.
 use borrow.Author.Needs.{needs}
 use Rattle.lists.proofs.put_superblock.Statement.{statement}
 use Rattle.lists.proofs.put_superblock.Tie as tie

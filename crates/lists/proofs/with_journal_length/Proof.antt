@@ -1,3 +1,4 @@
+-- `lists::with_journal_length` meets its contract. The store is that of the definition.
 use Rattle.model.specs.Superblock.{withJournalLength}
 use borrow.Author.Needs.{needs}
 use Rattle.lists.proofs.with_journal_length.Statement.{statement}

@@ -1,3 +1,4 @@
+-- `queries::check` meets its contract. The verdict is the judgement's.
 use Rattle.model.specs.Summary.{checkAnswer}
 use borrow.Author.Needs.{needs}
 use Rattle.queries.proofs.check.Statement.{statement}

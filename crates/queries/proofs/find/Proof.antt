@@ -1,3 +1,4 @@
+-- `queries::find` meets its contract. The judgement refuses, or `reading::find_in` gives the answer.
 use mathlib.Core.Path.{sym, ap, _∙_}
 use borrow.Author.Tests.{eq-eqb, ne-eqb}
 use Rattle.model.specs.declared.Verdict.{Verdict}

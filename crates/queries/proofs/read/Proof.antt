@@ -1,3 +1,4 @@
+-- `queries::read` meets its contract. The judgement refuses, or `reading::read_in` gives the answer and the output.
 use mathlib.Core.Path.{sym, ap, _∙_}
 use borrow.Author.Tests.{eq-eqb, ne-eqb}
 use Rattle.model.specs.declared.Verdict.{Verdict}

@@ -1,3 +1,4 @@
+-- `reading::copy_name` meets its contract. The name is a run of bytes of the image.
 use Rattle.model.specs.Geometry.{entryAt}
 use Rattle.laws.proofs.Named.{name-copied}
 use borrow.Author.Needs.{needs}

@@ -1,3 +1,4 @@
+-- `reading::find_in` meets its contract. The name is bad, the file is found, or no file has the name.
 use mathlib.Core.Path.{sym, ap, _∙_}
 use native.Mathlib.Omega.{arith}
 use Rattle.model.specs.declared.Geometry.{Geometry}

@@ -1,3 +1,4 @@
+-- `reading::list_in` meets its contract. Listed, or the output is too short, the entry is free, or the index is F or more.
 use Prim.Native.Nat.{_<_}
 use mathlib.Core.Path.{sym, ap, _∙_}
 use lib.ListN.{length}

@@ -1,3 +1,4 @@
+-- `reading::not_found` meets its contract. The fields are those of `no_fields`.
 use borrow.Author.Needs.{needs}
 use Rattle.reading.proofs.not_found.Statement.{statement}
 use Rattle.reading.proofs.not_found.Tie as tie

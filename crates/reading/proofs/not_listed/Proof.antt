@@ -1,3 +1,4 @@
+-- `reading::not_listed` meets its contract. The fields are those of `no_fields`.
 use borrow.Author.Needs.{needs}
 use Rattle.reading.proofs.not_listed.Statement.{statement}
 use Rattle.reading.proofs.not_listed.Tie as tie

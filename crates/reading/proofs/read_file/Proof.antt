@@ -1,3 +1,4 @@
+-- `reading::read_file` meets its contract. The offset is greater than the size, the bytes are read, or the output is too short.
 use mathlib.Core.Path.{sym}
 use borrow.Author.Tests.{lt-ltb, le-ltb}
 use Rattle.model.specs.Search.{tab}

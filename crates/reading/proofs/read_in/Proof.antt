@@ -1,3 +1,4 @@
+-- `reading::read_in` meets its contract. The name is bad, too many bytes are asked, the file is read, or no file has the name.
 use mathlib.Core.Path.{_≡_, sym, ap, _∙_}
 use native.Mathlib.Omega.{arith}
 use lib.ListN.{length}

@@ -1,3 +1,4 @@
+-- `soundness::fault_verdict` meets its contract. A sound volume isn't refused; a fault gives 7 with its number and place.
 use borrow.Author.Needs.{needs}
 use Rattle.soundness.proofs.fault_verdict.Statement.{statement}
 use Rattle.soundness.proofs.fault_verdict.Tie as tie

@@ -1,3 +1,4 @@
+-- `soundness::judge` meets its contract. The image is refused, or `sound_verdict` gives the verdict.
 use mathlib.Core.Path.{sym, ap, _∙_}
 use borrow.Author.Tests.{eq-eqb, ne-eqb}
 use Rattle.model.specs.declared.Verdict.{Verdict}

@@ -1,3 +1,4 @@
+-- `soundness::sound_verdict` meets its contract. The state is refused, or the first fault gives the verdict.
 use native.Mathlib.Omega.{arith}
 use borrow.Author.Tests.{eq-eqb, ne-eqb}
 use Rattle.model.specs.Refusals.{soundVerdict}

@@ -1,3 +1,4 @@
+-- `spans::put_data` meets its contract. By induction on n: the sectors in one extent, and then the rest, are the whole span.
 use mathlib.Core.Path.{_≡_, refl}
 use native.Mathlib.Omega.{arith}
 use native.Mathlib.Nat.{mod-lt}

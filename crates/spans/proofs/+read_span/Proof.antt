@@ -1,3 +1,4 @@
+-- `spans::read_span` meets its contract. By induction on n: the bytes in one extent, and then the rest, are the whole span.
 use mathlib.Core.Path.{_≡_, sym}
 use native.Mathlib.Omega.{arith}
 use Rattle.model.specs.Search.{tab}

@@ -1,3 +1,4 @@
+-- `spans::extent_for` meets its contract. The file has an extent of that offset, or the next is taken.
 use borrow.Author.Tests.{lt-ltb, le-ltb}
 use borrow.Author.Needs.{needs}
 use Rattle.spans.proofs.extent_for.Statement.{statement}

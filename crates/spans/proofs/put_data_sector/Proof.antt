@@ -1,3 +1,4 @@
+-- `spans::put_data_sector` meets its contract. The span covers the sector, or is spliced into its old bytes.
 use Rattle.model.specs.Disk.{view}
 use Rattle.laws.proofs.Disk.{length-view}
 use Rattle.spans.proofs.Splices.{splice-part, splice-whole}

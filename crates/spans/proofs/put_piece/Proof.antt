@@ -1,3 +1,4 @@
+-- `spans::put_piece` meets its contract. The loop's invariant: the first j sectors are emitted.
 use Prim.Native.Nat.{ℕ, _+_, _-_, _≤_}
 use mathlib.Core.Path.{_≡_, refl}
 use mathlib.Core.List.{List}

@@ -1,3 +1,4 @@
+-- `spans::read_piece` meets its contract. What of a span lies in one extent is a run of bytes of the image.
 use Prim.Native.Nat.{_+_, _/_, _%_, _≤_}
 use native.Mathlib.Omega.{arith}
 use Rattle.model.specs.Geometry.{extentBytes}

@@ -1,3 +1,4 @@
+-- `superblock::print_areas` meets its contract. The test of the bounds gives what `reserve_extents` requires.
 use mathlib.Core.Path.{sym, _∙_}
 use native.Mathlib.Omega.{arith}
 use Rattle.model.proofs.Areas.{bounds}

@@ -1,3 +1,4 @@
+-- `superblock::print_geometry` meets its contract. The test of the bounds gives what `table_sectors` requires.
 use mathlib.Core.Path.{sym, _∙_}
 use native.Mathlib.Omega.{arith}
 use Rattle.model.proofs.Areas.{bounds}

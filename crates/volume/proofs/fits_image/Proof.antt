@@ -1,3 +1,4 @@
+-- `volume::fits_image` meets its contract. In bounds the volume's length is compared; out of bounds it doesn't fit.
 use Rattle.model.proofs.Areas.{bounds}
 use Rattle.model.specs.Refusals.{fitsImage}
 use native.Mathlib.Omega.{arith}

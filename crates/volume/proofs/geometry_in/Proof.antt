@@ -1,3 +1,4 @@
+-- `volume::geometry_in` meets its contract. The three numbers are fields of the superblock.
 use Rattle.model.specs.Superblock.{geometryIn}
 use borrow.Author.Needs.{needs}
 use Rattle.volume.proofs.geometry_in.Statement.{statement}

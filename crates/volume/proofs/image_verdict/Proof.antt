@@ -1,3 +1,4 @@
+-- `volume::image_verdict` meets its contract. Refusal 1, 2 or 3 by the first condition that holds, or none.
 use mathlib.Core.Path.{sym, _∙_}
 use Rattle.model.specs.Refusals.{verdictOf, imageVerdict}
 use Rattle.laws.proofs.Refusals.{whole-true}

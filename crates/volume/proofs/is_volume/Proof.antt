@@ -1,3 +1,4 @@
+-- `volume::is_volume` meets its contract. The magic is wrong, or the version is compared.
 use Rattle.laws.proofs.Disk.{run-view}
 use Rattle.laws.proofs.Bytes.{run-part}
 use Rattle.model.specs.Search.{same}

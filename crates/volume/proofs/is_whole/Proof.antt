@@ -1,3 +1,4 @@
+-- `volume::is_whole` meets its contract. The length is not 0 and its remainder is compared, or it is 0.
 use Rattle.model.specs.Refusals.{isWhole}
 use borrow.Author.Tests.{lt-ltb, le-ltb}
 use Rattle.volume.proofs.is_whole.Statement.{statement}

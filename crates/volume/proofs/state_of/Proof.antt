@@ -1,3 +1,4 @@
+-- `volume::state_of` meets its contract. A case for each state.
 use Rattle.model.specs.Superblock.{stateOf}
 use borrow.Author.Tests.{eq-eqb, ne-eqb, le-leb, lt-leb}
 use Rattle.volume.proofs.state_of.Statement.{statement}

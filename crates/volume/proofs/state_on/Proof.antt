@@ -1,3 +1,4 @@
+-- `volume::state_on` meets its contract. The state is that of the journal length in the superblock.
 use Rattle.model.specs.Superblock.{journalLength}
 use borrow.Author.Needs.{needs}
 use Rattle.volume.proofs.state_on.Statement.{statement}

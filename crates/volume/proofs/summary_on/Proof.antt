@@ -1,3 +1,4 @@
+-- `volume::summary_on` meets its contract. Geometry and state are those of the superblock.
 use borrow.Author.Needs.{needs}
 use Rattle.volume.proofs.summary_on.Statement.{statement}
 use Rattle.volume.proofs.summary_on.Tie as tie

@@ -1,3 +1,4 @@
+-- `volume::superblock_summary` meets its contract. The sector is refused, or `summary_on` gives the answer.
 use mathlib.Core.Path.{sym, ap, _∙_}
 use borrow.Author.Tests.{eq-eqb, ne-eqb}
 use Rattle.model.specs.declared.Verdict.{Verdict}

@@ -1,3 +1,4 @@
+-- `volume::superblock_verdict` meets its contract. Refusal 1, 2 or 3 by the first condition that holds, or none.
 use borrow.Author.Tests.{lt-ltb, le-ltb}
 use Rattle.model.specs.Refusals.{verdictOf}
 use Rattle.model.specs.Summary.{superblockVerdict}

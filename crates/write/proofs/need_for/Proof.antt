@@ -1,3 +1,4 @@
+-- `write::need_for` meets its contract. A usable extent is free, or none is.
 use mathlib.Core.Path.{sym, ap, ap₂, _∙_}
 use native.Mathlib.Omega.{arith}
 use lib.Dec.{ltb}

@@ -1,3 +1,4 @@
+-- `write::put_if_room` meets its contract. There are no bytes, the list is too short, or the records are put in.
 use Rattle.write.proofs.Laws.{room-none, room-short, room-count, room-done}
 use native.Mathlib.Omega.{arith}
 use borrow.Author.Needs.{needs}

@@ -1,3 +1,4 @@
+-- `write::put_write` meets its contract. An extent is taken and there are two targets, or none is and the entry is the only one.
 use Rattle.write.proofs.Lists.{written-more, written-kept}
 use lib.ListN.{replicate}
 use mathlib.Core.Path.{sym, _∙_}

@@ -1,3 +1,4 @@
+-- `write::records` meets its contract. Two targets where an extent is taken, one where none is.
 use native.Mathlib.Omega.{arith}
 use borrow.Author.Needs.{needs}
 use Rattle.write.proofs.records.Statement.{statement}

@@ -1,3 +1,4 @@
+-- `write::resize_file` meets its contract. The file shrinks, or it grows by too much, or zeros are written at its end.
 use Rattle.write.proofs.Resizes.{size-shrinks, size-far, size-grows}
 use native.Mathlib.Omega.{arith}
 use borrow.Author.Needs.{needs}

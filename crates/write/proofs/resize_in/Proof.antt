@@ -1,3 +1,4 @@
+-- `write::resize_in` meets its contract. The name is bad, the file is resized, or no file has the name.
 use Rattle.write.proofs.Resizes.{resize-bad-name, resize-missing, resize-found}
 use Rattle.write.proofs.Laws.{file-below, asked}
 use Rattle.laws.proofs.Named.{short-name}

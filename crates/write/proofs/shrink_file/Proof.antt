@@ -1,3 +1,4 @@
+-- `write::shrink_file` meets its contract. The list is too short, or the records are put in.
 use Rattle.write.proofs.Resizes.{shrink-short, shrink-count, shrink-done}
 use native.Mathlib.Omega.{arith}
 use borrow.Author.Needs.{needs}

@@ -1,3 +1,4 @@
+-- `write::taken_sector` meets its contract. The two stores are one store of four bytes.
 use Rattle.model.specs.Table.{takenIn}
 use Rattle.laws.proofs.Bytes.{put-append, length-beBytes}
 use borrow.Author.Needs.{needs}

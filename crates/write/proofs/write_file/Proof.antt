@@ -1,3 +1,5 @@
+-- `write::write_file` meets its contract. The offset is too great; or an extent is needed, and one is free or none is; or no
+-- extent is needed.
 use Rattle.model.specs.Write.{grows}
 use Rattle.model.specs.Catalogue.{catalogueOf}
 use Rattle.model.specs.Disk.{view}

@@ -1,3 +1,4 @@
+-- `write::write_in` meets its contract. The name is bad, the bytes are too many, the file is written, or no file has the name.
 use Rattle.write.proofs.Laws.{file-below, asked, write-bad-name, write-long, write-missing, write-found}
 use Rattle.laws.proofs.Named.{short-name}
 use Rattle.laws.proofs.Judged.{judged-image, judged-opened}

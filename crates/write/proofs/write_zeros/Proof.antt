@@ -1,3 +1,4 @@
+-- `write::write_zeros` meets its contract. The front of an array of zeros is that many zeros.
 use lib.ListN.{take, replicate}
 use Rattle.write.proofs.Resizes.{zeros-length, zeros-part, zeros-asked, zeros-decided}
 use mathlib.Core.Path.{sym}

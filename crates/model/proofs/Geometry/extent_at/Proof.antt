@@ -1,3 +1,4 @@
+-- `model::Geometry::extent_at` meets its contract. The product fits 48 bits, so neither it nor the sum overflows.
 use Rattle.model.proofs.Areas.{product}
 use native.Mathlib.Omega.{arith}
 use borrow.Author.Needs.{needs}

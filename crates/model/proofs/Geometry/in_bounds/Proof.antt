@@ -1,3 +1,4 @@
+-- `model::Geometry::in_bounds` meets its contract. Each return is a bound that is broken, or the test of the last bound.
 use Rattle.model.specs.Geometry.{inBounds}
 use borrow.Author.Tests.{le-leb, lt-leb}
 use Rattle.model.proofs.Geometry.in_bounds.Statement.{statement}

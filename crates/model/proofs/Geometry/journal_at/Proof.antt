@@ -1,3 +1,4 @@
+-- `model::Geometry::journal_at` meets its contract.
 use borrow.Author.Needs.{needs}
 use Rattle.model.proofs.Geometry.journal_at.Statement.{statement}
 use Rattle.model.proofs.Geometry.journal_at.Tie as tie

@@ -1,3 +1,4 @@
+-- `model::Geometry::reserve_at` meets its contract. The reserve starts with the extent behind the usable ones.
 use borrow.Author.Needs.{needs}
 use Rattle.model.proofs.Geometry.reserve_at.Statement.{statement}
 use Rattle.model.proofs.Geometry.reserve_at.Tie as tie

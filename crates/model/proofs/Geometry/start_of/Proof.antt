@@ -1,3 +1,4 @@
+-- `model::Geometry::start_of` meets its contract. A case for each area.
 use borrow.Author.Needs.{needs}
 use Rattle.model.proofs.Geometry.start_of.Statement.{statement}
 use Rattle.model.proofs.Geometry.start_of.Tie as tie

@@ -1,3 +1,4 @@
+-- `model::Geometry::usable` meets its contract. The reserve has fewer than N extents, so the difference doesn't underflow.
 use Rattle.model.proofs.Areas.{reserve-small}
 use native.Mathlib.Omega.{arith}
 use borrow.Author.Needs.{needs}

@@ -1,3 +1,4 @@
+-- `model::Summary::start_of` meets its contract. In bounds the geometry gives the sector; out of bounds the answer is 3.
 use mathlib.Core.Path.{sym, _∙_}
 use native.Mathlib.Omega.{arith}
 use Rattle.model.proofs.Areas.{bounds}

@@ -1,0 +1,302 @@
+/* A detector's calibration on a GooFS card: how a C program uses libgoofs.a.
+ *
+ *     detector --format SECTORS IMAGE   makes the image file IMAGE with an empty volume
+ *     detector IMAGE                    prints the calibration
+ *     detector IMAGE TEXT               saves TEXT as the calibration, reads it back and prints it
+ *
+ * Each start first finishes a change that was cut. The calls take some hundred KiB of stack (include/goofs.h says how much); a
+ * thread with a small stack must be given more before it makes one.
+ *
+ *     cc -std=c99 -Iinclude examples/detector.c target/staticlib/libgoofs.a -o detector
+ */
+#define _POSIX_C_SOURCE 200809L /* pread, pwrite, fdatasync */
+#define _FILE_OFFSET_BITS 64    /* an image may be longer than 2 GiB */
+
+#include <errno.h>
+#include <fcntl.h>
+#include <inttypes.h>
+#include <limits.h>
+#include <stdio.h>
+#include <stdlib.h>
+#include <string.h>
+#include <sys/types.h>
+#include <time.h>
+#include <unistd.h>
+
+#include "goofs.h"
+
+/* The calibration fills exactly one sector, padded with zeros, and never has another size. A write's data sectors go to their
+ * places before the start mark, so after a cut a longer file may be new in one sector and old in the next, and one that was to grow
+ * may have new bytes and its old size. A single sector of a fixed size is old or new. */
+enum { CALIBRATION_SIZE = GOOFS_SECTOR };
+
+static const uint8_t name[] = "calibration";
+enum { NAME_LENGTH = sizeof name - 1 };
+
+enum { FILES = 255, ROOT_ID = 1, MODE = 0644 };
+enum { WAITING = 1 }; /* a state of the summary */
+
+/* The refusals of document 01 by their numbers. */
+static const char *const refusals[] = {
+    "done",
+    "the image is empty or not whole sectors",
+    "this is no GooFS volume, or one of another version",
+    "the geometry is out of bounds, or the volume is longer than the image",
+    "a format was cut: format again",
+    "a change was cut: recover first",
+    "the volume is damaged, or its journal is",
+    "the volume is not sound",
+    "bad argument",
+    "no such file",
+    "the name or the id is taken",
+    "no free directory entry",
+    "the offset is greater than the size",
+    "no free extent",
+    "the list or output buffer is too short",
+};
+
+/* One list at a time is asked for, so one place serves all of them, and it is as long as the longest. It is static, as half a
+ * megabyte is much for a stack. It is no part of the image: the slices of one call must not overlap. */
+static union {
+    uint8_t create[GOOFS_CREATE_LIST];
+    uint8_t write[GOOFS_WRITE_LIST];
+    uint8_t recover[GOOFS_RECOVER_LIST];
+} list;
+
+/* The image file, and all its bytes in memory: the calls read the image there. No other program may change the file meanwhile,
+ * as a list fits only the image that it was asked for. */
+struct card {
+    int file;
+    uint8_t *image;
+    size_t length;
+};
+
+static void system_failure(const char *what)
+{
+    fprintf(stderr, "detector: %s: %s\n", what, strerror(errno));
+    exit(1);
+}
+
+static void failure(const char *what)
+{
+    fprintf(stderr, "detector: %s\n", what);
+    exit(1);
+}
+
+/* Goes on after code 0 only. A refusal has changed nothing, so there is nothing to take back. */
+static void done(const char *what, uint64_t code)
+{
+    if (code == 0)
+        return;
+    fprintf(stderr, "detector: %s: refused (%" PRIu64 "): %s\n", what, code,
+            code < sizeof refusals / sizeof *refusals ? refusals[code] : "unknown number");
+    exit(1);
+}
+
+/* Does one record on the file: a sector's contents, or a barrier. */
+static void land(const struct card *card, const uint8_t *record)
+{
+    const uint8_t *contents = record + 8;
+    uint64_t sector = 0;
+    size_t written = 0;
+    int i;
+
+    for (i = 0; i < 8; i++)
+        sector = sector << 8 | record[i];
+    if (sector == GOOFS_BARRIER) {
+        /* The system may keep writes back and change their order. What stands behind a barrier relies on all before it: the start
+         * mark on the copies and the journal, the targets on the start mark, the end mark on the targets. So wait here until
+         * the medium has everything. If that fails nothing more may be written; the next start recovers. */
+        if (fdatasync(card->file) != 0)
+            system_failure("barrier");
+        return;
+    }
+    while (written < GOOFS_SECTOR) {
+        ssize_t count = pwrite(card->file, contents + written, GOOFS_SECTOR - written, (off_t)(sector * GOOFS_SECTOR + written));
+        if (count < 0 && errno != EINTR)
+            system_failure("write");
+        if (count > 0)
+            written += (size_t)count;
+    }
+}
+
+/* Does a list on the file, record by record, and then on the image in memory, so that the next call sees the change. */
+static void carry_out(struct card *card, const uint8_t *records, uint64_t length)
+{
+    uint64_t at;
+
+    for (at = 0; at < length; at += GOOFS_RECORD)
+        land(card, records + at);
+    done("carry out", goofs_carry_out(card->image, card->length, records, (size_t)length));
+}
+
+/* Reads the whole image file. */
+static void load(struct card *card)
+{
+    off_t length = lseek(card->file, 0, SEEK_END); /* a block device has its length only here */
+    size_t at = 0;
+
+    if (length < 0)
+        system_failure("length");
+    if ((uintmax_t)length > SIZE_MAX)
+        failure("the image is longer than the memory can be");
+    free(card->image);
+    card->length = (size_t)length;
+    card->image = malloc(card->length != 0 ? card->length : 1);
+    if (card->image == NULL)
+        failure("no memory for the image");
+    while (at < card->length) {
+        ssize_t count = pread(card->file, card->image + at, card->length - at, (off_t)at);
+        if (count == 0)
+            failure("the image became shorter");
+        if (count < 0 && errno != EINTR)
+            system_failure("read");
+        if (count > 0)
+            at += (size_t)count;
+    }
+}
+
+/* Makes the image file and lands the format's records, which are asked for one at a time and need no list. A cut leaves an unfinished
+ * volume, which every call but the summary refuses with 4. */
+static void format(const char *path, uint64_t sectors)
+{
+    struct card card = {-1, NULL, 0};
+    uint32_t now = (uint32_t)time(NULL);
+    uint8_t record[GOOFS_RECORD];
+    goofs_length_result answer;
+    uint64_t position = 0;
+
+    /* The first record is asked for before the file is made, so that a refusal leaves no file behind. */
+    answer = goofs_format_record(sectors, FILES, ROOT_ID, MODE, now, position, record, sizeof record);
+    done("format", answer.code);
+    if (sectors > LONG_MAX / GOOFS_SECTOR)
+        failure("so long a file cannot be made here");
+    /* O_EXCL: a format over an existing file would take what it holds. */
+    card.file = open(path, O_RDWR | O_CREAT | O_EXCL, 0666);
+    if (card.file < 0)
+        system_failure(path);
+    if (ftruncate(card.file, (off_t)(sectors * GOOFS_SECTOR)) != 0)
+        system_failure(path);
+    while (answer.code == 0) {
+        land(&card, record);
+        position++;
+        answer = goofs_format_record(sectors, FILES, ROOT_ID, MODE, now, position, record, sizeof record);
+    }
+    if (answer.code != 9) /* 9: past the last record, so all have landed */
+        done("format", answer.code);
+    if (close(card.file) != 0)
+        system_failure(path);
+}
+
+/* What a detector does first when it is switched on: finish a change that was cut, then see whether the volume is sound. */
+static void start(struct card *card)
+{
+    goofs_summary_result summary = goofs_summary(card->image, card->length);
+    goofs_check_result check;
+
+    done("summary", summary.code);
+    if (summary.state == WAITING) {
+        /* If the power goes here too, the volume still waits, and the next start asks again. */
+        goofs_length_result answer = goofs_recover(card->image, card->length, list.recover, sizeof list.recover);
+        done("recover", answer.code);
+        carry_out(card, list.recover, answer.length);
+        fprintf(stderr, "detector: finished a change that was cut, of %" PRIu64 " sectors\n", summary.entries);
+    }
+    check = goofs_check(card->image, card->length);
+    if (check.code == 7)
+        fprintf(stderr, "detector: fault %" PRIu64 " at %s %" PRIu64 "\n", check.fault, check.fault == 25 ? "extent" : "file",
+                check.place);
+    done("check", check.code);
+}
+
+/* The saved calibration's size: 0 also if there is none. */
+static uint64_t saved_size(const struct card *card)
+{
+    goofs_find_result found = goofs_find(card->image, card->length, name, NAME_LENGTH);
+
+    if (found.code == 9)
+        return 0;
+    done("find", found.code);
+    if (found.size != 0 && found.size != CALIBRATION_SIZE)
+        failure("the file 'calibration' has another size, so it was not saved by this program");
+    return found.size;
+}
+
+static void save(struct card *card, const char *text)
+{
+    uint32_t now = (uint32_t)time(NULL);
+    uint8_t calibration[CALIBRATION_SIZE] = {0};
+    goofs_change_result answer;
+
+    if (strlen(text) >= sizeof calibration) /* one zero byte is left, so that it can be printed */
+        failure("the text is too long");
+    memcpy(calibration, text, strlen(text));
+    saved_size(card); /* ends the program if the file has another size */
+
+    if (goofs_find(card->image, card->length, name, NAME_LENGTH).code == 9) {
+        /* The name is not there, so 10 means here that the id is taken. Only the root and the files have ids: one of the first
+         * FILES + 2 numbers is free. */
+        uint64_t id = 0;
+        do {
+            id++;
+            answer = goofs_create(card->image, card->length, name, NAME_LENGTH, id, MODE, now, list.create, sizeof list.create);
+        } while (answer.code == 10);
+        done("create", answer.code);
+        carry_out(card, list.create, answer.length);
+    }
+    /* If the power goes between the two changes, the file is there and empty. */
+    answer = goofs_write(card->image, card->length, name, NAME_LENGTH, 0, calibration, sizeof calibration, now, list.write,
+                         sizeof list.write);
+    done("write", answer.code);
+    carry_out(card, list.write, answer.length);
+}
+
+static void print(const struct card *card)
+{
+    uint8_t calibration[CALIBRATION_SIZE];
+    goofs_read_result answer;
+
+    if (saved_size(card) == 0) {
+        puts("no calibration");
+        return;
+    }
+    answer = goofs_read(card->image, card->length, name, NAME_LENGTH, 0, sizeof calibration, calibration, sizeof calibration);
+    done("read", answer.code);
+    /* Another program may have saved a sector without a zero in it. */
+    printf("%.*s\n", (int)answer.count, (const char *)calibration);
+}
+
+int main(int argc, char **argv)
+{
+    struct card card = {-1, NULL, 0};
+
+    if (argc == 4 && strcmp(argv[1], "--format") == 0) {
+        char *end;
+        unsigned long long sectors;
+
+        errno = 0;
+        sectors = strtoull(argv[2], &end, 10);
+        if (errno != 0 || *end != '\0' || argv[2][0] < '0' || argv[2][0] > '9')
+            failure("SECTORS is a number");
+        format(argv[3], sectors);
+        return 0;
+    }
+    if (argc < 2 || argc > 3 || argv[1][0] == '-') {
+        fputs("usage: detector --format SECTORS IMAGE\n       detector IMAGE [TEXT]\n", stderr);
+        return 2;
+    }
+    card.file = open(argv[1], O_RDWR);
+    if (card.file < 0)
+        system_failure(argv[1]);
+    load(&card);
+    start(&card);
+    if (argc == 3) {
+        save(&card, argv[2]);
+        load(&card); /* so that what is printed is what stands in the file */
+    }
+    print(&card);
+    free(card.image);
+    if (close(card.file) != 0)
+        system_failure(argv[1]);
+    return 0;
+}

@@ -15,7 +15,6 @@
 #include <errno.h>
 #include <fcntl.h>
 #include <inttypes.h>
-#include <limits.h>
 #include <stdio.h>
 #include <stdlib.h>
 #include <string.h>
@@ -36,13 +35,13 @@ enum { NAME_LENGTH = sizeof name - 1 };
 enum { FILES = 255, ROOT_ID = 1, MODE = 0644 };
 enum { WAITING = 1 }; /* a state of the summary */
 
-/* The refusals of document 01 by their numbers. */
+/* The fourteen refusals, by their numbers. */
 static const char *const refusals[] = {
     "done",
     "the image is empty or not whole sectors",
     "this is no GooFS volume, or one of another version",
     "the geometry is out of bounds, or the volume is longer than the image",
-    "a format was cut: format again",
+    "a format was cut: remove the image and format again",
     "a change was cut: recover first",
     "the volume is damaged, or its journal is",
     "the volume is not sound",
@@ -113,10 +112,10 @@ static void land(const struct card *card, const uint8_t *record)
     }
     while (written < GOOFS_SECTOR) {
         ssize_t count = pwrite(card->file, contents + written, GOOFS_SECTOR - written, (off_t)(sector * GOOFS_SECTOR + written));
-        if (count < 0 && errno != EINTR)
-            system_failure("write");
         if (count > 0)
             written += (size_t)count;
+        else if (count == 0 || errno != EINTR)
+            system_failure("write");
     }
 }
 
@@ -133,9 +132,14 @@ static void carry_out(struct card *card, const uint8_t *records, uint64_t length
 /* Reads the whole image file. */
 static void load(struct card *card)
 {
-    off_t length = lseek(card->file, 0, SEEK_END); /* a block device has its length only here */
+    off_t length;
     size_t at = 0;
 
+    /* A program that was ended in the middle of a list may have left writes that the system has not yet brought to the medium. They
+     * are read all the same, and the next list builds on what is read: so a barrier comes first. */
+    if (fdatasync(card->file) != 0)
+        system_failure("barrier");
+    length = lseek(card->file, 0, SEEK_END); /* a block device tells its length only so */
     if (length < 0)
         system_failure("length");
     if ((uintmax_t)length > SIZE_MAX)
@@ -147,42 +151,38 @@ static void load(struct card *card)
         failure("no memory for the image");
     while (at < card->length) {
         ssize_t count = pread(card->file, card->image + at, card->length - at, (off_t)at);
-        if (count == 0)
-            failure("the image became shorter");
-        if (count < 0 && errno != EINTR)
-            system_failure("read");
         if (count > 0)
             at += (size_t)count;
+        else if (count == 0)
+            failure("the image became shorter");
+        else if (errno != EINTR)
+            system_failure("read");
     }
 }
 
-/* Makes the image file and lands the format's records, which are asked for one at a time and need no list. A cut leaves an unfinished
- * volume, which every call but the summary refuses with 4. */
+/* Makes the image file and lands the format's records. They are asked for one at a time, so a format needs no list. A cut leaves
+ * a file that each start refuses, with 2 or 4. */
 static void format(const char *path, uint64_t sectors)
 {
     struct card card = {-1, NULL, 0};
     uint32_t now = (uint32_t)time(NULL);
     uint8_t record[GOOFS_RECORD];
-    goofs_length_result answer;
     uint64_t position = 0;
+    goofs_length_result answer;
 
     /* The first record is asked for before the file is made, so that a refusal leaves no file behind. */
     answer = goofs_format_record(sectors, FILES, ROOT_ID, MODE, now, position, record, sizeof record);
     done("format", answer.code);
-    if (sectors > LONG_MAX / GOOFS_SECTOR)
-        failure("so long a file cannot be made here");
-    /* O_EXCL: a format over an existing file would take what it holds. */
+    /* O_EXCL: a format over a file that is there would destroy what it holds. */
     card.file = open(path, O_RDWR | O_CREAT | O_EXCL, 0666);
-    if (card.file < 0)
-        system_failure(path);
-    if (ftruncate(card.file, (off_t)(sectors * GOOFS_SECTOR)) != 0)
+    if (card.file < 0 || ftruncate(card.file, (off_t)(sectors * GOOFS_SECTOR)) != 0)
         system_failure(path);
     while (answer.code == 0) {
         land(&card, record);
         position++;
         answer = goofs_format_record(sectors, FILES, ROOT_ID, MODE, now, position, record, sizeof record);
     }
-    if (answer.code != 9) /* 9: past the last record, so all have landed */
+    if (answer.code != 9) /* 9: past the last record, so all of them have landed */
         done("format", answer.code);
     if (close(card.file) != 0)
         system_failure(path);
@@ -209,17 +209,16 @@ static void start(struct card *card)
     done("check", check.code);
 }
 
-/* The saved calibration's size: 0 also if there is none. */
-static uint64_t saved_size(const struct card *card)
+/* The calibration's entry. Without one the code is 9 and the size, like all other numbers of a refusal, 0. */
+static goofs_find_result find(const struct card *card)
 {
     goofs_find_result found = goofs_find(card->image, card->length, name, NAME_LENGTH);
 
-    if (found.code == 9)
-        return 0;
-    done("find", found.code);
+    if (found.code != 9)
+        done("find", found.code);
     if (found.size != 0 && found.size != CALIBRATION_SIZE)
-        failure("the file 'calibration' has another size, so it was not saved by this program");
-    return found.size;
+        failure("the file 'calibration' has another size, so this program did not save it");
+    return found;
 }
 
 static void save(struct card *card, const char *text)
@@ -228,14 +227,12 @@ static void save(struct card *card, const char *text)
     uint8_t calibration[CALIBRATION_SIZE] = {0};
     goofs_change_result answer;
 
-    if (strlen(text) >= sizeof calibration) /* one zero byte is left, so that it can be printed */
+    if (strlen(text) > sizeof calibration)
         failure("the text is too long");
     memcpy(calibration, text, strlen(text));
-    saved_size(card); /* ends the program if the file has another size */
-
-    if (goofs_find(card->image, card->length, name, NAME_LENGTH).code == 9) {
-        /* The name is not there, so 10 means here that the id is taken. Only the root and the files have ids: one of the first
-         * FILES + 2 numbers is free. */
+    if (find(card).code == 9) {
+        /* The name is not there, so here 10 means that the id is taken. Only the root and the files have ids, and a refusal
+         * changes nothing: a free id is found after at most one attempt for each of them. */
         uint64_t id = 0;
         do {
             id++;
@@ -256,14 +253,13 @@ static void print(const struct card *card)
     uint8_t calibration[CALIBRATION_SIZE];
     goofs_read_result answer;
 
-    if (saved_size(card) == 0) {
+    if (find(card).size == 0) {
         puts("no calibration");
         return;
     }
     answer = goofs_read(card->image, card->length, name, NAME_LENGTH, 0, sizeof calibration, calibration, sizeof calibration);
     done("read", answer.code);
-    /* Another program may have saved a sector without a zero in it. */
-    printf("%.*s\n", (int)answer.count, (const char *)calibration);
+    printf("%.*s\n", (int)answer.count, (const char *)calibration); /* ends at the padding, or at the sector's end */
 }
 
 int main(int argc, char **argv)

@@ -27,6 +27,14 @@
  * A changing call reads the image and fills a write list with records of 520 bytes: a big-endian sector number (8), contents (512).
  * Number 2^64 - 1 with 512 zero bytes is a barrier: nothing behind it may reach the medium before all that stands before it has.
  * `length` is the list's length in bytes; 0 means that nothing is to be written. Bytes past it stay.
+ *
+ * A list belongs to the image that it was asked for: it lands whole before the next call, which is given the image with it
+ * (goofs_carry_out does that to an image in memory). Its first write of the superblock is the start mark: a change that is cut
+ * before it is not done, one that is cut after it is finished by recovery. Where a system holds writes back, put up a barrier also
+ * before an image is read: a program that was ended in the middle of a list may have left writes that can be read but are not on
+ * the medium yet.
+ *
+ * A name is its bytes, without a 0 at the end. examples/detector.c is a whole program.
  */
 #ifndef GOOFS_H
 #define GOOFS_H
@@ -97,7 +105,8 @@ goofs_list_result goofs_list(const uint8_t *image, size_t image_length, uint64_t
 goofs_read_result goofs_read(const uint8_t *image, size_t image_length, const uint8_t *name, size_t name_length, uint64_t offset,
                              uint64_t count, uint8_t *out, size_t out_length);
 
-/* A new, empty file in the lowest free entry. Gives 0 to 8, 10, 11 and 14. List: at most GOOFS_CREATE_LIST. */
+/* A new, empty file in the lowest free entry. Gives 0 to 8, 10, 11 and 14. List: at most GOOFS_CREATE_LIST. No call gives the
+ * root's id; where the name is not there, 10 says that the id is taken, so a free one can be found by trying. */
 goofs_change_result goofs_create(const uint8_t *image, size_t image_length, const uint8_t *name, size_t name_length, uint64_t id,
                                  uint32_t mode, uint32_t time, uint8_t *list, size_t list_length);
 
@@ -111,7 +120,8 @@ goofs_change_result goofs_resize(const uint8_t *image, size_t image_length, cons
                                  uint32_t time, uint8_t *list, size_t list_length);
 
 /* `data` written at `offset`, which is at most the size. Gives 0 to 9, 12, 13 and 14. List: at most GOOFS_WRITE_LIST. No data
- * gives an empty list. */
+ * gives an empty list. Data sectors land before the start mark: after a write that was cut before it the size is the old one, but
+ * each sector up to it has its old bytes or the new ones. */
 goofs_change_result goofs_write(const uint8_t *image, size_t image_length, const uint8_t *name, size_t name_length, uint64_t offset,
                                 const uint8_t *data, size_t data_length, uint32_t time, uint8_t *list, size_t list_length);
 

@@ -25,7 +25,11 @@ abbrev pub sample : Format
 sample = formatOf 1313
 
 abbrev pub shape : ℕ → ℕ → Geometry
-shape extents size = record { files = 255; extents = extents; «extent_sectors» = size }
+shape extents extentSectors = record { files = 255; extents = extents; «extent_sectors» = extentSectors }
+
+-- a format that is accepted: its first record is given
+abbrev pub Accepted : ℕ → Type 0
+Accepted sectors = formatAnswer (formatOf sectors) 0 520 ≡ record { number = 0; length = 520 }
 
 -- the numbers by which P1 is known: T, K, journal, table, data, reserve
 abbrev pub areas : Geometry → List ℕ
@@ -73,16 +77,13 @@ groups d p = groupsOf (shape 4 128) d p
 abbrev pub order : List Group → List ℕ
 order gs = sectorsOf (closed gs)
 
-abbrev pub │ : ℕ
-│ = barrierNumber
-
 -- the order of groups B to D of a call with these targets, behind group A
 abbrev pub behind : List ℕ → List ℕ
-behind targets = │ ∷ 0 ∷ │ ∷ (targets ++ (│ ∷ 0 ∷ │ ∷ []))
+behind targets = barrierNumber ∷ 0 ∷ barrierNumber ∷ (targets ++ (barrierNumber ∷ 0 ∷ barrierNumber ∷ []))
 
 -- the four table entries
-abbrev pub owned : ℕ → Option Owner
-owned i = just (record { file = i; offset = 0 })
+abbrev pub owned : ℕ → ℕ → Option Owner
+owned i offset = just (record { file = i; offset = offset })
 
 abbrev pub table : List Feed → List (Option Owner)
 table fs = tab (known fs .table) 0 4
@@ -90,27 +91,34 @@ table fs = tab (known fs .table) 0 4
 pub record Cases : Type 0 where
   -- P1 the geometry: journal 257, table 289, data 290, reserve from 674
   pub P1 : geometryFor 1313 255 ≡ shape 4 128
+  pub P1-accepted : Accepted 1313
   pub P1-areas : areas (shape 4 128) ≡ (1 ∷ 1 ∷ 257 ∷ 289 ∷ 290 ∷ 674 ∷ [])
   -- P2 1,057 sectors give N 2; P3 1,056 refused 8
   pub P2 : geometryFor 1057 255 ≡ shape 2 128
+  pub P2-accepted : Accepted 1057
   pub P3 : formatAnswer (formatOf 1056) 0 520 .number ≡ 8
   -- P4 8,389,408 give S 128, N 65,535; P5 8,389,409 give S 256, N 32,768
   pub P4 : geometryFor 8389408 255 ≡ shape 65535 128
+  pub P4-accepted : Accepted 8389408
   pub P5 : geometryFor 8389409 255 ≡ shape 32768 256
+  pub P5-accepted : Accepted 8389409
   -- P6 first create in the sample writes sectors 674, 675, 257, barrier, 0, barrier, 1, 2, barrier, 0, barrier: 11 records, 5,720 bytes
   pub P6 : (d : Disk) → order (groups d (createPlan (known []) d (called 97) 97 0 0)) ≡ (674 ∷ 675 ∷ 257 ∷ behind (1 ∷ 2 ∷ []))
   pub P6-length : (d : Disk) → listLength (groups d (createPlan (known []) d (called 97) 97 0 0)) ≡ 5720
+  pub P6-answer : answer (create (called 97) 97 0 0 5720) (after []) ≡ changed (record { verdict = done; length = 11 * 520 })
   -- P7 65,536 bytes into that empty file: 139 records; 65,537 is refused 8
   pub P7 : (d : Disk) → order (groups d (writePlan (known (makes 97 ∷ [])) 0 d 0 extentful 0))
       ≡ (tab (λ k. k) 290 128 ++ (674 ∷ 675 ∷ 257 ∷ behind (2 ∷ 289 ∷ [])))
   pub P7-length : answer (write (called 97) 0 extentful 0 72280) (after (makes 97 ∷ [])) ≡ changed (record { verdict = done; length = 139 * 520 })
+  pub P7-table : table (fills 97 ∷ makes 97 ∷ []) ≡ (owned 0 0 ∷ none ∷ none ∷ none ∷ [])
   pub P7-refused : numberOf (answer (write (called 97) 0 (replicate 65537 0) 0 72280) (after (makes 97 ∷ []))) ≡ 8
   -- P8 three such files full, then one byte more: 13
   pub P8 : numberOf (answer oneMore (after full)) ≡ 13
-  pub P8-table : table full ≡ (owned 0 ∷ owned 1 ∷ owned 2 ∷ none ∷ [])
+  pub P8-table : table full ≡ (owned 0 0 ∷ owned 1 0 ∷ owned 2 0 ∷ none ∷ [])
   -- P9 after a delete: 0
   pub P9 : numberOf (answer oneMore (after deleted)) ≡ 0
-  pub P9-table : table deleted ≡ (owned 0 ∷ none ∷ owned 2 ∷ none ∷ [])
+  pub P9-table : table deleted ≡ (owned 0 0 ∷ none ∷ owned 2 0 ∷ none ∷ [])
+  pub P9-after : table (whole oneMore ∷ deleted) ≡ (owned 0 0 ∷ owned 0 1 ∷ owned 2 0 ∷ none ∷ [])
   pub P9-order : (d : Disk) → order (groups d (writePlan (known deleted) 0 d 65536 (1 ∷ []) 0)) ≡ (418 ∷ 674 ∷ 675 ∷ 257 ∷ behind (2 ∷ 289 ∷ []))
   -- P10 name of 476 bytes taken, of 477 refused 8
   pub P10 : numberOf (answer (create (replicate 476 97) 97 0 0 5720) (after [])) ≡ 0

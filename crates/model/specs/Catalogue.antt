@@ -86,7 +86,7 @@ module _ (c : Catalogue) where
   unfoldable pub entryOf : FileNumber → Entry
   entryOf i = entryOr (c .entries i)
 
-  -- file i's extent of offset o, and its sector number s
+  -- file i's extent of offset o; where the file's sector s stands
   unfoldable pub extentOf : FileNumber → ℕ → ExtentNumber
   extentOf i o = indexOf (first (λ e. isPart i o (c .table e)) (usable (c .geometry)))
 

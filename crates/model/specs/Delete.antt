@@ -12,8 +12,8 @@ use Rattle.model.specs.Geometry.{FileNumber, rootAt, entryAt, tableAt, t
 use Rattle.model.specs.Disk.{Disk}
 use Rattle.model.specs.Root.{updatedRootSector}
 use Rattle.model.specs.Table.{freedIn}
-use Rattle.model.specs.Catalogue.{Catalogue, catalogueOf, fileNamed, isBeyond, holdsBeyond, sectorsBeyond}
-use Rattle.model.specs.WriteList.{Plan, Record, sectorWrite, recordCount, Decision, decided, answerOf, listAfter}
+use Rattle.model.specs.Catalogue.{Catalogue, catalogueOf, fileNamed, isBeyond, holdsBeyond}
+use Rattle.model.specs.WriteList.{Plan, Record, sectorWrite, Decision, decided, answerOf, listAfter}
 use Rattle.model.specs.Find.{nameConditions}
 
 -- table sector t with file i's extents of offset o or more freed, if it holds one
@@ -30,9 +30,6 @@ deletePlan c d i time = record {
   dataSectors = [];
   targets = sectorWrite rootAt (updatedRootSector time (d rootAt)) ∷ sectorWrite (entryAt i) zeroSector ∷ freedSectors c d i 0;
 }
-
-unfoldable pub deleteCount : Catalogue → FileNumber → ℕ
-deleteCount c i = recordCount 0 (2 + sectorsBeyond c i 0)
 
 unfoldable pub deleteDecision : ℕ → Disk → List ℕ → ℕ → ℕ → Decision
 deleteDecision len d name time room =

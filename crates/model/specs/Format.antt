@@ -25,15 +25,15 @@ pub record Format : Type 0 where
 
 -- "Start S at 128 and double while G / S rounded down exceeds 65,535, up to 2^31": 24 doublings at most
 unfoldable pub doubled : ℕ → ℕ → ℕ → ℕ
-doubled room zero s = s
-doubled room (suc k) s = let wider = doubled room k (2 * s) in cond (ltb 65535 (room / s)) wider s
+doubled sectorsLeft zero s = s
+doubled sectorsLeft (suc k) s = let wider = doubled sectorsLeft k (2 * s) in cond (ltb 65535 (sectorsLeft / s)) wider s
 
 -- "G = sectors - 546 - F." "N = G / S rounded down."
 unfoldable pub geometryFor : ℕ → ℕ → Geometry
 geometryFor sectors files =
-    let room = sectors - 546 - files in
-    let s = doubled room 24 128 in
-    record { files = files; extents = room / s; «extent_sectors» = s }
+    let sectorsLeft = sectors - 546 - files in
+    let s = doubled sectorsLeft 24 128 in
+    record { files = files; extents = sectorsLeft / s; «extent_sectors» = s }
 
 -- not "F out of bounds, or no geometry"; "No geometry if sectors are too few, N is under 2, or the doubling ends too early",
 -- which leaves N above 65,535

@@ -1,7 +1,7 @@
 -- "The ledger sees no image and no write list. It is fed the format's arguments, then only each call's (the lengths of lent buffers
 -- included) and, of a cut call, whether its start mark landed and, if not, which data sectors did."
-use Prim.Native.Nat.{ℕ, _+_, _*_, _-_, _/_, max}
-use mathlib.Core.Bool.{Bool, false, cond, _&&_}
+use Prim.Native.Nat.{ℕ, _+_, _*_, _-_, _/_, min, max}
+use mathlib.Core.Bool.{Bool, false, cond, not, _&&_, _||_}
 use mathlib.Core.List.{List, [], _∷_, _++_}
 use mathlib.Core.Option.{Option, none, some as just}
 use lib.Dec.{eqb, leb, ltb}
@@ -18,21 +18,19 @@ use Rattle.model.specs.declared.Listed.{Listed}
 use Rattle.model.specs.declared.BytesRead.{BytesRead}
 use Rattle.model.specs.declared.Changed.{Changed}
 use Rattle.model.specs.Bytes.{run, put}
-use Rattle.model.specs.Search.{first, tab, isAt, indexOf}
-use Rattle.model.specs.Geometry.{ExtentNumber, FileNumber, extentsFor}
+use Rattle.model.specs.Search.{first, some, tab, isAt, indexOf, same}
+use Rattle.model.specs.Geometry.{ExtentNumber, FileNumber, usable, extentsFor}
 use Rattle.model.specs.Root.{Root, newRoot, updatedRoot}
-use Rattle.model.specs.Entry.{Entry, newEntry, updatedEntry}
-use Rattle.model.specs.Catalogue.{Owner, Catalogue, noEntry, fileNamed, freeEntry, freeExtent}
-use Rattle.model.specs.Refusals.{Conditions, verdictOf, given, done}
-use Rattle.model.specs.WriteList.{recordSize, ownVerdict}
+use Rattle.model.specs.Entry.{Entry, newEntry, updatedEntry, badName, fieldsOf}
+use Rattle.model.specs.Catalogue.{Owner, Catalogue, noEntry, isFree, sectorsBeyond}
+use Rattle.model.specs.Refusals.{Conditions, verdictOf, given, refusal, done}
+use Rattle.model.specs.WriteList.{recordSize, recordCount}
 use Rattle.model.specs.Format.{Format, geometryFor}
-use Rattle.model.specs.Find.{foundBy, nameConditions}
-use Rattle.model.specs.Listing.{listedBy, copiedBy, listConditions}
-use Rattle.model.specs.Read.{readBy, readConditions}
-use Rattle.model.specs.Create.{createConditions, createCount}
-use Rattle.model.specs.Delete.{deleteCount}
-use Rattle.model.specs.Write.{grows, writeConditions, writeCount}
-use Rattle.model.specs.Resize.{zeros, resizeConditions, resizeCount}
+use Rattle.model.specs.Find.{notFound}
+use Rattle.model.specs.Listing.{notListed}
+use Rattle.model.specs.Read.{notRead}
+use Rattle.model.specs.Write.{touchedSectors}
+use Rattle.model.specs.Resize.{zeros}
 
 -- ---- what it keeps
 
@@ -75,6 +73,35 @@ ownerFrom L e (At i) = just (record { file = i; offset = indexOf (placeAmong e (
 unfoldable pub catalogue : Ledger → Catalogue
 catalogue L = record { geometry = L .geometry; root = L .root; entries = λ i. entryOfFile (L .slots i); table = λ e. ownerFrom L e (holderOf L e) }
 
+-- ---- what it looks up in its slots
+
+abbrev pub holdsName : List ℕ → Option File → Bool
+holdsName name none = false
+holdsName name (just f) = same (f .entry .name) name
+
+abbrev pub holdsId : ℕ → Option File → Bool
+holdsId id none = false
+holdsId id (just f) = eqb (f .entry .id) id
+
+module _ (L : Ledger) where
+  -- the slot of a name; "the lowest free slot"; "the lowest usable extent that no slot has"
+  unfoldable pub slotNamed : List ℕ → Place
+  slotNamed name = first (λ i. holdsName name (L .slots i)) (L .geometry .files)
+
+  unfoldable pub freeSlot : Place
+  freeSlot = first (λ i. isFree (L .slots i)) (L .geometry .files)
+
+  unfoldable pub unheldExtent : Place
+  unheldExtent = first (λ e. not (isAt (holderOf L e))) (usable (L .geometry))
+
+  -- the file of a name; an empty one where there is none
+  unfoldable pub fileOf : List ℕ → File
+  fileOf name = fileOr (L .slots (indexOf (slotNamed name)))
+
+  -- "if C grows": a file of one size needs more extents at another
+  abbrev pub needsMore : ℕ → ℕ → Bool
+  needsMore old new = ltb (extentsFor (L .geometry) old) (extentsFor (L .geometry) new)
+
 -- ---- calls and answers
 
 -- a run's calls but recovery; a room is the length of a lent buffer
@@ -97,42 +124,85 @@ pub data Answer : Type 0 where
   gave : BytesRead → List ℕ → Answer
   changed : Changed → Answer
 
+-- how many records the list of a change has: "list lengths by the groups"
+unfoldable pub writtenRecords : Ledger → ℕ → ℕ → ℕ → ℕ
+writtenRecords L size offset n =
+    cond (eqb n 0) 0 (recordCount (touchedSectors offset n) (cond (needsMore L size (max size (offset + n))) 2 1))
+
+unfoldable pub freedRecords : Ledger → List ℕ → ℕ → ℕ → ℕ
+freedRecords L name offset others = recordCount 0 (others + sectorsBeyond (catalogue L) (indexOf (slotNamed L name)) offset)
+
+unfoldable pub records : Call → Ledger → ℕ
+records summary L = 0
+records check L = 0
+records (find name) L = 0
+records (list i room) L = 0
+records (read name offset count room) L = 0
+records (create name id mode time room) L = recordCount 0 2
+records (delete name time room) L = freedRecords L name 0 2
+records (resize name size time room) L =
+    let old = fileOf L name .entry .size in
+    cond (ltb size old) (freedRecords L name (extentsFor (L .geometry) size) 1) (writtenRecords L old old (size - old))
+records (write name offset bytes time room) L = writtenRecords L (fileOf L name .entry .size) offset (length bytes)
+
+abbrev pub tooShort : ℕ → ℕ → Bool × Verdict
+tooShort room needed = (ltb room needed, refusal 14)
+
+-- "It gives 8 to 14 by their conditions (\"no room\" is 13), else 0"
+unfoldable pub refusals : Call → Ledger → Conditions
+refusals summary L = []
+refusals check L = []
+refusals (find name) L = (badName name, refusal 8) ∷ (not (isAt (slotNamed L name)), refusal 9) ∷ []
+refusals (list i room) L =
+    (leb (L .geometry .files) i, refusal 8) ∷ (isFree (L .slots i), refusal 9) ∷ tooShort room (length (fileOr (L .slots i) .entry .name)) ∷ []
+refusals (read name offset count room) L =
+    let size = fileOf L name .entry .size in
+    (badName name || ltb 65536 count, refusal 8) ∷ (not (isAt (slotNamed L name)), refusal 9) ∷ (ltb size offset, refusal 12)
+    ∷ tooShort room (min count (size - offset)) ∷ []
+refusals (create name id mode time room) L =
+    (badName name || eqb id 0, refusal 8)
+    ∷ (isAt (slotNamed L name) || some (λ i. holdsId id (L .slots i)) (L .geometry .files) || eqb id (L .root .id), refusal 10)
+    ∷ (not (isAt (freeSlot L)), refusal 11) ∷ tooShort room (records (create name id mode time room) L * recordSize) ∷ []
+refusals (delete name time room) L =
+    (badName name, refusal 8) ∷ (not (isAt (slotNamed L name)), refusal 9) ∷ tooShort room (records (delete name time room) L * recordSize) ∷ []
+refusals (resize name size time room) L =
+    let old = fileOf L name .entry .size in
+    (badName name || (isAt (slotNamed L name) && ltb (old + 65536) size), refusal 8) ∷ (not (isAt (slotNamed L name)), refusal 9)
+    ∷ (needsMore L old size && not (isAt (unheldExtent L)), refusal 13) ∷ tooShort room (records (resize name size time room) L * recordSize) ∷ []
+refusals (write name offset bytes time room) L =
+    let size = fileOf L name .entry .size in
+    (badName name || ltb 65536 (length bytes), refusal 8) ∷ (not (isAt (slotNamed L name)), refusal 9) ∷ (ltb size offset, refusal 12)
+    ∷ (needsMore L size (max size (offset + length bytes)) && not (isAt (unheldExtent L)), refusal 13)
+    ∷ tooShort room (records (write name offset bytes time room) L * recordSize) ∷ []
+
 abbrev pub notChanged : Verdict → Changed
 notChanged v = record { verdict = v; length = 0 }
 
--- "It gives 8 to 14 by their conditions, else 0, and list lengths by the groups": a list of so many records
-abbrev pub changes : Conditions → ℕ → ℕ → Changed
-changes cs room records =
-    let v = ownVerdict cs room (records * recordSize) in
-    given v (record { verdict = v; length = records * recordSize }) notChanged
-
--- the slot and the file of a name
-unfoldable pub slotNamed : Ledger → List ℕ → FileNumber
-slotNamed L name = indexOf (fileNamed (catalogue L) name)
-
-unfoldable pub fileOf : Ledger → List ℕ → File
-fileOf L name = fileOr (L .slots (slotNamed L name))
+-- of a changing call: its list's length in bytes
+abbrev pub changes : Call → Ledger → Answer
+changes c L =
+    let v = verdictOf (refusals c L) in
+    changed (given v (record { verdict = v; length = records c L * recordSize }) notChanged)
 
 -- "check gives 0, summary geometry and clean"
 unfoldable pub answer : Call → Ledger → Answer
 answer summary L = summarized (record { number = 0; summary = record { geometry = L .geometry; state = Clean } })
 answer check L = checked (record { verdict = done })
-answer (find name) L = found (foundBy (verdictOf (nameConditions (catalogue L) name)) (catalogue L) name)
+answer (find name) L =
+    let v = verdictOf (refusals (find name) L) in
+    found (given v (record { verdict = v; index = record { 0 = indexOf (slotNamed L name) }; fields = fieldsOf (fileOf L name .entry) }) notFound)
 answer (list i room) L =
-    let v = verdictOf (listConditions (catalogue L) i room) in
-    listed (listedBy v (catalogue L) i) (copiedBy v (catalogue L) i)
+    let v = verdictOf (refusals (list i room) L) in
+    let e = fileOr (L .slots i) .entry in
+    listed (given v (record { verdict = v; fields = fieldsOf e }) notListed) (given v (e .name) (λ r. []))
 answer (read name offset count room) L =
-    let r = readBy (verdictOf (readConditions (catalogue L) name offset count room)) (catalogue L) name offset count in
-    gave r (run (fileOf L name .bytes) offset (r .count))
-answer (create name id mode time room) L = changed (changes (createConditions (catalogue L) name id) room createCount)
-answer (delete name time room) L =
-    changed (changes (nameConditions (catalogue L) name) room (deleteCount (catalogue L) (slotNamed L name)))
-answer (resize name size time room) L =
-    changed (changes (resizeConditions (catalogue L) name size) room (resizeCount (catalogue L) (slotNamed L name) size))
-answer (write name offset bytes time room) L =
-    changed
-    (changes (writeConditions (catalogue L) name offset (length bytes)) room
-    (writeCount (catalogue L) (slotNamed L name) offset (length bytes)))
+    let v = verdictOf (refusals (read name offset count room) L) in
+    let n = min count (fileOf L name .entry .size - offset) in
+    gave (given v (record { verdict = v; count = n }) notRead) (given v (run (fileOf L name .bytes) offset n) (λ r. []))
+answer (create name id mode time room) L = changes (create name id mode time room) L
+answer (delete name time room) L = changes (delete name time room) L
+answer (resize name size time room) L = changes (resize name size time room) L
+answer (write name offset bytes time room) L = changes (write name offset bytes time room) L
 
 abbrev pub numberOf : Answer → ℕ
 numberOf (summarized a) = a .number
@@ -162,7 +232,7 @@ written L i offset bytes time =
     record {
       entry = updatedEntry size time (f .entry);
       bytes = put (run (f .bytes) 0 size) offset bytes;
-      extents = f .extents ++ cond (grows (catalogue L) i size) (indexOf (freeExtent (catalogue L)) ∷ []) [];
+      extents = f .extents ++ cond (needsMore L (f .entry .size) size) (indexOf (unheldExtent L) ∷ []) [];
     }
 
 -- a write of 0 bytes changes nothing
@@ -183,13 +253,13 @@ afterCall (find name) L = L
 afterCall (list i room) L = L
 afterCall (read name offset count room) L = L
 afterCall (create name id mode time room) L =
-    withRootUpdated L time (indexOf (freeEntry (catalogue L))) (just (record { entry = newEntry name id mode time; bytes = []; extents = [] }))
-afterCall (delete name time room) L = withRootUpdated L time (slotNamed L name) none
+    withRootUpdated L time (indexOf (freeSlot L)) (just (record { entry = newEntry name id mode time; bytes = []; extents = [] }))
+afterCall (delete name time room) L = withRootUpdated L time (indexOf (slotNamed L name)) none
 afterCall (resize name size time room) L =
-    let i = slotNamed L name in
+    let i = indexOf (slotNamed L name) in
     let old = fileOf L name .entry .size in
     cond (ltb size old) (withFile L i (shrunk L i size time)) (afterWrite L i old (zeros (size - old)) time)
-afterCall (write name offset bytes time room) L = afterWrite L (slotNamed L name) offset bytes time
+afterCall (write name offset bytes time room) L = afterWrite L (indexOf (slotNamed L name)) offset bytes time
 
 -- "data sectors that landed hold their new bytes up to the old size": mask tells of each data sector whether it landed
 unfoldable pub partlyWritten : File → ℕ → List ℕ → List Bool → List ℕ
@@ -209,7 +279,7 @@ afterCut (delete name time room) mask L = L
 afterCut (resize name size time room) mask L = L
 afterCut (write name offset bytes time room) mask L =
     let f = fileOf L name in
-    withFile L (slotNamed L name) (record { entry = f .entry; bytes = partlyWritten f offset bytes mask; extents = f .extents })
+    withFile L (indexOf (slotNamed L name)) (record { entry = f .entry; bytes = partlyWritten f offset bytes mask; extents = f .extents })
 
 -- ---- what it is fed, and what it makes of it: the latest stands first
 

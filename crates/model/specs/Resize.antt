@@ -12,12 +12,12 @@ use Rattle.model.specs.Search.{isAt, indexOf}
 use Rattle.model.specs.Geometry.{FileNumber, entryAt, extentsFor}
 use Rattle.model.specs.Disk.{Disk}
 use Rattle.model.specs.Entry.{badName, updatedEntrySector}
-use Rattle.model.specs.Catalogue.{Catalogue, catalogueOf, fileNamed, entryOf, sectorsBeyond}
+use Rattle.model.specs.Catalogue.{Catalogue, catalogueOf, fileNamed, entryOf}
 use Rattle.model.specs.Refusals.{Conditions, refusal}
-use Rattle.model.specs.WriteList.{Plan, sectorWrite, recordCount, Decision, decided, answerOf, listAfter}
+use Rattle.model.specs.WriteList.{Plan, sectorWrite, Decision, decided, answerOf, listAfter}
 use Rattle.model.specs.Read.{longestTransfer, sizeNamed}
 use Rattle.model.specs.Delete.{freedSectors}
-use Rattle.model.specs.Write.{noRoom, writeCount, writePlanned}
+use Rattle.model.specs.Write.{noRoom, writePlanned}
 
 -- n zeros
 abbrev pub zeros : ℕ → List ℕ
@@ -34,11 +34,6 @@ unfoldable pub resizePlanned : Catalogue → Disk → FileNumber → ℕ → ℕ
 resizePlanned c d i z time =
     let size = entryOf c i .size in
     cond (ltb z size) (just (shrinkPlan c d i z time)) (writePlanned c i d size (zeros (z - size)) time)
-
-unfoldable pub resizeCount : Catalogue → FileNumber → ℕ → ℕ
-resizeCount c i z =
-    let size = entryOf c i .size in
-    cond (ltb z size) (recordCount 0 (1 + sectorsBeyond c i (extentsFor (c .geometry) z))) (writeCount c i size (z - size))
 
 -- 8 bad name, or "a resize that grows a file by more than 65,536"; 9; 13
 unfoldable pub resizeConditions : Catalogue → List ℕ → ℕ → Conditions

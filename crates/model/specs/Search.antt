@@ -13,7 +13,7 @@ unfoldable pub scan : (ℕ → Bool) → ℕ → ℕ → Place
 scan p zero i = Nowhere
 scan p (suc k) i = let rest = scan p k (suc i) in cond (p i) (At i) rest
 
--- the lowest index below n at which p holds
+-- the lowest index below n at which p holds (n - 0, so that a loop at index i has the same form)
 abbrev pub first : (ℕ → Bool) → ℕ → Place
 first p n = scan p (n - 0) 0
 

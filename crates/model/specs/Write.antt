@@ -16,7 +16,7 @@ use Rattle.model.specs.Entry.{badName, updatedEntrySector}
 use Rattle.model.specs.Table.{tableSectorOf, takenIn}
 use Rattle.model.specs.Catalogue.{Catalogue, catalogueOf, fileNamed, freeExtent, entryOf, extentOf}
 use Rattle.model.specs.Refusals.{Conditions, refusal}
-use Rattle.model.specs.WriteList.{Plan, Record, sectorWrite, recordCount, Decision, decided, answerOf, listAfter}
+use Rattle.model.specs.WriteList.{Plan, Record, sectorWrite, Decision, decided, answerOf, listAfter}
 use Rattle.model.specs.Read.{longestTransfer, sizeNamed}
 
 -- how many sectors a span of n bytes touches, from file sector offset / 512 on
@@ -71,12 +71,9 @@ module _ (c : Catalogue) (i : FileNumber) where
             ∷ cond (grows z) (sectorWrite t (takenIn x i heldExtents (d t)) ∷ []) [];
       }
 
-  -- "A write of 0 bytes is done with an empty list": no plan, no records
+  -- "A write of 0 bytes is done with an empty list": no plan
   unfoldable pub writePlanned : Disk → ℕ → List ℕ → ℕ → Option Plan
   writePlanned d offset bytes time = cond (eqb (length bytes) 0) none (just (writePlan d offset bytes time))
-
-  unfoldable pub writeCount : ℕ → ℕ → ℕ
-  writeCount offset n = cond (eqb n 0) 0 (recordCount (touchedSectors offset n) (cond (grows (sizeAfter offset n)) 2 1))
 
 -- 8 bad name or more than 65,536 bytes, 9, 12 offset greater than size, 13
 unfoldable pub writeConditions : Catalogue → List ℕ → ℕ → ℕ → Conditions

@@ -1,4 +1,4 @@
--- The verdicts of find, list and read on a disk, from the tests that the code makes. Assumes nothing.
+-- The verdicts of list and read on a disk, from the tests that the code makes. Assumes nothing.
 use Prim.Native.Nat.{ℕ, _≤_, _<_}
 use mathlib.Core.Path.{_≡_, refl, sym, ap, _∙_}
 use mathlib.Core.Bool.{Bool, true, false, cond, not, _||_}
@@ -23,7 +23,7 @@ use Rattle.laws.proofs.Entry.{length-nameIn}
 use Rattle.reading.specs.FileVerdict.{fileVerdict}
 use Rattle.laws.proofs.Named.{entry-on, free-is, named-entry}
 
--- the first of four conditions that holds
+-- the first of three conditions that holds
 abbrev by3 : ℕ → ℕ → ℕ → Bool → Bool → Bool → Verdict
 by3 k l m a b c = cond a (refusal k) (cond b (refusal l) (cond c (refusal m) done))
 

@@ -27,13 +27,14 @@ use Rattle.model.specs.CarryOut.{recordIn, recordsIn, badRecord, carryVerdict, 
 use Rattle.model.specs.Recovery.{recoveryGroups, recoveryVerdict, recoveryListed}
 use Rattle.model.specs.Cut.{Cut, landed}
 use Rattle.model.specs.Format.{Format}
-use Rattle.model.specs.Ledger.{Ledger, Call, Answer, Feed, ledgerAfter}
+use Rattle.model.specs.Ledger.{Ledger, Call, Answer, Feed}
 use Rattle.model.specs.Run.{volumePlan, Fits, Phase, steady, broken, Run}
 use Rattle.laws.proofs.Bytes.{length-zeroSector, length-beBytes, length-run, run-all, run-ext, run-put-same, beAt-left, beAt-right, beAt-beBytes}
 use Rattle.laws.proofs.Search.{some-no, every-yes, length-tab, getD-tab0}
 use Rattle.laws.proofs.Disk.{length-view}
 use Rattle.laws.proofs.WriteList.{length-recordBytes, length-listBytes}
 use Rattle.safety.specs.ListCut.{withRecord, groupsIn, cutImage}
+use Rattle.safety.proofs.Asked.{ledgerAfter}
 use Rattle.safety.proofs.Apply.{All, all-append, all-left, all-right, all-map, all-tab0, all-at, joined, InImage}
 use Rattle.safety.proofs.Journal.{write-path, length-entriesIn}
 use Rattle.safety.proofs.Superblock.{length-withJournalLength, volume-long, when-none}

@@ -16,8 +16,9 @@ use Rattle.model.specs.Catalogue.{Catalogue, catalogueOf}
 use Rattle.model.specs.Refusals.{Conditions, verdictOf, andThen, isDone, done}
 use Rattle.model.specs.WriteList.{Plan, stored, groupsFor, listLength, recordSize, Decision, ownVerdict, decided, answerOf}
 use Rattle.model.specs.Cut.{dataBy}
-use Rattle.model.specs.Ledger.{Ledger, catalogue, Call, answer, numberOf, notChanged, changes, afterCall, afterCut, whole, fed}
+use Rattle.model.specs.Ledger.{Ledger, catalogue, Call, numberOf, notChanged, whole}
 use Rattle.model.specs.Run.{volumePlan}
+use Rattle.safety.proofs.Asked.{answer, changes, afterCall, afterCut, fed}
 use Rattle.safety.proofs.Plan.{WellFormed, A}
 use Rattle.safety.proofs.Commit.{uncut, partOf}
 use Rattle.safety.proofs.Induction.{Effect, nothing, plans}

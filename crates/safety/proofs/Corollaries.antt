@@ -38,14 +38,15 @@ use Rattle.model.specs.Resize.{resizeDecision, resizeAnswer}
 use Rattle.model.specs.Write.{writeDecision, writeAnswer}
 use Rattle.model.specs.Format.{Format}
 use Rattle.model.specs.Cut.{Cut, landed, startMark, dataLanded}
-use Rattle.model.specs.Ledger.{Ledger, entryOfFile, catalogue, fileOf, Call, summary, check, find, list, read, create, delete, resize, write, Answer, checked, answer, numberOf, afterCall, afterCut, Feed, whole, cutMarked, cutUnmarked, fed, ledgerAfter, answersTo}
+use Rattle.model.specs.Ledger.{Ledger, entryOfFile, catalogue, Call, summary, check, find, list, read, create, delete, resize, write, Answer, checked, numberOf, Feed, whole, cutMarked, cutUnmarked}
 use Rattle.model.specs.Run.{volumeAnswer, volumePlan, Fits, cutFeed, Phase, steady, Run, begin, calls, cuts, recoveryRefused, recoveryCut, recovered}
 use Rattle.model.specs.Demand3.{Says, Demand3}
 use Rattle.laws.proofs.Search.{first-missed}
 use Rattle.safety.specs.Naming.{NoneNames, Contents, fileOn, contentsIn, fileIn, directoryOn, withNewEntry}
+use Rattle.safety.proofs.Asked.{fileOf, answer, afterCall, afterCut, fed, ledgerAfter, answersTo}
 use Rattle.safety.proofs.Commit.{RecoveredTo, completed, interrupted}
 use Rattle.safety.proofs.Rep.{NoFaults, catalogue-is}
-use Rattle.safety.proofs.Theorem.{demand3}
+use Rattle.safety.proofs.Theorem.{asked}
 use Rattle.safety.proofs.CallLists.{later-done}
 use Rattle.safety.proofs.Naming.{Accepted, Found, Fresh, fed-other, create-fresh, delete-found, resize-found, write-found}
 use Rattle.safety.proofs.FileSaid.{found-said, created-said, deleted-said, resized-said, written-said, said, said-length}
@@ -131,12 +132,12 @@ recovered-run r (interrupted room ne x m) = recovered-run (recoveryCut r room ne
 module _ {a : Format} where
   says : {img : List ℕ} {fs : List Feed} {rs : List Answer} → Run a steady img fs rs → Says (ledgerAfter a fs) img
   unfolding Demand3
-  says {img} {fs} {rs} r = demand3 a steady img fs rs r .1
+  says {img} {fs} {rs} r = asked a steady img fs rs r .1
 
   answered : {img : List ℕ} {fs : List Feed} {rs : List Answer} → Run a steady img fs rs → (c : Call) → Fits c → volumeAnswer c img ≡ answer c (ledgerAfter a fs)
   unfolding Demand3 answersTo
   answered {img} {fs} {rs} r c f =
-      let e : volumeAnswer c img ∷ rs ≡ answer c (ledgerAfter a fs) ∷ answersTo a fs = demand3 a steady _ (whole c ∷ fs) (volumeAnswer c img ∷ rs) (calls r c f) .0 in
+      let e : volumeAnswer c img ∷ rs ≡ answer c (ledgerAfter a fs) ∷ answersTo a fs = asked a steady _ (whole c ∷ fs) (volumeAnswer c img ∷ rs) (calls r c f) .0 in
       cc
 
   checks : {img : List ℕ} {fs : List Feed} {rs : List Answer} → Run a steady img fs rs → checkAnswer (length img) (view img) ≡ record { verdict = done }

@@ -20,9 +20,10 @@ use Rattle.model.specs.Faults.{fault21}
 use Rattle.model.specs.Refusals.{Conditions}
 use Rattle.model.specs.WriteList.{Plan, Record, sectorWrite, groupsFor, listLength, recordSize}
 use Rattle.model.specs.Create.{createConditions, createPlan, createCount, createDecision, createAnswer}
-use Rattle.model.specs.Ledger.{Ledger, File, entryOfFile, catalogue, create, changed, answer, afterCall, afterCut}
+use Rattle.model.specs.Ledger.{Ledger, File, entryOfFile, catalogue, create, changed}
 use Rattle.model.specs.Run.{volumeAnswer, volumePlan}
 use Rattle.laws.proofs.Disk.{length-view}
+use Rattle.safety.proofs.Asked.{answer, afterCall, afterCut}
 use Rattle.safety.proofs.Searches.{place-found, place-none, or-left-no, or-right-no, some-none}
 use Rattle.safety.proofs.Apply.{over-here, over-skip, over-none}
 use Rattle.safety.proofs.Plan.{UsableGeometry, WellFormed, metadata-directory}

@@ -20,11 +20,12 @@ use Rattle.model.specs.Faults.{among, fault21}
 use Rattle.model.specs.Refusals.{Conditions}
 use Rattle.model.specs.WriteList.{Plan, Record, Group, sectorWrite, groupsFor, listLength, recordSize, recordCount}
 use Rattle.model.specs.Find.{nameConditions}
-use Rattle.model.specs.Delete.{deletePlan, deleteCount, deleteDecision, deleteAnswer}
-use Rattle.model.specs.Ledger.{Ledger, catalogue, delete, changed, answer, afterCall, afterCut, slotNamed}
+use Rattle.model.specs.Delete.{deletePlan, deleteDecision, deleteAnswer}
+use Rattle.model.specs.Ledger.{Ledger, catalogue, delete, changed}
 use Rattle.model.specs.Run.{volumeAnswer, volumePlan}
 use Rattle.laws.proofs.Bytes.{length-zeroSector}
 use Rattle.laws.proofs.Disk.{length-view}
+use Rattle.safety.proofs.Asked.{answer, afterCall, afterCut, slotNamed, deleteCount}
 use Rattle.safety.proofs.Searches.{place-found}
 use Rattle.safety.proofs.Apply.{over, over-here, over-skip, over-none, over-miss}
 use Rattle.safety.proofs.Plan.{UsableGeometry, WellFormed, metadata-directory}

@@ -20,12 +20,13 @@ use Rattle.model.specs.Entry.{Entry, newEntry, updatedEntry}
 use Rattle.model.specs.Catalogue.{Catalogue, catalogueOf, hasName, fileNamed, freeEntry, entryOf, entryOr, fileByte, fileBytes}
 use Rattle.model.specs.Faults.{among}
 use Rattle.model.specs.Resize.{zeros}
-use Rattle.model.specs.Ledger.{Ledger, File, fileOr, entryOfFile, catalogue, create, delete, resize, write, slotNamed, fileOf, withFile, withRootUpdated, written, afterWrite, shrunk, afterCall}
+use Rattle.model.specs.Ledger.{Ledger, File, fileOr, entryOfFile, catalogue, create, delete, resize, write, withFile, withRootUpdated, shrunk}
 use Rattle.model.specs.Demand3.{Says}
 use Rattle.laws.proofs.Booleans.{and-left}
 use Rattle.laws.proofs.Bytes.{length-run, getD-run, run-all, length-put, getD-put}
 use Rattle.laws.proofs.Search.{length-tab, Hit, first-none}
 use Rattle.safety.specs.Naming.{Contents, contentsAt, fileOn, contentsIn, fileIn}
+use Rattle.safety.proofs.Asked.{slotNamed, fileOf, written, afterWrite, afterCall}
 use Rattle.safety.proofs.Searches.{place-none}
 use Rattle.safety.proofs.Rep.{catalogue-is, NoFaults}
 use Rattle.safety.proofs.Replaced.{names-apart}

@@ -27,9 +27,10 @@ use Rattle.model.specs.Write.{touchedSectors, noRoom, sizeAfter, dataSector, wr
 use Rattle.model.specs.Resize.{zeros, shrinkPlan, resizePlanned, resizeConditions, resizeDecision}
 use Rattle.model.specs.Recovery.{recoveryGroups, recoveryVerdict, recoveryListed}
 use Rattle.model.specs.Format.{Format}
-use Rattle.model.specs.Ledger.{Ledger, File, fileOr, entryOfFile, catalogue, Call, summary, check, find, list, read, create, delete, resize, write, Answer, Feed, ledgerAfter}
+use Rattle.model.specs.Ledger.{Ledger, File, fileOr, entryOfFile, catalogue, Call, summary, check, find, list, read, create, delete, resize, write, Answer, Feed}
 use Rattle.model.specs.Run.{volumePlan, Fits, Phase, steady, broken, Run}
 use Rattle.laws.proofs.Bytes.{length-run}
+use Rattle.safety.proofs.Asked.{ledgerAfter}
 use Rattle.safety.proofs.Searches.{place-found, or-right-no}
 use Rattle.safety.proofs.Apply.{All, all-append, all-map, all-tab, all-tab0}
 use Rattle.safety.proofs.Superblock.{when-none}

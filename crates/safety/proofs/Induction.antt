@@ -15,12 +15,18 @@ use Rattle.model.specs.WriteList.{Plan, Group, stored, groupsOf, groupsFor, clo
 use Rattle.model.specs.Format.{Format, canFormat, formattedImage}
 use Rattle.model.specs.Recovery.{recoveryVerdict, recoveryListed}
 use Rattle.model.specs.Cut.{Cut, landed, startMark, dataBy, dataLanded}
-use Rattle.model.specs.Ledger.{Ledger, firstLedger, Call, Answer, answer, numberOf, afterCall, afterCut, Feed, whole, cutMarked, cutUnmarked, fed, callOf, ledgerAfter, answersTo}
+use Rattle.model.specs.Ledger.{Ledger, firstLedger, Call, Answer, numberOf, Feed, whole, cutMarked, cutUnmarked, callOf}
 use Rattle.model.specs.Run.{volumeAnswer, volumePlan, Fits, FitsFormat, cutFeed, Phase, steady, broken, Run, begin, calls, recoveryRefused, recoveryCut, recovered, cuts}
-use Rattle.model.specs.Demand3.{Says, Settled, RecoveryAnswers, Demand3}
+use Rattle.model.specs.Demand3.{Says, Settled, RecoveryAnswers}
+use Rattle.safety.proofs.Asked.{answer, afterCall, afterCut, fed, ledgerAfter, answersTo}
 use Rattle.safety.proofs.Superblock.{when-none, answers}
 use Rattle.safety.proofs.Plan.{UsableGeometry, WellFormed, A}
 use Rattle.safety.proofs.Commit.{Ready, Waits, Interrupted, waits, finished, uncut, partOf, cut-marked, cut-unmarked, waits-recovers, ready-recovers, stored-none, waits-done, waits-cut}
+
+abbrev pub AskedDemand3 : Type 0
+AskedDemand3 =
+    (a : Format) (phase : Phase) (img : List ℕ) (fs : List Feed) (rs : List Answer) → Run a phase img fs rs
+    → (rs ≡ answersTo a fs) × Settled phase (ledgerAfter a fs) img × RecoveryAnswers img
 
 module _ (Rep : Ledger → List ℕ → Type 0) where
   -- what a call's plan does to an image that represents the ledger: it is well-formed, and carried out, whole or in part, it leaves
@@ -166,9 +172,8 @@ module _ (Rep : Ledger → List ℕ → Type 0) (sound : Sound Rep) where
   settled steady L img h = sound .says L img h
   settled broken L img h = tt
 
-  -- DEMAND 3
-  pub demand3-by : Demand3
-  unfolding Demand3
+  -- DEMAND 3, of the ledger asked by way of its catalogue
+  pub demand3-by : AskedDemand3
   demand3-by a phase img fs rs r =
       let h = agree a r in
       (h .0, settled phase (ledgerAfter a fs) img (h .1), recovery-answers (ledgerAfter a fs) img (recoverable Rep phase (ledgerAfter a fs) img (h .1)))

@@ -1,4 +1,5 @@
 -- The theory, in dependency order. Every file's first lines say what stands in it.
+pub mod Asked
 pub mod Searches
 pub mod Apply
 pub mod Journal

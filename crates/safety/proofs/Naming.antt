@@ -23,10 +23,11 @@ use Rattle.model.specs.Find.{nameConditions}
 use Rattle.model.specs.Create.{createConditions, createCount}
 use Rattle.model.specs.Write.{writeConditions}
 use Rattle.model.specs.Resize.{zeros, resizeConditions}
-use Rattle.model.specs.Ledger.{Ledger, File, fileOr, entryOfFile, catalogue, Call, summary, check, find, list, read, create, delete, resize, write, changes, notChanged, answer, numberOf, slotNamed, fileOf, withFile, written, afterWrite, shrunk, afterCall, afterCut, partlyWritten, Feed, whole, cutMarked, cutUnmarked, callOf, fed}
+use Rattle.model.specs.Ledger.{Ledger, File, fileOr, entryOfFile, catalogue, Call, summary, check, find, list, read, create, delete, resize, write, notChanged, numberOf, withFile, shrunk, partlyWritten, Feed, whole, cutMarked, cutUnmarked, callOf}
 use Rattle.laws.proofs.Booleans.{and-left, and-right, and-yes}
 use Rattle.laws.proofs.Search.{Hit, scan-hit, first-ext, every-yes, every-at}
 use Rattle.safety.specs.Naming.{names, contentsIn, fileIn}
+use Rattle.safety.proofs.Asked.{changes, answer, slotNamed, fileOf, written, afterWrite, afterCall, afterCut, fed}
 use Rattle.safety.proofs.Searches.{place-found, or-left-no}
 use Rattle.safety.proofs.Changing.{Passed, Refusing, passed-by}
 use Rattle.safety.proofs.Replaced.{replaced}

@@ -15,9 +15,10 @@ use Rattle.model.specs.Disk.{Disk, view}
 use Rattle.model.specs.Catalogue.{Catalogue, catalogueOf, hasName, fileNamed, entryOf, entryOr, fileByte, fileBytes}
 use Rattle.model.specs.Refusals.{verdictOf, andThen, isDone}
 use Rattle.model.specs.Read.{readCount, sizeNamed, readConditions, notRead, readBy, readAnswer, readGives}
-use Rattle.model.specs.Ledger.{Ledger, File, fileOr, entryOfFile, catalogue, read, gave, answer, slotNamed, fileOf}
+use Rattle.model.specs.Ledger.{Ledger, File, fileOr, entryOfFile, catalogue, read, gave}
 use Rattle.model.specs.Run.{volumeAnswer}
 use Rattle.laws.proofs.Search.{getD-tab0}
+use Rattle.safety.proofs.Asked.{answer, slotNamed, fileOf}
 use Rattle.safety.proofs.Searches.{place-found}
 use Rattle.safety.proofs.Rep.{Rep, cat-is, opens}
 use Rattle.safety.proofs.Changing.{Passed, Refusing, passed-by}

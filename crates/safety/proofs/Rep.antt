@@ -19,11 +19,12 @@ use Rattle.model.specs.Refusals.{verdictOf, andThen, given, done, refusal, stat
 use Rattle.model.specs.Summary.{noSummary, summaryAnswer, checkAnswer}
 use Rattle.model.specs.Find.{nameConditions, foundBy, findAnswer}
 use Rattle.model.specs.Listing.{listConditions, listVerdict, listedBy, copiedBy, listAnswer, listCopies}
-use Rattle.model.specs.Ledger.{Ledger, File, fileOr, placeAmong, holderOf, catalogue, summary, check, find, list, summarized, checked, found, listed, answer}
+use Rattle.model.specs.Ledger.{Ledger, File, fileOr, placeAmong, holderOf, catalogue, summary, check, find, list, summarized, checked, found, listed}
 use Rattle.model.specs.Run.{volumeAnswer}
 use Rattle.model.specs.Demand3.{Says}
 use Rattle.model.specs.Opened.{Bounded}
 use Rattle.laws.proofs.Search.{first-none, length-tab}
+use Rattle.safety.proofs.Asked.{answer}
 use Rattle.safety.proofs.Superblock.{volume-accepted}
 use Rattle.safety.proofs.Plan.{UsableGeometry}
 use Rattle.safety.proofs.Commit.{Ready}

@@ -18,12 +18,13 @@ use Rattle.model.specs.Catalogue.{Catalogue, hasName, fileNamed, entryOf, secto
 use Rattle.model.specs.Refusals.{Conditions}
 use Rattle.model.specs.WriteList.{Plan, groupsFor, listLength, recordSize, recordCount, stored}
 use Rattle.model.specs.Read.{longestTransfer, sizeNamed}
-use Rattle.model.specs.Write.{noRoom, sizeAfter, writePlanned, writeCount}
-use Rattle.model.specs.Resize.{zeros, shrinkPlan, resizePlanned, resizeCount, resizeConditions, resizeDecision, resizeAnswer}
-use Rattle.model.specs.Ledger.{Ledger, File, fileOr, entryOfFile, catalogue, resize, changed, answer, afterCall, afterCut, slotNamed, fileOf, withFile, written, afterWrite, partlyWritten, shrunk}
+use Rattle.model.specs.Write.{noRoom, sizeAfter, writePlanned}
+use Rattle.model.specs.Resize.{zeros, shrinkPlan, resizePlanned, resizeConditions, resizeDecision, resizeAnswer}
+use Rattle.model.specs.Ledger.{Ledger, File, fileOr, entryOfFile, catalogue, resize, changed, withFile, partlyWritten, shrunk}
 use Rattle.model.specs.Run.{volumeAnswer, volumePlan}
 use Rattle.laws.proofs.Bytes.{length-run}
 use Rattle.laws.proofs.Search.{length-tab, getD-tab0}
+use Rattle.safety.proofs.Asked.{answer, afterCall, afterCut, slotNamed, fileOf, written, afterWrite, writeCount, resizeCount}
 use Rattle.safety.proofs.Searches.{place-found, or-right-no}
 use Rattle.safety.proofs.Plan.{A}
 use Rattle.safety.proofs.Commit.{partOf, uncut}

@@ -5,9 +5,10 @@ use mathlib.Core.Path.{_≡_, refl}
 use mathlib.Core.Bool.{Bool, true, false, cond}
 use mathlib.Core.List.{List}
 use lib.Dec.{eqb}
-use Rattle.model.specs.Ledger.{Ledger, Call, summary, check, find, list, read, create, delete, resize, write, answer, numberOf, afterCall}
+use Rattle.model.specs.Ledger.{Ledger, Call, summary, check, find, list, read, create, delete, resize, write, numberOf}
 use Rattle.model.specs.Run.{volumeAnswer, volumePlan, Fits}
 use Rattle.model.specs.Demand3.{Demand3}
+use Rattle.safety.proofs.Asked.{answer, afterCall, answers-is, ledger-is}
 use Rattle.safety.proofs.Rep.{Rep, rep-geometry, summary-same, check-same, find-same, list-same}
 use Rattle.safety.proofs.Read.{read-same}
 use Rattle.safety.proofs.Create.{create-same, create-effect}
@@ -15,7 +16,7 @@ use Rattle.safety.proofs.Delete.{delete-same, delete-effect}
 use Rattle.safety.proofs.Resize.{resize-same, resize-effect}
 use Rattle.safety.proofs.Write.{write-same, write-effect}
 use Rattle.safety.proofs.Format.{formatted}
-use Rattle.safety.proofs.Induction.{Effect, nothing, Sound, demand3-by}
+use Rattle.safety.proofs.Induction.{Effect, nothing, Sound, AskedDemand3, demand3-by}
 
 either : (L : Ledger) (img : List ℕ) (b : Bool) → Rep L img → Rep (cond b L L) img
 either L img true h = h
@@ -55,6 +56,11 @@ sound = record {
   effect = effect;
 }
 
+-- DEMAND 3 of the ledger asked by way of its catalogue
+pub asked : AskedDemand3
+asked = demand3-by Rep sound
+
 -- DEMAND 3
 pub demand3 : Demand3
-demand3 = demand3-by Rep sound
+unfolding Demand3
+demand3 a phase img fs rs r = let q = asked a phase img fs rs r in rw (answers-is a fs, ledger-is a fs) q

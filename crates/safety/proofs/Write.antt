@@ -18,11 +18,12 @@ use Rattle.model.specs.Catalogue.{Catalogue, hasName, fileNamed, freeExtent, en
 use Rattle.model.specs.Refusals.{Conditions}
 use Rattle.model.specs.WriteList.{Plan, sectorWrite, groupsFor, listLength, recordSize, recordCount, stored}
 use Rattle.model.specs.Read.{longestTransfer, sizeNamed}
-use Rattle.model.specs.Write.{touchedSectors, heldExtents, grows, noRoom, sizeAfter, dataSector, writePlan, writePlanned, writeCount, writeConditions, writeDecision, writeAnswer}
+use Rattle.model.specs.Write.{touchedSectors, heldExtents, grows, noRoom, sizeAfter, dataSector, writePlan, writePlanned, writeConditions, writeDecision, writeAnswer}
 use Rattle.model.specs.Cut.{dataBy}
-use Rattle.model.specs.Ledger.{Ledger, File, fileOr, entryOfFile, catalogue, write, changed, answer, afterCall, afterCut, slotNamed, fileOf, withFile, written, afterWrite, partlyWritten}
+use Rattle.model.specs.Ledger.{Ledger, File, fileOr, entryOfFile, catalogue, write, changed, withFile, partlyWritten}
 use Rattle.model.specs.Run.{volumeAnswer, volumePlan}
 use Rattle.laws.proofs.Search.{length-tab}
+use Rattle.safety.proofs.Asked.{answer, afterCall, afterCut, slotNamed, fileOf, written, afterWrite, writeCount}
 use Rattle.safety.proofs.Searches.{place-found, or-right-no}
 use Rattle.safety.proofs.Plan.{WellFormed, A}
 use Rattle.safety.proofs.Commit.{partOf, uncut}

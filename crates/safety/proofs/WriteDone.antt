@@ -22,11 +22,12 @@ use Rattle.model.specs.Table.{tableSectorOf, takenIn}
 use Rattle.model.specs.Catalogue.{catalogueOf, isPart, entryOf, sectorOf, fileByte, fileBytes}
 use Rattle.model.specs.WriteList.{Plan, Record, Group, sectorWrite}
 use Rattle.model.specs.Write.{heldExtents, placeOf, writePlan}
-use Rattle.model.specs.Ledger.{Ledger, File, catalogue, withFile, written}
+use Rattle.model.specs.Ledger.{Ledger, File, catalogue, withFile}
 use Rattle.laws.proofs.Booleans.{range-yes}
 use Rattle.laws.proofs.Bytes.{length-put, length-run, getD-put, getD-run}
 use Rattle.laws.proofs.Search.{length-tab, getD-tab0}
 use Rattle.laws.proofs.Disk.{length-view}
+use Rattle.safety.proofs.Asked.{written}
 use Rattle.safety.proofs.Apply.{over, over-here, over-skip, over-miss, All}
 use Rattle.safety.proofs.Journal.{Rising}
 use Rattle.safety.proofs.Plan.{UsableGeometry, WellFormed, Metadata, Whole, metadata-directory, metadata-table}

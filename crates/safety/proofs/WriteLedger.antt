@@ -19,7 +19,8 @@ use Rattle.model.specs.Catalogue.{Catalogue, isFree, freeExtent, entryOf, entry
 use Rattle.model.specs.Faults.{exact}
 use Rattle.model.specs.Write.{heldExtents, grows, noRoom, sizeAfter}
 use Rattle.model.specs.Read.{longestTransfer}
-use Rattle.model.specs.Ledger.{Ledger, File, fileOr, entryOfFile, catalogue, written}
+use Rattle.model.specs.Ledger.{Ledger, File, fileOr, entryOfFile, catalogue}
+use Rattle.safety.proofs.Asked.{written}
 use Rattle.safety.proofs.Searches.{place-found}
 use Rattle.safety.proofs.Rep.{Rep, Disjoint, catalogue-geometry}
 use Rattle.safety.proofs.Replaced.{replaced, Admissible}

@@ -18,5 +18,13 @@ edits! {
     create_writes_at_once by "safety";
     format_stops_at_position_0 by "safety";
     made_up_size by "safety";
-    create_refuses_always by "cases";
+    made_up_extent by "safety";
+    create_refuses_always by "safety";
+    list_refuses_always by "safety";
+    read_refuses_always by "safety";
+    find_gives_no_fields by "safety";
+    list_copies_no_name by "safety";
+    missing_name_is_10 by "safety";
+    no_name_is_found by "safety";
+    format_refuses_always by "cases";
 }

@@ -25,7 +25,11 @@ pub enum Stage {
 
 impl<D: Device> Volume<D> {
     /// Reads the volume. One of any state is taken; 1 to 3 are refused.
-    pub fn open(device: D) -> Result<Volume<D>, Error> {
+    ///
+    /// The barrier comes first: what a program that broke off has written, and the image shows, may
+    /// not be on the medium yet, and no change may rest on it before it is.
+    pub fn open(mut device: D) -> Result<Volume<D>, Error> {
+        device.barrier().map_err(Error::Unreadable)?;
         let image = Image::load(&device)?;
         Ok(Volume {
             device,
@@ -239,9 +243,10 @@ mod tests {
             (6, 1),
         ];
         for (left, (landed, taken)) in counts.into_iter().enumerate() {
+            // One step more: a volume is opened behind a barrier.
             let device = Failing {
                 medium: before.clone(),
-                left: left as u64,
+                left: left as u64 + 1,
             };
             let mut volume = Volume::open(device).unwrap();
             let Err(Error::Interrupted(cut)) = volume.apply(&[create], &mut |_, _| ()) else {

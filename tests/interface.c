@@ -1,0 +1,1328 @@
+/* Tests of the C interface through include/goofs.h: all twelve calls, every result number, every byte of every buffer. What is
+ * expected is worked out from document 01 and stands here as plain numbers. The last line is 'N passed, M failed', where a test is
+ * one function of the table at the end.
+ *
+ * The sample volume, F = 255 on 1,313 sectors, has N = 4 extents of S = 128 sectors (65,536 bytes) and T = 1, K = 1:
+ *
+ *     superblock 0, root 1, directory 2 to 256, journal 257 to 288, table 289, extents at 290, 418 and 546, the reserve 674 to 801
+ *
+ * The sectors 802 to 1,312 of the medium are no part of the volume.
+ */
+#define _DEFAULT_SOURCE /* MAP_ANONYMOUS, MAP_NORESERVE */
+
+#include <inttypes.h>
+#include <stdio.h>
+#include <stdlib.h>
+#include <string.h>
+#include <sys/mman.h>
+
+#include "goofs.h"
+
+enum { SECTORS = 1313, IMAGE = SECTORS * 512, LONGEST = GOOFS_DELETE_LIST };
+
+/* Before anything is written, each byte of a medium and of a lent buffer has one of these values, so that stray bytes show. */
+enum { MEDIUM = 0xA5, LENT = 0xC3 };
+
+/* Numbers in which no two bytes are the same, so that an exchange of arguments, fields or bytes shows. */
+#define ROOT_ID UINT64_C(0x1112131415161718)
+#define ROOT_MODE UINT32_C(0x21222324)
+#define ROOT_TIME UINT32_C(0x31323334)
+#define BEAM_ID UINT64_C(0x4142434445464748)
+#define BEAM_MODE UINT32_C(0x51525354)
+#define GAIN_ID UINT64_C(0x6162636465666768)
+#define GAIN_MODE UINT32_C(0x71727374)
+
+/* -------------------- what a test compares with */
+
+static unsigned long wrong; /* comparisons that failed in the test that runs */
+static int from;            /* the line of the test that called a helper */
+
+static void differs(int line, const char *what)
+{
+    wrong++;
+    printf("interface.c:%d (from line %d): %s\n", line, from, what);
+}
+
+static void number(int line, const char *what, uint64_t got, uint64_t expected)
+{
+    if (got == expected)
+        return;
+    differs(line, what);
+    printf("    gave %" PRIu64 ", expected %" PRIu64 "\n", got, expected);
+}
+
+static void bytes(int line, const char *what, const uint8_t *got, const uint8_t *expected, size_t length)
+{
+    size_t at = 0;
+
+    while (at < length && got[at] == expected[at])
+        at++;
+    if (at == length)
+        return;
+    differs(line, what);
+    printf("    byte %zu is %d, expected %d\n", at, got[at], expected[at]);
+}
+
+static void filled(int line, const char *what, const uint8_t *got, uint8_t expected, size_t length)
+{
+    size_t at = 0;
+
+    while (at < length && got[at] == expected)
+        at++;
+    if (at == length)
+        return;
+    differs(line, what);
+    printf("    stray byte %zu is %d, not %d\n", at, got[at], expected);
+}
+
+/* Results are structs of 8-byte numbers and have no bytes between them. */
+static void result(int line, const char *what, const void *got, const void *expected, size_t size)
+{
+    uint64_t g[16], e[16];
+    size_t i;
+
+    if (memcmp(got, expected, size) == 0)
+        return;
+    differs(line, what);
+    memcpy(g, got, size);
+    memcpy(e, expected, size);
+    printf("    gave    ");
+    for (i = 0; i < size / 8; i++)
+        printf(" %" PRIu64, g[i]);
+    printf("\n    expected");
+    for (i = 0; i < size / 8; i++)
+        printf(" %" PRIu64, e[i]);
+    printf("\n");
+}
+
+#define NUMBER(got, expected) number(__LINE__, #got, (got), (expected))
+
+/* IS(result type, call, fields): the call gives these fields, and 0 in all others. */
+#define IS(type, call, ...) \
+    do { \
+        type got_ = (call), expected_ = {__VA_ARGS__}; \
+        result(__LINE__, #call, &got_, &expected_, sizeof got_); \
+    } while (0)
+
+/* -------------------- the buffers, guarded */
+
+static struct {
+    uint8_t before[512], bytes[IMAGE], after[512];
+} medium, held;
+
+static struct {
+    uint8_t before[512], bytes[LONGEST + 512], after[512];
+} lent;
+
+static void hold(void) { memcpy(&held, &medium, sizeof held); }
+
+static void held_is(int line)
+{
+    bytes(line, "the image", (const uint8_t *)&medium, (const uint8_t *)&held, sizeof medium);
+}
+
+static void lend(void) { memset(&lent, LENT, sizeof lent); }
+
+/* The lent buffer has these bytes at its start and is otherwise as it was. */
+static void lent_is(int line, const uint8_t *expected, size_t length)
+{
+    filled(line, "before the buffer", lent.before, LENT, sizeof lent.before);
+    if (length > 0)
+        bytes(line, "the buffer", lent.bytes, expected, length);
+    filled(line, "past the answer", lent.bytes + length, LENT, sizeof lent.bytes - length);
+    filled(line, "past the buffer", lent.after, LENT, sizeof lent.after);
+}
+
+/* -------------------- the sectors as document 01 has them */
+
+static struct {
+    uint64_t files, extents, extent_sectors, journal_at, reserve_at;
+} volume;
+
+static void put(uint8_t *at, int width, uint64_t value)
+{
+    while (width-- > 0) {
+        at[width] = (uint8_t)(value & 255);
+        value >>= 8;
+    }
+}
+
+static void superblock(uint8_t *sector, uint64_t journal_length)
+{
+    memset(sector, 0, 512);
+    put(sector, 2, volume.files);
+    put(sector + 2, 2, volume.extents);
+    put(sector + 4, 4, volume.extent_sectors);
+    memcpy(sector + 8, "/Goo/FS/", 8);
+    put(sector + 16, 2, 1);
+    put(sector + 18, 2, journal_length);
+}
+
+static void root(uint8_t *sector, uint64_t version, uint64_t change_time)
+{
+    memset(sector, 0, 512);
+    put(sector, 4, version);
+    put(sector + 4, 8, ROOT_ID);
+    put(sector + 12, 4, ROOT_MODE);
+    put(sector + 16, 4, ROOT_TIME);
+    put(sector + 20, 4, change_time);
+}
+
+struct entry {
+    uint64_t size, version, id, mode, access_time, change_time;
+    const char *name;
+};
+
+static void entry(uint8_t *sector, struct entry e)
+{
+    memset(sector, 0, 512);
+    put(sector, 2, 65535);
+    put(sector + 2, 8, e.size);
+    put(sector + 10, 4, e.version);
+    put(sector + 14, 8, e.id);
+    put(sector + 22, 4, e.mode);
+    put(sector + 26, 4, e.access_time);
+    put(sector + 30, 4, e.change_time);
+    put(sector + 34, 2, strlen(e.name));
+    memcpy(sector + 36, e.name, strlen(e.name));
+}
+
+/* The sample's table sector with its four entries, each a file index (high 16 bits) and an offset (low 16 bits). */
+#define FREE UINT64_C(0xFFFFFFFF)
+static void table(uint8_t *sector, uint64_t e0, uint64_t e1, uint64_t e2, uint64_t e3)
+{
+    memset(sector, 255, 512);
+    put(sector, 4, e0);
+    put(sector + 4, 4, e1);
+    put(sector + 8, 4, e2);
+    put(sector + 12, 4, e3);
+}
+
+/* The list that is expected. */
+static struct {
+    uint8_t bytes[LONGEST];
+    size_t length;
+} wanted;
+
+static void want(uint64_t sector, const uint8_t *contents)
+{
+    if (wanted.length + 520 > sizeof wanted.bytes)
+        abort();
+    put(wanted.bytes + wanted.length, 8, sector);
+    memcpy(wanted.bytes + wanted.length + 8, contents, 512);
+    wanted.length += 520;
+}
+
+static void want_barrier(void)
+{
+    static const uint8_t zeros[512];
+
+    want(UINT64_MAX, zeros);
+}
+
+/* All of a list but its data sectors: copies, journal and a barrier; the start mark and a barrier; the targets and a barrier; the
+ * end mark and a barrier. */
+static void want_commit(size_t count, const uint64_t *targets, uint8_t (*contents)[512])
+{
+    uint8_t sector[512];
+    size_t k, first;
+
+    for (k = 0; k < count; k++)
+        want(volume.reserve_at + k, contents[k]);
+    for (first = 0; first < count; first += 32) {
+        memset(sector, 0, 512);
+        for (k = first; k < count && k < first + 32; k++) {
+            put(sector + 16 * (k - first), 8, volume.reserve_at + k);
+            put(sector + 16 * (k - first) + 8, 8, targets[k]);
+        }
+        want(volume.journal_at + first / 32, sector);
+    }
+    want_barrier();
+    superblock(sector, count);
+    want(0, sector);
+    want_barrier();
+    for (k = 0; k < count; k++)
+        want(targets[k], contents[k]);
+    want_barrier();
+    superblock(sector, 0);
+    want(0, sector);
+    want_barrier();
+}
+
+/* The wanted list's first records, done on an image by this program itself. */
+static void land(uint8_t *image, size_t records)
+{
+    static const uint8_t barrier[8] = {255, 255, 255, 255, 255, 255, 255, 255};
+    size_t at, i, sector;
+
+    for (at = 0; at < records * 520; at += 520) {
+        if (memcmp(wanted.bytes + at, barrier, 8) == 0)
+            continue;
+        sector = 0;
+        for (i = 0; i < 8; i++)
+            sector = sector << 8 | wanted.bytes[at + i];
+        memcpy(image + sector * 512, wanted.bytes + at + 8, 512);
+    }
+}
+
+/* -------------------- calls, with all they may touch */
+
+enum kind { CREATE, DELETE, RESIZE, WRITE };
+
+struct change {
+    enum kind kind;
+    const char *name;
+    uint64_t id;
+    uint32_t mode, time;
+    uint64_t at; /* of a write the offset, of a resize the new size */
+    const uint8_t *data;
+    size_t data_length;
+};
+
+static goofs_change_result call(const struct change *c, uint8_t *list, size_t room)
+{
+    const uint8_t *name = (const uint8_t *)c->name;
+    size_t length = strlen(c->name);
+
+    switch (c->kind) {
+    case CREATE:
+        return goofs_create(medium.bytes, IMAGE, name, length, c->id, c->mode, c->time, list, room);
+    case DELETE:
+        return goofs_delete(medium.bytes, IMAGE, name, length, c->time, list, room);
+    case RESIZE:
+        return goofs_resize(medium.bytes, IMAGE, name, length, c->at, c->time, list, room);
+    default:
+        return goofs_write(medium.bytes, IMAGE, name, length, c->at, c->data, c->data_length, c->time, list, room);
+    }
+}
+
+static size_t longest(enum kind kind)
+{
+    switch (kind) {
+    case CREATE:
+        return GOOFS_CREATE_LIST;
+    case DELETE:
+        return GOOFS_DELETE_LIST;
+    case RESIZE:
+        return GOOFS_RESIZE_LIST;
+    default:
+        return GOOFS_WRITE_LIST;
+    }
+}
+
+/* The change gives the wanted list, into a list that has just its length, and into one as long as the header's macro; one byte
+ * less is 14, and so is no list at all. The image is only read. Then the list lands on it, which leaves a sound volume. */
+static void gives(struct change c)
+{
+    size_t room[2];
+    int i;
+
+    hold();
+    room[0] = wanted.length;
+    room[1] = longest(c.kind);
+    if (wanted.length > 0) {
+        lend();
+        IS(goofs_change_result, call(&c, lent.bytes, wanted.length - 1), .code = 14);
+        lent_is(__LINE__, NULL, 0);
+        IS(goofs_change_result, call(&c, NULL, 0), .code = 14);
+    } else {
+        IS(goofs_change_result, call(&c, NULL, 0), .code = 0, .length = 0);
+    }
+    for (i = 0; i < 2; i++) {
+        lend();
+        IS(goofs_change_result, call(&c, lent.bytes, room[i]), .code = 0, .length = wanted.length);
+        lent_is(__LINE__, wanted.bytes, wanted.length);
+    }
+    held_is(__LINE__);
+    NUMBER(goofs_carry_out(medium.bytes, IMAGE, lent.bytes, wanted.length), 0);
+    land(held.bytes, wanted.length / 520);
+    held_is(__LINE__);
+    IS(goofs_check_result, goofs_check(medium.bytes, IMAGE), .code = 0);
+}
+
+/* The change is refused, with any list: 14 is the highest number and the lowest that holds is given. No byte changes. */
+static void refused(uint64_t code, struct change c)
+{
+    hold();
+    lend();
+    IS(goofs_change_result, call(&c, lent.bytes, sizeof lent.bytes), .code = code);
+    IS(goofs_change_result, call(&c, NULL, 0), .code = code);
+    lent_is(__LINE__, NULL, 0);
+    held_is(__LINE__);
+}
+
+/* Done without looking at the list: the way to a volume on which something else is tried. */
+static void made(struct change c)
+{
+    goofs_change_result answer = call(&c, lent.bytes, sizeof lent.bytes);
+
+    NUMBER(answer.code, 0);
+    NUMBER(goofs_carry_out(medium.bytes, IMAGE, lent.bytes, (size_t)answer.length), 0);
+}
+
+#define GIVES(...) (from = __LINE__, gives((struct change){__VA_ARGS__}))
+#define REFUSED(code, ...) (from = __LINE__, refused((code), (struct change){__VA_ARGS__}))
+#define MADE(...) (from = __LINE__, made((struct change){__VA_ARGS__}))
+
+/* Find and list give the entry; its name is copied to an output that has just its length, and to a longer one. */
+static void entry_is(uint64_t index, struct entry e)
+{
+    const uint8_t *name = (const uint8_t *)e.name;
+    size_t length = strlen(e.name), room;
+
+    hold();
+    IS(goofs_find_result, goofs_find(medium.bytes, IMAGE, name, length), .code = 0, .index = index, .size = e.size,
+       .version = e.version, .id = e.id, .mode = e.mode, .access_time = e.access_time, .change_time = e.change_time,
+       .name_length = length);
+    lend();
+    IS(goofs_list_result, goofs_list(medium.bytes, IMAGE, index, lent.bytes, length - 1), .code = 14);
+    IS(goofs_list_result, goofs_list(medium.bytes, IMAGE, index, NULL, 0), .code = 14);
+    lent_is(__LINE__, NULL, 0);
+    for (room = length; room <= length + 1; room++) {
+        lend();
+        IS(goofs_list_result, goofs_list(medium.bytes, IMAGE, index, lent.bytes, room), .code = 0, .size = e.size,
+           .version = e.version, .id = e.id, .mode = e.mode, .access_time = e.access_time, .change_time = e.change_time,
+           .name_length = length);
+        lent_is(__LINE__, name, length);
+    }
+    held_is(__LINE__);
+}
+
+#define ENTRY_IS(index, ...) (from = __LINE__, entry_is((index), (struct entry){__VA_ARGS__}))
+
+/* A read gives these bytes, into an output that has just their length, and into a longer one. */
+static void reads(const char *name, uint64_t offset, uint64_t count, const uint8_t *expected, size_t length)
+{
+    const uint8_t *n = (const uint8_t *)name;
+    size_t room;
+
+    hold();
+    lend();
+    if (length > 0) {
+        IS(goofs_read_result, goofs_read(medium.bytes, IMAGE, n, strlen(name), offset, count, lent.bytes, length - 1), .code = 14);
+        IS(goofs_read_result, goofs_read(medium.bytes, IMAGE, n, strlen(name), offset, count, NULL, 0), .code = 14);
+    } else {
+        IS(goofs_read_result, goofs_read(medium.bytes, IMAGE, n, strlen(name), offset, count, NULL, 0), .code = 0, .count = 0);
+    }
+    lent_is(__LINE__, NULL, 0);
+    for (room = length; room <= length + 1; room++) {
+        lend();
+        IS(goofs_read_result, goofs_read(medium.bytes, IMAGE, n, strlen(name), offset, count, lent.bytes, room), .code = 0,
+           .count = length);
+        lent_is(__LINE__, expected, length);
+    }
+    held_is(__LINE__);
+}
+
+#define READS (from = __LINE__, reads)
+
+static void read_refused(uint64_t code, const char *name, uint64_t offset, uint64_t count)
+{
+    const uint8_t *n = (const uint8_t *)name;
+
+    hold();
+    lend();
+    IS(goofs_read_result,
+       goofs_read(medium.bytes, IMAGE, n, strlen(name), offset, count, lent.bytes, sizeof lent.bytes), .code = code);
+    IS(goofs_read_result, goofs_read(medium.bytes, IMAGE, n, strlen(name), offset, count, NULL, 0), .code = code);
+    lent_is(__LINE__, NULL, 0);
+    held_is(__LINE__);
+}
+
+#define READ_REFUSED (from = __LINE__, read_refused)
+
+enum { NOT_THESE = 0, SUMMARY = 1, RECOVER = 2 };
+
+/* check, find, list, read, create, delete, resize and write, and those that are named besides, refuse the image. Arguments that
+ * are bad in every other way change nothing, as the lowest number is given. */
+static void all_refuse(int besides, const uint8_t *image, size_t length, uint64_t code, uint64_t fault, uint64_t place)
+{
+    static const uint8_t beam[] = "beam", created[] = "new", one[] = "1";
+    int bad;
+
+    hold();
+    lend();
+    if (besides & SUMMARY)
+        IS(goofs_summary_result, goofs_summary(image, length), .code = code);
+    IS(goofs_check_result, goofs_check(image, length), .code = code, .fault = fault, .place = place);
+    for (bad = 0; bad < 2; bad++) {
+        const uint8_t *name = bad ? NULL : beam, *new_name = bad ? NULL : created, *data = bad ? NULL : one;
+        size_t name_length = bad ? 0 : 4, new_length = bad ? 0 : 3, data_length = bad ? 0 : 1, room = bad ? 0 : sizeof lent.bytes;
+        uint64_t number = bad ? UINT64_MAX : 0;
+        uint8_t *out = bad ? NULL : lent.bytes;
+
+        IS(goofs_find_result, goofs_find(image, length, name, name_length), .code = code, .fault = fault, .place = place);
+        IS(goofs_list_result, goofs_list(image, length, number, out, room), .code = code, .fault = fault, .place = place);
+        IS(goofs_read_result, goofs_read(image, length, name, name_length, number, number, out, room), .code = code, .fault = fault,
+           .place = place);
+        IS(goofs_change_result, goofs_create(image, length, new_name, new_length, bad ? 0 : 99, 0, 0, out, room), .code = code,
+           .fault = fault, .place = place);
+        IS(goofs_change_result, goofs_delete(image, length, name, name_length, 0, out, room), .code = code, .fault = fault,
+           .place = place);
+        IS(goofs_change_result, goofs_resize(image, length, name, name_length, number, 0, out, room), .code = code, .fault = fault,
+           .place = place);
+        IS(goofs_change_result, goofs_write(image, length, name, name_length, number, data, data_length, 0, out, room),
+           .code = code, .fault = fault, .place = place);
+        if (besides & RECOVER)
+            IS(goofs_length_result, goofs_recover(image, length, out, room), .code = code);
+    }
+    lent_is(__LINE__, NULL, 0);
+    held_is(__LINE__);
+}
+
+#define ALL_REFUSE (from = __LINE__, all_refuse)
+
+/* -------------------- the volume to begin with */
+
+/* The record of this position of the sample's format. */
+static void want_format_record(uint64_t position)
+{
+    uint8_t sector[512];
+
+    wanted.length = 0;
+    if (position == 1 || position == 259 || position == 261) {
+        want_barrier();
+    } else if (position == 0 || position == 260) {
+        superblock(sector, position == 0 ? 65535 : 0);
+        want(0, sector);
+    } else if (position == 2) {
+        root(sector, 0, ROOT_TIME);
+        want(1, sector);
+    } else if (position < 258) { /* 255 directory sectors, from sector 2 on */
+        memset(sector, 0, 512);
+        want(position - 1, sector);
+    } else {
+        memset(sector, 255, 512);
+        want(289, sector);
+    }
+}
+
+static goofs_length_result sample_record(uint64_t position, uint8_t *out, size_t room)
+{
+    return goofs_format_record(1313, 255, ROOT_ID, ROOT_MODE, ROOT_TIME, position, out, room);
+}
+
+static void blank_medium(void) { memset(&medium, MEDIUM, sizeof medium); }
+
+static void sample(void)
+{
+    uint64_t position;
+
+    volume.files = 255;
+    volume.extents = 4;
+    volume.extent_sectors = 128;
+    volume.journal_at = 257;
+    volume.reserve_at = 674;
+    blank_medium();
+    for (position = 0; sample_record(position, lent.bytes, 520).code == 0; position++)
+        NUMBER(goofs_carry_out(medium.bytes, IMAGE, lent.bytes, 520), 0);
+}
+
+/* 65,536 bytes, of which no sector is like another. */
+static uint8_t data[GOOFS_LONGEST_TRANSFER + 1];
+
+static void make_data(void)
+{
+    size_t i;
+
+    for (i = 0; i < sizeof data; i++)
+        data[i] = (uint8_t)((i * 7 + i / 512 * 3) & 255);
+}
+
+/* The sample with two files: "beam", 3,000 bytes in extent 0, and "gain", empty. */
+static void two_files(void)
+{
+    sample();
+    MADE(CREATE, "beam", .id = BEAM_ID, .mode = BEAM_MODE, .time = 1001);
+    MADE(WRITE, "beam", .at = 0, .data = data, .data_length = 3000, .time = 1002);
+    MADE(CREATE, "gain", .id = GAIN_ID, .mode = GAIN_MODE, .time = 1003);
+}
+
+/* -------------------- the tests */
+
+static void sizes_of_results(void)
+{
+    NUMBER(sizeof(goofs_summary_result), 48); /* 6 numbers of 8 bytes */
+    NUMBER(sizeof(goofs_check_result), 24);   /* 3 */
+    NUMBER(sizeof(goofs_find_result), 88);    /* 11 */
+    NUMBER(sizeof(goofs_list_result), 80);    /* 10 */
+    NUMBER(sizeof(goofs_read_result), 32);    /* 4 */
+    NUMBER(sizeof(goofs_change_result), 32);  /* 4 */
+    NUMBER(sizeof(goofs_length_result), 16);  /* 2 */
+}
+
+static void macros(void)
+{
+    NUMBER(GOOFS_SECTOR, 512);
+    NUMBER(GOOFS_RECORD, 520);
+    NUMBER(GOOFS_LONGEST_NAME, 476);
+    NUMBER(GOOFS_LONGEST_TRANSFER, 65536);
+    NUMBER(GOOFS_BARRIER, UINT64_C(18446744073709551615));
+    NUMBER(GOOFS_CREATE_LIST, 5720);    /* 2 copies, journal, start mark, 2 targets, end mark, 4 barriers: 11 records */
+    NUMBER(GOOFS_DELETE_LIST, 546520);  /* 514 copies, 17 journal sectors, 2 marks, 514 targets, 4 barriers: 1,051 */
+    NUMBER(GOOFS_RESIZE_LIST, 545480);  /* 513 copies, 17 journal sectors, 2 marks, 513 targets, 4 barriers: 1,049 */
+    NUMBER(GOOFS_WRITE_LIST, 72800);    /* 129 data sectors, 2 copies, journal, 2 marks, 2 targets, 4 barriers: 140 */
+    NUMBER(GOOFS_RECOVER_LIST, 534040); /* 1,024 targets, end mark, 2 barriers: 1,027 */
+}
+
+static void format_position_by_position(void)
+{
+    uint64_t position;
+
+    sample(); /* sets the geometry */
+    blank_medium();
+    ALL_REFUSE(SUMMARY | RECOVER, medium.bytes, IMAGE, 2, 0, 0);
+    hold();
+    for (position = 0; position < 262; position++) { /* 1 + 1 + 1 + 255 + 1 + 1 + 1 + 1 records */
+        want_format_record(position);
+        lend();
+        IS(goofs_length_result, sample_record(position, lent.bytes, 519), .code = 14);
+        IS(goofs_length_result, sample_record(position, NULL, 0), .code = 14);
+        lent_is(__LINE__, NULL, 0);
+        IS(goofs_length_result, sample_record(position, lent.bytes, position % 2 == 0 ? 520 : sizeof lent.bytes), .code = 0,
+           .length = 520);
+        lent_is(__LINE__, wanted.bytes, 520);
+        NUMBER(goofs_carry_out(medium.bytes, IMAGE, lent.bytes, 520), 0);
+        land(held.bytes, 1);
+        held_is(__LINE__);
+        if (position == 1 || position == 259) { /* from the first superblock on until the second, the volume is unfinished */
+            IS(goofs_summary_result, goofs_summary(medium.bytes, IMAGE), .files = 255, .extents = 4, .extent_sectors = 128,
+               .state = 3);
+            ALL_REFUSE(RECOVER, medium.bytes, IMAGE, 4, 0, 0);
+        }
+    }
+    lend();
+    IS(goofs_length_result, sample_record(262, lent.bytes, sizeof lent.bytes), .code = 9);
+    IS(goofs_length_result, sample_record(262, NULL, 0), .code = 9);
+    IS(goofs_length_result, sample_record(UINT64_MAX, lent.bytes, sizeof lent.bytes), .code = 9);
+    lent_is(__LINE__, NULL, 0);
+    IS(goofs_summary_result, goofs_summary(medium.bytes, IMAGE), .files = 255, .extents = 4, .extent_sectors = 128);
+    IS(goofs_check_result, goofs_check(medium.bytes, IMAGE), .code = 0);
+    IS(goofs_length_result, goofs_recover(medium.bytes, IMAGE, NULL, 0), .code = 0);
+    /* The journal (257 to 288), the data (from 290) and the tail were not written, as the format names them not. */
+    filled(__LINE__, "the journal", medium.bytes + 257 * 512, MEDIUM, 32 * 512);
+    filled(__LINE__, "the data and the tail", medium.bytes + 290 * 512, MEDIUM, (1313 - 290) * 512);
+}
+
+/* The geometry that a format gives, from its first record. */
+static void geometry_is(uint64_t sectors, uint64_t files, uint64_t extents, uint64_t extent_sectors)
+{
+    volume.files = files;
+    volume.extents = extents;
+    volume.extent_sectors = extent_sectors;
+    wanted.length = 0;
+    want(0, (superblock(held.bytes, 65535), held.bytes));
+    lend();
+    IS(goofs_length_result, goofs_format_record(sectors, files, 0, 0, 0, 0, lent.bytes, 520), .code = 0, .length = 520);
+    lent_is(__LINE__, wanted.bytes, 520);
+}
+
+static void no_geometry(uint64_t sectors, uint64_t files)
+{
+    lend();
+    IS(goofs_length_result, goofs_format_record(sectors, files, 1, 0, 0, 0, lent.bytes, sizeof lent.bytes), .code = 8);
+    IS(goofs_length_result, goofs_format_record(sectors, files, 1, 0, 0, UINT64_MAX, NULL, 0), .code = 8);
+    lent_is(__LINE__, NULL, 0);
+}
+
+static void geometries(void)
+{
+    from = __LINE__;
+    geometry_is(1057, 255, 2, 128);                                 /* P2 */
+    no_geometry(1056, 255);                                         /* P3 */
+    geometry_is(8389408, 255, 65535, 128);                          /* P4 */
+    geometry_is(8389409, 255, 32768, 256);                          /* P5 */
+    geometry_is(UINT64_C(140737488356128), 255, 65535, 2147483648); /* 2^47 + 800: G = 2^47 - 1, so S = 2^31 */
+    no_geometry(UINT64_C(140737488356129), 255);                    /* G = 2^47: 65,536 extents of 2^31, the last S */
+    geometry_is(1826, 1024, 2, 128);                                /* G = 1826 - 546 - 1024 = 256 */
+    no_geometry(1313, 254);
+    no_geometry(1000000, 1025);
+    no_geometry(1313, UINT64_C(4294967551)); /* 2^32 + 255: not cut to 32 bits */
+    no_geometry(0, 255);
+    no_geometry(UINT64_MAX, 255);
+}
+
+static void first_create(void)
+{
+    static const uint64_t order[11] = {674, 675, 257, UINT64_MAX, 0, UINT64_MAX, 1, 2, UINT64_MAX, 0, UINT64_MAX}; /* P6 */
+    uint8_t contents[2][512], sector[8];
+    size_t k;
+
+    sample();
+    wanted.length = 0;
+    root(contents[0], 1, 1001);
+    entry(contents[1], (struct entry){.id = BEAM_ID, .mode = BEAM_MODE, .access_time = 1001, .change_time = 1001, .name = "beam"});
+    want_commit(2, (const uint64_t[]){1, 2}, contents);
+    NUMBER(wanted.length, 5720);
+    GIVES(CREATE, "beam", .id = BEAM_ID, .mode = BEAM_MODE, .time = 1001);
+    for (k = 0; k < 11; k++) {
+        put(sector, 8, order[k]);
+        bytes(__LINE__, "the sector of a record", lent.bytes + 520 * k, sector, 8);
+    }
+    ENTRY_IS(0, .id = BEAM_ID, .mode = BEAM_MODE, .access_time = 1001, .change_time = 1001, .name = "beam");
+    READS("beam", 0, 65536, NULL, 0);
+
+    /* The second file takes the next entry, sector 3; the root is changed again. */
+    wanted.length = 0;
+    root(contents[0], 2, 1003);
+    entry(contents[1], (struct entry){.id = GAIN_ID, .mode = GAIN_MODE, .access_time = 1003, .change_time = 1003, .name = "gain"});
+    want_commit(2, (const uint64_t[]){1, 3}, contents);
+    GIVES(CREATE, "gain", .id = GAIN_ID, .mode = GAIN_MODE, .time = 1003);
+    ENTRY_IS(1, .id = GAIN_ID, .mode = GAIN_MODE, .access_time = 1003, .change_time = 1003, .name = "gain");
+
+    REFUSED(10, CREATE, "beam", .id = 5); /* the name is there */
+    REFUSED(10, CREATE, "new", .id = BEAM_ID);
+    REFUSED(10, CREATE, "new", .id = ROOT_ID);
+    REFUSED(8, CREATE, "new", .id = 0);
+}
+
+static void writes_and_reads(void)
+{
+    static uint8_t expected[3050];
+    uint8_t contents[2][512], sector[512];
+    size_t k;
+
+    sample();
+    MADE(CREATE, "beam", .id = BEAM_ID, .mode = BEAM_MODE, .time = 1001);
+
+    /* 3,000 bytes: 5 whole sectors of extent 0 and 440 bytes of a sixth, whose other 72 stay. The entry and the table change.
+     * 6 data sectors, 2 copies, a journal sector, 2 marks, 2 targets, 4 barriers: 17 records. */
+    wanted.length = 0;
+    for (k = 0; k < 6; k++) {
+        memset(sector, MEDIUM, 512);
+        memcpy(sector, data + 512 * k, k < 5 ? 512 : 440);
+        want(290 + k, sector);
+    }
+    entry(contents[0], (struct entry){.size = 3000, .version = 1, .id = BEAM_ID, .mode = BEAM_MODE, .access_time = 1001,
+                                      .change_time = 1002, .name = "beam"});
+    table(contents[1], 0, FREE, FREE, FREE);
+    want_commit(2, (const uint64_t[]){2, 289}, contents);
+    NUMBER(wanted.length, 8840);
+    GIVES(WRITE, "beam", .at = 0, .data = data, .data_length = 3000, .time = 1002);
+    ENTRY_IS(0, .size = 3000, .version = 1, .id = BEAM_ID, .mode = BEAM_MODE, .access_time = 1001, .change_time = 1002,
+             .name = "beam");
+
+    /* 100 bytes at 2,950, all in the sixth sector, at its byte 390: no new extent, so the entry is the one target.
+     * 1 data sector, a copy, a journal sector, 2 marks, a target, 4 barriers: 10 records. */
+    wanted.length = 0;
+    memcpy(sector + 390, data + 40000, 100);
+    want(295, sector);
+    entry(contents[0], (struct entry){.size = 3050, .version = 2, .id = BEAM_ID, .mode = BEAM_MODE, .access_time = 1001,
+                                      .change_time = 900, .name = "beam"}); /* the clock may go back */
+    want_commit(1, (const uint64_t[]){2}, contents);
+    NUMBER(wanted.length, 5200);
+    GIVES(WRITE, "beam", .at = 2950, .data = data + 40000, .data_length = 100, .time = 900);
+
+    memcpy(expected, data, 2950);
+    memcpy(expected + 2950, data + 40000, 100);
+    READS("beam", 0, 65536, expected, 3050);
+    READS("beam", 2940, 20, expected + 2940, 20);
+    READS("beam", 3000, 65536, expected + 3000, 50); /* 3,050 - 3,000 */
+    READS("beam", 3050, 1, NULL, 0);
+    READS("beam", 0, 0, NULL, 0);
+    READ_REFUSED(12, "beam", 3051, 0);
+    READ_REFUSED(12, "beam", UINT64_C(4294967296), 1); /* 2^32, not cut to 32 bits */
+    READ_REFUSED(12, "beam", UINT64_MAX, 65536);
+    READ_REFUSED(8, "beam", 0, 65537);
+    READ_REFUSED(8, "beam", 0, UINT64_C(4294967296));
+    READ_REFUSED(9, "bea", 0, 1);
+
+    wanted.length = 0; /* nothing to write: an empty list, and the entry stays */
+    GIVES(WRITE, "beam", .at = 3050, .data = NULL, .data_length = 0, .time = 1009);
+    ENTRY_IS(0, .size = 3050, .version = 2, .id = BEAM_ID, .mode = BEAM_MODE, .access_time = 1001, .change_time = 900,
+             .name = "beam");
+    REFUSED(12, WRITE, "beam", .at = 3051, .data = NULL, .data_length = 0);
+    REFUSED(12, WRITE, "beam", .at = UINT64_C(4294967296), .data = data, .data_length = 1);
+    REFUSED(8, WRITE, "beam", .at = 0, .data = data, .data_length = 65537); /* P7 */
+    REFUSED(9, WRITE, "beams", .at = 0, .data = data, .data_length = 1);
+}
+
+static void longest_write(void)
+{
+    uint8_t contents[2][512], sector[512];
+    size_t k;
+
+    sample();
+    MADE(CREATE, "gain", .id = GAIN_ID, .mode = GAIN_MODE, .time = 1003);
+
+    /* P7: 128 data sectors, 2 copies, a journal sector, 2 marks, 2 targets, 4 barriers. */
+    wanted.length = 0;
+    for (k = 0; k < 128; k++)
+        want(290 + k, data + 512 * k);
+    entry(contents[0], (struct entry){.size = 65536, .version = 1, .id = GAIN_ID, .mode = GAIN_MODE, .access_time = 1003,
+                                      .change_time = 1004, .name = "gain"});
+    table(contents[1], 0, FREE, FREE, FREE);
+    want_commit(2, (const uint64_t[]){2, 289}, contents);
+    NUMBER(wanted.length, 139 * 520);
+    GIVES(WRITE, "gain", .at = 0, .data = data, .data_length = 65536, .time = 1004);
+    READS("gain", 0, 65536, data, 65536);
+
+    /* The same at offset 1 reaches one byte into a second extent, which is extent 1 from sector 418 on with the offset 1 in the
+     * file: 129 data sectors, so the longest list that a write gives. */
+    wanted.length = 0;
+    for (k = 0; k < 128; k++) {
+        sector[0] = k == 0 ? data[0] : data[512 * k - 1];
+        memcpy(sector + 1, data + 512 * k, 511);
+        want(290 + k, sector);
+    }
+    memset(sector, MEDIUM, 512);
+    sector[0] = data[65535];
+    want(418, sector);
+    entry(contents[0], (struct entry){.size = 65537, .version = 2, .id = GAIN_ID, .mode = GAIN_MODE, .access_time = 1003,
+                                      .change_time = 1005, .name = "gain"});
+    table(contents[1], 0, 1, FREE, FREE);
+    want_commit(2, (const uint64_t[]){2, 289}, contents);
+    NUMBER(wanted.length, 140 * 520);
+    GIVES(WRITE, "gain", .at = 1, .data = data, .data_length = 65536, .time = 1005);
+    READS("gain", 1, 65536, data, 65536); /* over the extents' edge */
+}
+
+static void no_free_extent(void)
+{
+    static const char *const names[3] = {"beam", "gain", "temperature"};
+    uint32_t k;
+
+    sample();
+    for (k = 0; k < 3; k++) {
+        MADE(CREATE, names[k], .id = 10 + k, .time = 1001);
+        MADE(WRITE, names[k], .at = 0, .data = data, .data_length = 65536, .time = 1002);
+    }
+    REFUSED(13, WRITE, "gain", .at = 65536, .data = data, .data_length = 1); /* P8: the fourth extent is the reserve */
+    REFUSED(13, RESIZE, "gain", .at = 65537);
+    MADE(WRITE, "gain", .at = 65535, .data = data, .data_length = 1); /* needs no extent */
+    MADE(DELETE, "beam", .time = 1003);
+    MADE(WRITE, "gain", .at = 65536, .data = data, .data_length = 1); /* P9 */
+    READS("temperature", 0, 65536, data, 65536);
+}
+
+static void resizes(void)
+{
+    uint8_t contents[2][512], zeros[512] = {0};
+    static uint8_t expected[65536];
+    size_t k;
+
+    two_files();
+
+    /* "gain" grows by 65,536: a write of zeros into extent 1, the lowest free, from sector 418 on. */
+    wanted.length = 0;
+    for (k = 0; k < 128; k++)
+        want(418 + k, zeros);
+    entry(contents[0], (struct entry){.size = 65536, .version = 1, .id = GAIN_ID, .mode = GAIN_MODE, .access_time = 1003,
+                                      .change_time = 1004, .name = "gain"});
+    table(contents[1], 0, UINT64_C(0x00010000), FREE, FREE);
+    want_commit(2, (const uint64_t[]){3, 289}, contents);
+    NUMBER(wanted.length, 139 * 520);
+    GIVES(RESIZE, "gain", .at = 65536, .time = 1004);
+    READS("gain", 0, 65536, expected, 65536);
+
+    /* "beam" shrinks to 700 bytes, C stays 1: only the entry changes. A copy, a journal sector, 2 marks, a target, 4 barriers: 9
+     * records. */
+    wanted.length = 0;
+    entry(contents[0], (struct entry){.size = 700, .version = 2, .id = BEAM_ID, .mode = BEAM_MODE, .access_time = 1001,
+                                      .change_time = 1005, .name = "beam"});
+    want_commit(1, (const uint64_t[]){2}, contents);
+    NUMBER(wanted.length, 4680);
+    GIVES(RESIZE, "beam", .at = 700, .time = 1005);
+    READS("beam", 0, 65536, data, 700);
+
+    /* To 0: its extent is freed. 2 copies, a journal sector, 2 marks, 2 targets, 4 barriers: 11 records. */
+    wanted.length = 0;
+    entry(contents[0], (struct entry){.size = 0, .version = 3, .id = BEAM_ID, .mode = BEAM_MODE, .access_time = 1001,
+                                      .change_time = 1006, .name = "beam"});
+    table(contents[1], FREE, UINT64_C(0x00010000), FREE, FREE);
+    want_commit(2, (const uint64_t[]){2, 289}, contents);
+    NUMBER(wanted.length, 5720);
+    GIVES(RESIZE, "beam", .at = 0, .time = 1006);
+    ENTRY_IS(0, .size = 0, .version = 3, .id = BEAM_ID, .mode = BEAM_MODE, .access_time = 1001, .change_time = 1006,
+             .name = "beam");
+
+    wanted.length = 0;
+    GIVES(RESIZE, "gain", .at = 65536, .time = 1007); /* the same size */
+    REFUSED(8, RESIZE, "beam", .at = 65537);
+    REFUSED(8, RESIZE, "gain", .at = UINT64_C(4294967296)); /* 2^32 */
+    REFUSED(9, RESIZE, "temperature", .at = 65537);
+}
+
+static void deletes(void)
+{
+    uint8_t contents[3][512];
+
+    two_files();
+    /* The root (its version raised the third time), the entry, the table. 3 copies, a journal sector, 2 marks, 3 targets,
+     * 4 barriers: 13 records. */
+    wanted.length = 0;
+    root(contents[0], 3, 1004);
+    memset(contents[1], 0, 512);
+    table(contents[2], FREE, FREE, FREE, FREE);
+    want_commit(3, (const uint64_t[]){1, 2, 289}, contents);
+    NUMBER(wanted.length, 6760);
+    GIVES(DELETE, "beam", .time = 1004);
+    IS(goofs_find_result, goofs_find(medium.bytes, IMAGE, (const uint8_t *)"beam", 4), .code = 9);
+    lend();
+    IS(goofs_list_result, goofs_list(medium.bytes, IMAGE, 0, lent.bytes, sizeof lent.bytes), .code = 9); /* a free entry */
+    IS(goofs_list_result, goofs_list(medium.bytes, IMAGE, 254, lent.bytes, sizeof lent.bytes), .code = 9);
+    IS(goofs_list_result, goofs_list(medium.bytes, IMAGE, 255, lent.bytes, sizeof lent.bytes), .code = 8);
+    IS(goofs_list_result, goofs_list(medium.bytes, IMAGE, UINT64_C(4294967297), lent.bytes, sizeof lent.bytes),
+       .code = 8); /* 2^32 + 1 is not entry 1 */
+    lent_is(__LINE__, NULL, 0);
+    REFUSED(9, DELETE, "beam", .time = 1005);
+
+    /* A file without extents: the table is no target. 2 copies: 11 records. The mode and the times of the root stay but one. */
+    wanted.length = 0;
+    root(contents[0], 4, 1005);
+    want_commit(2, (const uint64_t[]){1, 3}, contents);
+    NUMBER(wanted.length, 5720);
+    GIVES(DELETE, "gain", .time = 1005);
+}
+
+/* Group A alone landed, which is all before the first barrier: nothing has happened. */
+static void cut_before_the_start_mark(void)
+{
+    uint8_t contents[2][512];
+
+    two_files();
+    wanted.length = 0;
+    root(contents[0], 3, 1004);
+    entry(contents[1], (struct entry){.id = 77, .access_time = 1004, .change_time = 1004, .name = "new"});
+    want_commit(2, (const uint64_t[]){1, 4}, contents);
+    NUMBER(goofs_carry_out(medium.bytes, IMAGE, wanted.bytes, 4 * 520), 0); /* 2 copies, journal, barrier */
+    IS(goofs_summary_result, goofs_summary(medium.bytes, IMAGE), .files = 255, .extents = 4, .extent_sectors = 128);
+    IS(goofs_check_result, goofs_check(medium.bytes, IMAGE), .code = 0);
+    lend();
+    IS(goofs_length_result, goofs_recover(medium.bytes, IMAGE, NULL, 0), .code = 0, .length = 0);
+    IS(goofs_length_result, goofs_recover(medium.bytes, IMAGE, lent.bytes, sizeof lent.bytes), .code = 0, .length = 0);
+    lent_is(__LINE__, NULL, 0);
+    IS(goofs_find_result, goofs_find(medium.bytes, IMAGE, (const uint8_t *)"new", 3), .code = 9);
+    GIVES(CREATE, "new", .id = 77, .time = 1004); /* the same list once more, now whole */
+}
+
+/* A delete of "beam" whose groups A and B landed. */
+static void cut_after_the_start_mark(void)
+{
+    static uint8_t whole[IMAGE], tail[3120];
+    uint8_t contents[3][512];
+    int landed;
+
+    two_files();
+    wanted.length = 0;
+    root(contents[0], 3, 1004);
+    memset(contents[1], 0, 512);
+    table(contents[2], FREE, FREE, FREE, FREE);
+    want_commit(3, (const uint64_t[]){1, 2, 289}, contents);
+    lend();
+    IS(goofs_change_result, goofs_delete(medium.bytes, IMAGE, (const uint8_t *)"beam", 4, 1004, lent.bytes, 6760), .length = 6760);
+    lent_is(__LINE__, wanted.bytes, 6760);
+    memcpy(whole, medium.bytes, IMAGE);
+    land(whole, 13);
+
+    /* 3 copies, a journal sector, a barrier, the start mark, a barrier: 7 records landed. The other 6, which are 3 targets, a
+     * barrier, the end mark and a barrier, are what recovery gives: 3,120 bytes. */
+    memcpy(tail, wanted.bytes + 7 * 520, 3120);
+    for (landed = 0; landed <= 3; landed++) { /* so many targets too, of the change or of a recovery that was cut */
+        NUMBER(goofs_carry_out(medium.bytes, IMAGE, wanted.bytes, (size_t)(7 + landed) * 520), 0);
+        IS(goofs_summary_result, goofs_summary(medium.bytes, IMAGE), .files = 255, .extents = 4, .extent_sectors = 128, .state = 1,
+           .entries = 3);
+        ALL_REFUSE(NOT_THESE, medium.bytes, IMAGE, 5, 0, 0);
+        hold();
+        lend();
+        IS(goofs_length_result, goofs_recover(medium.bytes, IMAGE, lent.bytes, 3119), .code = 14);
+        IS(goofs_length_result, goofs_recover(medium.bytes, IMAGE, NULL, 0), .code = 14);
+        lent_is(__LINE__, NULL, 0);
+        IS(goofs_length_result, goofs_recover(medium.bytes, IMAGE, lent.bytes, 3120), .code = 0, .length = 3120);
+        lent_is(__LINE__, tail, 3120);
+        lend();
+        IS(goofs_length_result, goofs_recover(medium.bytes, IMAGE, lent.bytes, GOOFS_RECOVER_LIST), .code = 0, .length = 3120);
+        lent_is(__LINE__, tail, 3120);
+        held_is(__LINE__);
+    }
+    NUMBER(goofs_carry_out(medium.bytes, IMAGE, lent.bytes, 3120), 0);
+    bytes(__LINE__, "the image after recovery", medium.bytes, whole, IMAGE);
+    IS(goofs_check_result, goofs_check(medium.bytes, IMAGE), .code = 0);
+    IS(goofs_find_result, goofs_find(medium.bytes, IMAGE, (const uint8_t *)"beam", 4), .code = 9);
+    ENTRY_IS(1, .id = GAIN_ID, .mode = GAIN_MODE, .access_time = 1003, .change_time = 1003, .name = "gain");
+}
+
+static void bad_journals(void)
+{
+    /* The source and the target of the second entry, of which one is bad; 675 to 3 would be good. */
+    static const uint64_t bad[][2] = {
+        {289, 3},                    /* the source stands before the data, */
+        {802, 3},                    /* or behind it; */
+        {675, 0},                    /* the target is the superblock, */
+        {675, 257},                  /* the first */
+        {675, 288},                  /* or the last journal sector, */
+        {675, 290},                  /* a data sector, */
+        {675, UINT64_C(4294967299)}, /* 2^32 + 3, which must not be cut to 3, */
+        {675, 1},                    /* or the first entry's */
+    };
+    uint8_t *journal = medium.bytes + 257 * 512;
+    size_t k;
+
+    sample();
+    superblock(medium.bytes, 2);
+    put(journal, 8, 290);
+    put(journal + 8, 8, 1);
+    put(journal + 16, 8, 675);
+    put(journal + 24, 8, 3);
+    IS(goofs_length_result, goofs_recover(medium.bytes, IMAGE, lent.bytes, sizeof lent.bytes), .code = 0,
+       .length = 2600); /* 2 targets, the end mark, 2 barriers: 5 records */
+    for (k = 0; k < sizeof bad / sizeof *bad; k++) {
+        put(journal + 16, 8, bad[k][0]);
+        put(journal + 24, 8, bad[k][1]);
+        from = (int)k;
+        hold();
+        lend();
+        IS(goofs_length_result, goofs_recover(medium.bytes, IMAGE, lent.bytes, sizeof lent.bytes), .code = 6);
+        IS(goofs_length_result, goofs_recover(medium.bytes, IMAGE, NULL, 0), .code = 6);
+        lent_is(__LINE__, NULL, 0);
+        held_is(__LINE__);
+        ALL_REFUSE(NOT_THESE, medium.bytes, IMAGE, 5, 0, 0);
+    }
+    put(journal + 16, 8, 801); /* the last sector of the data */
+    put(journal + 24, 8, 289); /* the table */
+    IS(goofs_length_result, goofs_recover(medium.bytes, IMAGE, lent.bytes, 2600), .code = 0, .length = 2600);
+}
+
+static void states(void)
+{
+    two_files();
+    put(medium.bytes + 18, 2, 1024);
+    IS(goofs_summary_result, goofs_summary(medium.bytes, IMAGE), .files = 255, .extents = 4, .extent_sectors = 128, .state = 1,
+       .entries = 1024);
+    ALL_REFUSE(NOT_THESE, medium.bytes, IMAGE, 5, 0, 0);
+    put(medium.bytes + 18, 2, 1025);
+    IS(goofs_summary_result, goofs_summary(medium.bytes, IMAGE), .files = 255, .extents = 4, .extent_sectors = 128, .state = 2);
+    ALL_REFUSE(RECOVER, medium.bytes, IMAGE, 6, 0, 0);
+    put(medium.bytes + 18, 2, 65534);
+    IS(goofs_summary_result, goofs_summary(medium.bytes, IMAGE), .files = 255, .extents = 4, .extent_sectors = 128, .state = 2);
+    ALL_REFUSE(RECOVER, medium.bytes, IMAGE, 6, 0, 0);
+    put(medium.bytes + 18, 2, 65535);
+    IS(goofs_summary_result, goofs_summary(medium.bytes, IMAGE), .files = 255, .extents = 4, .extent_sectors = 128, .state = 3);
+    ALL_REFUSE(RECOVER, medium.bytes, IMAGE, 4, 0, 0);
+}
+
+static void images_refused(void)
+{
+    static const uint64_t fields[][3] = {/* place, width, value */
+                                         {0, 2, 254}, {0, 2, 1025}, {2, 2, 1}, {2, 2, 0}, {4, 4, 127}, {4, 4, 4294967295}};
+    size_t k;
+
+    two_files();
+    ALL_REFUSE(SUMMARY | RECOVER, NULL, 0, 1, 0, 0);
+    ALL_REFUSE(SUMMARY | RECOVER, medium.bytes, 0, 1, 0, 0);
+    ALL_REFUSE(SUMMARY | RECOVER, medium.bytes, 511, 1, 0, 0);
+    ALL_REFUSE(SUMMARY | RECOVER, medium.bytes, IMAGE - 1, 1, 0, 0);
+    ALL_REFUSE(SUMMARY | RECOVER, medium.bytes, 512, 3, 0, 0);       /* the superblock alone */
+    ALL_REFUSE(SUMMARY | RECOVER, medium.bytes, 801 * 512, 3, 0, 0); /* the volume has 802 sectors */
+    IS(goofs_check_result, goofs_check(medium.bytes, 802 * 512), .code = 0);
+    for (k = 0; k < sizeof fields / sizeof *fields; k++) {
+        two_files();
+        put(medium.bytes + fields[k][0], (int)fields[k][1], fields[k][2]);
+        ALL_REFUSE(SUMMARY | RECOVER, medium.bytes, IMAGE, 3, 0, 0);
+    }
+    two_files();
+    put(medium.bytes + 16, 2, 2); /* the version */
+    ALL_REFUSE(SUMMARY | RECOVER, medium.bytes, IMAGE, 2, 0, 0);
+    two_files();
+    medium.bytes[15] = '\\'; /* the magic's last byte */
+    ALL_REFUSE(SUMMARY | RECOVER, medium.bytes, IMAGE, 2, 0, 0);
+}
+
+static void faults(void)
+{
+    static const uint64_t damages[][5] = {
+        /* place, width, value, fault, place of the fault */
+        {2 * 512 + 5 * 512, 2, 1, 21, 5},                 /* mark of entry 5 */
+        {2 * 512 + 34, 2, 0, 22, 0},                      /* name length of "beam" */
+        {2 * 512 + 34, 2, 477, 22, 0},                    /* the same */
+        {2 * 512 + 37, 1, 0, 22, 0},                      /* a 0 in its name */
+        {3 * 512 + 2, 8, 196609, 22, 1},                  /* size of "gain" above 3 x 65,536 */
+        {3 * 512 + 36, 4, UINT64_C(0x6265616D), 23, 1},   /* "gain" named "beam" */
+        {3 * 512 + 14, 8, 0, 24, 1},                      /* id of "gain": 0, */
+        {3 * 512 + 14, 8, ROOT_ID, 24, 1},                /* the root's */
+        {3 * 512 + 14, 8, BEAM_ID, 24, 1},                /* that of "beam" */
+        {289 * 512 + 8, 4, UINT64_C(0x00090000), 25, 2},  /* extent 2 names file 9, which is free */
+        {289 * 512 + 12, 4, UINT64_C(0x00000001), 25, 3}, /* extent 3 is the reserve */
+        {289 * 512, 4, FREE, 26, 0},                      /* "beam" without its extent */
+        {289 * 512 + 4, 4, 0, 26, 0},                     /* offset 0 of "beam" twice */
+        {3 * 512 + 2, 8, 1, 26, 1},                       /* "gain" has one byte and no extent */
+    };
+    size_t k;
+
+    for (k = 0; k < sizeof damages / sizeof *damages; k++) {
+        two_files();
+        put(medium.bytes + damages[k][0], (int)damages[k][1], damages[k][2]);
+        ALL_REFUSE(NOT_THESE, medium.bytes, IMAGE, 7, damages[k][3], damages[k][4]);
+        IS(goofs_summary_result, goofs_summary(medium.bytes, IMAGE), .files = 255, .extents = 4, .extent_sectors = 128);
+        IS(goofs_length_result, goofs_recover(medium.bytes, IMAGE, NULL, 0), .code = 0); /* doesn't judge */
+    }
+    two_files(); /* what is not judged: a free entry's bytes, a free table entry's offset, table padding */
+    put(medium.bytes + 9 * 512 + 14, 8, ROOT_ID);
+    put(medium.bytes + 289 * 512 + 4, 4, UINT64_C(0xFFFF0000));
+    put(medium.bytes + 289 * 512 + 16, 4, 0);
+    IS(goofs_check_result, goofs_check(medium.bytes, IMAGE), .code = 0);
+}
+
+static void names(void)
+{
+    static uint8_t long_name[478];
+    goofs_change_result answer;
+
+    memset(long_name, 'n', 477);
+    two_files();
+    hold();
+    lend();
+    /* P10, and by length 0, with a null pointer or without */
+    IS(goofs_change_result, goofs_create(medium.bytes, IMAGE, long_name, 477, 5, 0, 0, lent.bytes, sizeof lent.bytes), .code = 8);
+    IS(goofs_find_result, goofs_find(medium.bytes, IMAGE, long_name, 477), .code = 8);
+    IS(goofs_find_result, goofs_find(medium.bytes, IMAGE, long_name, 476), .code = 9);
+    IS(goofs_find_result, goofs_find(medium.bytes, IMAGE, NULL, 0), .code = 8);
+    IS(goofs_find_result, goofs_find(medium.bytes, IMAGE, long_name, 0), .code = 8);
+    IS(goofs_read_result, goofs_read(medium.bytes, IMAGE, NULL, 0, 0, 0, NULL, 0), .code = 8);
+    IS(goofs_change_result, goofs_create(medium.bytes, IMAGE, NULL, 0, 5, 0, 0, NULL, 0), .code = 8);
+    IS(goofs_change_result, goofs_delete(medium.bytes, IMAGE, NULL, 0, 0, NULL, 0), .code = 8);
+    IS(goofs_change_result, goofs_resize(medium.bytes, IMAGE, NULL, 0, 0, 0, NULL, 0), .code = 8);
+    IS(goofs_change_result, goofs_write(medium.bytes, IMAGE, NULL, 0, 0, NULL, 0, 0, NULL, 0), .code = 8);
+    /* a name is its length's bytes, not a C string: "beam" with a 0 at its end has a 0 in it */
+    IS(goofs_find_result, goofs_find(medium.bytes, IMAGE, (const uint8_t *)"beam", 5), .code = 8);
+    lent_is(__LINE__, NULL, 0);
+    held_is(__LINE__);
+
+    answer = goofs_create(medium.bytes, IMAGE, long_name, 476, 5, 6, 7, lent.bytes, GOOFS_CREATE_LIST);
+    NUMBER(answer.code, 0);
+    NUMBER(goofs_carry_out(medium.bytes, IMAGE, lent.bytes, (size_t)answer.length), 0);
+    long_name[476] = 0;
+    ENTRY_IS(2, .id = 5, .mode = 6, .access_time = 7, .change_time = 7, .name = (const char *)long_name);
+}
+
+static void full_directory(void)
+{
+    char name[8];
+    uint32_t k;
+
+    sample();
+    for (k = 0; k < 255; k++) {
+        snprintf(name, sizeof name, "f%" PRIu32, k);
+        MADE(CREATE, name, .id = 1 + k, .time = k);
+    }
+    REFUSED(11, CREATE, "f255", .id = 256);
+    REFUSED(10, CREATE, "f254", .id = 256); /* lower numbers first */
+    REFUSED(10, CREATE, "f255", .id = 255);
+    ENTRY_IS(254, .id = 255, .access_time = 254, .change_time = 254, .name = "f254");
+    MADE(DELETE, "f100", .time = 1);
+    MADE(CREATE, "new", .id = 101, .time = 1000); /* an id may be used again; the lowest free entry is taken */
+    ENTRY_IS(100, .id = 101, .access_time = 1000, .change_time = 1000, .name = "new");
+}
+
+static void carrying_out(void)
+{
+    uint8_t first[512], second[512];
+
+    memset(first, 1, 512);
+    memset(second, 2, 512);
+    blank_medium();
+    hold();
+    NUMBER(goofs_carry_out(NULL, 0, NULL, 0), 1);
+    NUMBER(goofs_carry_out(medium.bytes, 511, NULL, 0), 1);
+    NUMBER(goofs_carry_out(medium.bytes, IMAGE - 1, NULL, 0), 1);
+    NUMBER(goofs_carry_out(medium.bytes, IMAGE, NULL, 0), 0); /* an empty list */
+    wanted.length = 0;
+    want(1312, first);
+    want_barrier();
+    NUMBER(goofs_carry_out(medium.bytes, 512, wanted.bytes, wanted.length), 8);       /* sector 1312 of an image of one */
+    NUMBER(goofs_carry_out(medium.bytes, IMAGE, wanted.bytes, wanted.length - 1), 8); /* a part of a record; the rest is good */
+    want(1313, first);                                                                /* the first sector behind the image */
+    NUMBER(goofs_carry_out(medium.bytes, IMAGE, wanted.bytes, wanted.length), 8);
+    wanted.length -= 520;
+    want(UINT64_C(36028797018963968), first); /* 2^55: its place in bytes is 2^64 */
+    NUMBER(goofs_carry_out(medium.bytes, IMAGE, wanted.bytes, wanted.length), 8);
+    wanted.bytes[2 * 520 - 1] = 1; /* the barrier's last byte */
+    NUMBER(goofs_carry_out(medium.bytes, IMAGE, wanted.bytes, 2 * 520), 8);
+    held_is(__LINE__); /* none has written anything */
+
+    wanted.length = 0;
+    want(1312, first);
+    want(7, first);
+    want_barrier();
+    want(7, second); /* the last write stays */
+    NUMBER(goofs_carry_out(medium.bytes, IMAGE, wanted.bytes, wanted.length), 0);
+    memset(held.bytes + 1312 * 512, 1, 512);
+    memset(held.bytes + 7 * 512, 2, 512);
+    held_is(__LINE__);
+}
+
+/* 1,024 journal entries, the most that a volume can wait with. It takes 1,024 files to have so many targets: with N = 2 and T = 1
+ * the journal starts at 1,026, the table is 1,058, the data are 1,059 to 1,314. Entry k copies sector 1,059 + k / 4 to 1,025 - k,
+ * so the journal isn't in order; the list is. */
+static void longest_recovery(void)
+{
+    uint8_t sector[512];
+    size_t k;
+
+    blank_medium();
+    volume.files = 1024;
+    volume.extents = 2;
+    volume.extent_sectors = 128;
+    superblock(medium.bytes, 1024);
+    for (k = 0; k < 1024; k++) {
+        put(medium.bytes + 1026 * 512 + 16 * k, 8, 1059 + k / 4);
+        put(medium.bytes + 1026 * 512 + 16 * k + 8, 8, 1025 - k);
+    }
+    /* The sample's medium has 1,313 sectors and this volume 1,315. */
+    IS(goofs_length_result, goofs_recover(medium.bytes, IMAGE, lent.bytes, sizeof lent.bytes), .code = 3);
+    {
+        static uint8_t image[1315 * 512];
+
+        memcpy(image, medium.bytes, IMAGE);
+        for (k = 0; k < 256; k++)
+            memset(image + (1059 + k) * 512, (int)k, 512);
+        wanted.length = 0;
+        for (k = 0; k < 1024; k++) { /* the targets 2 to 1,025; target t has the source of entry 1,025 - t */
+            memset(sector, (int)((1023 - k) / 4), 512);
+            want(2 + k, sector);
+        }
+        want_barrier();
+        superblock(sector, 0);
+        want(0, sector);
+        want_barrier();
+        NUMBER(wanted.length, 1027 * 520);
+        NUMBER(wanted.length, GOOFS_RECOVER_LIST);
+        IS(goofs_summary_result, goofs_summary(image, sizeof image), .files = 1024, .extents = 2, .extent_sectors = 128, .state = 1,
+           .entries = 1024);
+        lend();
+        IS(goofs_length_result, goofs_recover(image, sizeof image, lent.bytes, GOOFS_RECOVER_LIST - 1), .code = 14);
+        lent_is(__LINE__, NULL, 0);
+        IS(goofs_length_result, goofs_recover(image, sizeof image, lent.bytes, GOOFS_RECOVER_LIST), .code = 0, .length = 534040);
+        lent_is(__LINE__, wanted.bytes, 534040);
+        /* After the list has landed the volume is clean. The entries 0 to 3 are full of 255, so they have the mark of an occupied
+         * one; entry 4 is full of 254, and that is no mark. */
+        NUMBER(goofs_carry_out(image, sizeof image, lent.bytes, 534040), 0);
+        IS(goofs_summary_result, goofs_summary(image, sizeof image), .files = 1024, .extents = 2, .extent_sectors = 128);
+        IS(goofs_check_result, goofs_check(image, sizeof image), .code = 7, .fault = 21, .place = 4);
+    }
+}
+
+/* The largest volume with extents of 128 sectors: N = 65,535, T = 512, K = 5. Journal 257, table 289, data 801, reserve
+ * 801 + 65,530 x 128 = 8,388,641; 8,389,281 sectors. One file has all 65,530 usable extents, so its size is 65,530 x 65,536 bytes,
+ * and a delete touches every table sector. The image has more than 4 GiB, of which only a few pages are ever touched. */
+static int longest_delete_and_resize(void)
+{
+    const size_t length = (size_t)8389281 * 512;
+    static uint8_t contents[514][512];
+    static uint64_t targets[514];
+    uint8_t *image;
+    size_t k;
+
+    if (SIZE_MAX < UINT64_C(8389281) * 512)
+        return 0;
+    image = mmap(NULL, length, PROT_READ | PROT_WRITE, MAP_PRIVATE | MAP_ANONYMOUS | MAP_NORESERVE, -1, 0);
+    if (image == MAP_FAILED)
+        return 0;
+    volume.files = 255;
+    volume.extents = 65535;
+    volume.extent_sectors = 128;
+    volume.journal_at = 257;
+    volume.reserve_at = 8388641;
+    superblock(image, 0);
+    root(image + 512, 41, 1000);
+    entry(image + 2 * 512, (struct entry){.size = UINT64_C(4294574080), .version = UINT32_MAX, .id = 9, .name = "beam"});
+    memset(image + 289 * 512, 255, 512 * 512); /* all free */
+    for (k = 0; k < 65530; k++)
+        put(image + 289 * 512 + 4 * k, 4, 65529 - k); /* file 0, the extents in falling order */
+    IS(goofs_summary_result, goofs_summary(image, length), .files = 255, .extents = 65535, .extent_sectors = 128);
+    IS(goofs_check_result, goofs_check(image, length), .code = 0);
+
+    targets[0] = 1;
+    root(contents[0], 42, 1001);
+    targets[1] = 2;
+    for (k = 0; k < 512; k++) {
+        targets[2 + k] = 289 + k;
+        memset(contents[2 + k], 255, 512);
+    }
+    wanted.length = 0;
+    want_commit(514, targets, contents); /* the entry's contents are zeros */
+    NUMBER(wanted.length, 1051 * 520);
+    NUMBER(wanted.length, GOOFS_DELETE_LIST);
+    lend();
+    IS(goofs_change_result, goofs_delete(image, length, (const uint8_t *)"beam", 4, 1001, lent.bytes, GOOFS_DELETE_LIST - 1),
+       .code = 14);
+    lent_is(__LINE__, NULL, 0);
+    IS(goofs_change_result, goofs_delete(image, length, (const uint8_t *)"beam", 4, 1001, lent.bytes, GOOFS_DELETE_LIST), .code = 0,
+       .length = 546520);
+    lent_is(__LINE__, wanted.bytes, 546520);
+
+    /* To size 0: the entry and the table, and a version of 4,294,967,295 is followed by 0. */
+    entry(contents[1], (struct entry){.size = 0, .version = 0, .id = 9, .change_time = 1001, .name = "beam"});
+    wanted.length = 0;
+    want_commit(513, targets + 1, contents + 1);
+    NUMBER(wanted.length, 1049 * 520);
+    NUMBER(wanted.length, GOOFS_RESIZE_LIST);
+    lend();
+    IS(goofs_change_result, goofs_resize(image, length, (const uint8_t *)"beam", 4, 0, 1001, lent.bytes, GOOFS_RESIZE_LIST - 1),
+       .code = 14);
+    lent_is(__LINE__, NULL, 0);
+    IS(goofs_change_result, goofs_resize(image, length, (const uint8_t *)"beam", 4, 0, 1001, lent.bytes, GOOFS_RESIZE_LIST),
+       .code = 0, .length = 545480);
+    lent_is(__LINE__, wanted.bytes, 545480);
+    NUMBER(goofs_carry_out(image, length, lent.bytes, 545480), 0);
+    IS(goofs_find_result, goofs_find(image, length, (const uint8_t *)"beam", 4), .code = 0, .id = 9, .change_time = 1001,
+       .name_length = 4);
+    munmap(image, length);
+    return 1;
+}
+
+static const struct {
+    const char *name;
+    void (*run)(void);
+} tests[] = {
+    {"sizes of results", sizes_of_results},
+    {"macros", macros},
+    {"format position by position", format_position_by_position},
+    {"geometries", geometries},
+    {"first create", first_create},
+    {"writes and reads", writes_and_reads},
+    {"longest write", longest_write},
+    {"no free extent", no_free_extent},
+    {"resizes", resizes},
+    {"deletes", deletes},
+    {"cut before the start mark", cut_before_the_start_mark},
+    {"cut after the start mark", cut_after_the_start_mark},
+    {"bad journals", bad_journals},
+    {"states", states},
+    {"images refused", images_refused},
+    {"faults", faults},
+    {"names", names},
+    {"full directory", full_directory},
+    {"carrying out", carrying_out},
+    {"longest recovery", longest_recovery},
+};
+
+static unsigned long passed, failed;
+
+static void count(const char *name)
+{
+    if (wrong == 0) {
+        passed++;
+    } else {
+        failed++;
+        printf("c interface: FAILED: %s\n", name);
+    }
+    wrong = 0;
+}
+
+int main(void)
+{
+    size_t k;
+
+    make_data();
+    for (k = 0; k < sizeof tests / sizeof *tests; k++) {
+        tests[k].run();
+        count(tests[k].name);
+    }
+    if (longest_delete_and_resize())
+        count("longest delete and resize");
+    else
+        printf("c interface: the longest delete was not tried, as 4 GiB of addresses could not be had\n");
+    printf("%lu passed, %lu failed\n", passed, failed);
+    return failed == 0 ? 0 : 1;
+}

@@ -40,15 +40,14 @@ fn put_freed_sector(
     ensures { λ r. ⌜ (r ≡ k + cond (holdsBeyond (catalogueOf (view (now (img .entry)))) (i .0) o t) 1 0) × (r ≤ k + 1) ⌝ }
 {
     if table::holds_beyond(img, g, i, o, t) {
-        let at = g.table_at();
         let s = table::freed(img, g, i, o, t);
-        return commit::put_copy(list, k, g, numbers, k, Sector(at.0 + t), s);
+        return commit::put_copy(list, k, g, numbers, k, g.table_sector(t), s);
     }
     k
 }
 
 // The copies of all such table sectors, from record k on.
-pub fn put_freed(
+fn put_freed(
     list: &mut [u8],
     k: usize,
     numbers: &mut [u64],

@@ -1,8 +1,8 @@
 // The plain data that the volume's calls speak of, and the layout's rules on it. No other algorithm stands here.
 ghost use mathlib.Core.Path.{_≡_};
-ghost use Prim.Native.Nat.{_+_, _≤_, _<_};
+ghost use Prim.Native.Nat.{_+_, _*_, _≤_, _<_};
 ghost use Rattle.model.specs.Geometry.{inBounds, tableSectors, reserveExtents, usable, entryAt, journalAt, tableAt, dataAt, extentAt, reserveAt, volumeSectors};
-ghost use Rattle.model.specs.Table.{tableSectorOf};
+ghost use Rattle.model.specs.Table.{tableSectorOf, tablePlace};
 ghost use Rattle.model.specs.Summary.{areaAt, located};
 ghost use Rattle.model.specs.Opened.{Bounded};
 
@@ -125,7 +125,7 @@ pub struct CarriedOut {
     pub number: u64,
 }
 
-// ---- the layout's rules: only these turn a file index or an extent into a sector
+// ---- the layout's rules: only these turn file, extent and sector numbers into each other
 
 impl FileIndex {
     pub fn sector(self) -> Sector
@@ -133,6 +133,15 @@ impl FileIndex {
         ensures { λ r. ⌜ r .0 ≡ entryAt (self .0) ⌝ }
     {
         Sector(2 + self.0)
+    }
+}
+
+impl Extent {
+    // Where its entry stands in its table sector.
+    pub fn table_place(self) -> usize
+        ensures { λ r. ⌜ r ≡ tablePlace (self .0) ⌝ }
+    {
+        4 * (self.0 % 128) as usize
     }
 }
 
@@ -198,6 +207,32 @@ impl Geometry {
         ensures { λ r. ⌜ r .0 ≡ tableSectorOf self (e .0) ⌝ }
     {
         Sector(34 + self.files + e.0 / 128)
+    }
+
+    // Table sector `t`, and the extent whose entry is its entry `k`.
+    pub fn table_sector(self, t: u64) -> Sector
+        requires { ⌜ Bounded self ⌝ }
+        requires { ⌜ t < tableSectors self ⌝ }
+        ensures { λ r. ⌜ r .0 ≡ tableAt self + t ⌝ }
+    {
+        Sector(34 + self.files + t)
+    }
+
+    pub fn table_extent(self, t: u64, k: u64) -> Extent
+        requires { ⌜ Bounded self ⌝ }
+        requires { ⌜ (t < tableSectors self) × (k < 128) ⌝ }
+        ensures { λ r. ⌜ r .0 ≡ 128 * t + k ⌝ }
+    {
+        Extent(128 * t + k)
+    }
+
+    // Where the entry of extent `e` stands in an image: table sectors follow one another, 128 entries in each.
+    pub fn table_entry_at(self, e: Extent) -> usize
+        requires { ⌜ Bounded self ⌝ }
+        requires { ⌜ e .0 < self .extents ⌝ }
+        ensures { λ r. ⌜ r ≡ 512 * tableAt self + 4 * e .0 ⌝ }
+    {
+        (512 * (34 + self.files) + 4 * e.0) as usize
     }
 
     pub fn data_at(self) -> Sector

@@ -1,33 +1,32 @@
 -- The ledger asked by way of its catalogue, with the definitions by which a volume is asked: each answer and each effect is the one that
 -- the ledger finds in its slots. The theory goes on with these. Assumes nothing.
-use Prim.Native.Nat.{ℕ, _+_, _*_, _-_, max, min}
-use mathlib.Core.Path.{_≡_, refl, sym, ap, ap₂, _∙_}
-use mathlib.Core.Bool.{Bool, true, false, cond, not, _&&_, _||_, false≢true}
+use Prim.Native.Nat.{ℕ, _+_, _*_, _-_, max}
+use mathlib.Core.Path.{_≡_, refl, ap, ap₂, _∙_}
+use mathlib.Core.Bool.{Bool, true, false, cond, not, _&&_, false≢true}
 use mathlib.Core.List.{List, [], _∷_, _++_}
 use mathlib.Core.Option.{Option, none, some as just}
-use lib.Dec.{eqb, leb, ltb}
+use lib.Dec.{eqb, ltb}
 use lib.ListN.{length}
 use Rattle.model.specs.declared.Place.{Place}
 use Rattle.model.specs.declared.Place.the-variants.{At, Nowhere}
 use Rattle.model.specs.declared.State.the-variants.{Clean}
 use Rattle.model.specs.declared.Verdict.{Verdict}
 use Rattle.model.specs.declared.Changed.{Changed}
-use Rattle.model.specs.declared.BytesRead.{BytesRead}
 use Rattle.model.specs.Bytes.{run, put}
-use Rattle.model.specs.Search.{scan, first, some, isAt, indexOf}
+use Rattle.model.specs.Search.{some, isAt, indexOf}
 use Rattle.model.specs.Geometry.{FileNumber, ExtentNumber, usable, extentsFor}
-use Rattle.model.specs.Entry.{Entry, newEntry, updatedEntry, badName, fieldsOf}
+use Rattle.model.specs.Entry.{newEntry, updatedEntry}
 use Rattle.model.specs.Catalogue.{Catalogue, entryOr, fileNamed, freeEntry, freeExtent, entryOf, hasName, hasId, isFree, sectorsBeyond}
 use Rattle.model.specs.Refusals.{Conditions, verdictOf, given, isDone, refusal, done, andThen}
 use Rattle.model.specs.WriteList.{recordSize, recordCount, ownVerdict}
 use Rattle.model.specs.Format.{Format}
-use Rattle.model.specs.Find.{foundBy, notFound, nameConditions}
-use Rattle.model.specs.Listing.{listedBy, notListed, copiedBy, listConditions}
-use Rattle.model.specs.Read.{readBy, notRead, readCount, readConditions, sizeNamed}
+use Rattle.model.specs.Find.{foundBy, nameConditions}
+use Rattle.model.specs.Listing.{listedBy, copiedBy, listConditions}
+use Rattle.model.specs.Read.{readBy, notRead, readConditions, sizeNamed}
 use Rattle.model.specs.Create.{createConditions, createCount}
 use Rattle.model.specs.Write.{touchedSectors, grows, noRoom, sizeAfter, writeConditions}
 use Rattle.model.specs.Resize.{zeros, resizeConditions}
-use Rattle.model.specs.Ledger.{Ledger, File, fileOr, entryOfFile, holderOf, ownerFrom, catalogue, firstLedger, holdsName, holdsId, freeSlot, unheldExtent, needsMore, writtenRecords, freedRecords, records, refusals, tooShort, Call, summary, check, find, list, read, create, delete, resize, write, Answer, summarized, checked, found, listed, gave, changed, notChanged, numberOf, withFile, withRootUpdated, shrunk, partlyWritten, Feed, whole, cutMarked, cutUnmarked, callOf}
+use Rattle.model.specs.Ledger.{Ledger, File, fileOr, entryOfFile, holderOf, ownerFrom, catalogue, firstLedger, holdsName, holdsId, freeSlot, unheldExtent, writtenRecords, freedRecords, records, refusals, tooShort, Call, summary, check, find, list, read, create, delete, resize, write, Answer, summarized, checked, found, listed, gave, changed, notChanged, numberOf, withFile, withRootUpdated, shrunk, partlyWritten, Feed, whole, cutMarked, cutUnmarked, callOf}
 use Rattle.model.specs.Ledger as own
 use Rattle.laws.proofs.Booleans.{and-left, and-right}
 use Rattle.laws.proofs.Search.{first-ext, some-ext}

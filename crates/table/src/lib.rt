@@ -3,7 +3,6 @@ use model::Extent;
 use model::FileIndex;
 use model::Geometry;
 use model::Place;
-use model::Sector;
 ghost use mathlib.Core.Path.{_≡_};
 ghost use mathlib.Core.Bool.{cond};
 ghost use Prim.Native.Nat.{_+_, _*_, _≤_, _<_};
@@ -15,16 +14,14 @@ ghost use Rattle.model.specs.Opened.{Bounded, Opened};
 ghost use Rattle.model.specs.Table.{tableFile, tableOffset, tableEntryBytes, freeFile, freedIn};
 ghost use Rattle.model.specs.Catalogue.{catalogueOf, freeExtent, extentOf, isPart, isBeyond, holdsBeyond, sectorsBeyond};
 
-// The file that extent e's entry names; 65535 where it is free. Table sectors follow one another, 128 entries in each, so an
-// entry's place in the image is a product.
+// The file that extent e's entry names; 65535 where it is free.
 pub fn table_file(img: &[u8], g: Geometry, e: Extent) -> u64
     requires { ⌜ Opened (now img) g ⌝ }
     requires { ⌜ e .0 < g .extents ⌝ }
     ensures { λ r. ⌜ r ≡ tableFile g (view (now (img .entry))) (e .0) ⌝ }
     ensures { λ r. ⌜ r < 65536 ⌝ }
 {
-    let t = g.table_at();
-    fields::be(img, (512 * t.0 + 4 * e.0) as usize, 2)
+    fields::be(img, g.table_entry_at(e), 2)
 }
 
 // The offset, counted in extents, that extent e's entry says.
@@ -34,8 +31,7 @@ pub fn table_offset(img: &[u8], g: Geometry, e: Extent) -> u64
     ensures { λ r. ⌜ r ≡ tableOffset g (view (now (img .entry))) (e .0) ⌝ }
     ensures { λ r. ⌜ r < 65536 ⌝ }
 {
-    let t = g.table_at();
-    fields::be(img, (512 * t.0 + 4 * e.0 + 2) as usize, 2)
+    fields::be(img, g.table_entry_at(e) + 2, 2)
 }
 
 // The lowest usable free extent.
@@ -107,7 +103,7 @@ pub fn holds_beyond(img: &[u8], g: Geometry, i: FileIndex, o: u64, t: u64) -> bo
 {
     let mut k: u64 = 0;
     while k < 128 {
-        if is_beyond(img, g, i, o, Extent(128 * t + k)) {
+        if is_beyond(img, g, i, o, g.table_extent(t, k)) {
             return true;
         }
         k += 1;
@@ -159,10 +155,10 @@ pub fn freed(img: &[u8], g: Geometry, i: FileIndex, o: u64, t: u64) -> [u8; 512]
     requires { ⌜ (i .0 < freeFile) × (t < tableSectors g) ⌝ }
     ensures { λ r. ⌜ r ≡ freedIn (λ k. isBeyond (i .0) o (catalogueOf (view (now (img .entry))) .table (128 * t + k))) (view (now (img .entry)) (tableAt g + t)) 128 ⌝ }
 {
-    let mut a = fields::sector(img, Sector(34 + g.files + t));
+    let mut a = fields::sector(img, g.table_sector(t));
     let mut k: usize = 0;
     while k < 128 {
-        let hit = is_beyond(img, g, i, o, Extent(128 * t + (k as u64)));
+        let hit = is_beyond(img, g, i, o, g.table_extent(t, k as u64));
         free_one(&mut a, k, hit);
         k += 1;
     }

@@ -45,7 +45,7 @@ fn taken_sector(img: &[u8], g: Geometry, x: Extent, i: FileIndex, offset: u64) -
     ensures { λ r. ⌜ r ≡ takenIn (x .0) (i .0) offset (view (now (img .entry)) (tableSectorOf g (x .0))) ⌝ }
 {
     let mut a = fields::sector(img, g.table_sector_of(x));
-    let at = (4 * (x.0 % 128)) as usize;
+    let at = x.table_place();
     fields::put_be(&mut a, at, 2, i.0);
     fields::put_be(&mut a, at + 2, 2, offset);
     a

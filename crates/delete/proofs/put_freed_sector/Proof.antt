@@ -1,4 +1,4 @@
--- `delete::put_freed_sector` meets its contract.
+-- `delete::put_freed_sector` meets its contract. The sector holds an extent that is freed, or none.
 use Prim.Native.Nat.{_+_}
 use mathlib.Core.Path.{sym, _∙_}
 use native.Mathlib.Omega.{arith}
@@ -12,14 +12,11 @@ use Rattle.delete.proofs.put_freed_sector.Tie as tie
 holds-beyond-requires : tie.Need-holds-beyond-requires
 holds-beyond-requires c κs = search needs
 
-table-at-requires : tie.Need-table-at-requires
-table-at-requires c κs = search needs
-
 freed-requires : tie.Need-freed-requires
 freed-requires c κs = search needs
 
-add-t16 : tie.Need-add-t16
-add-t16 c = search needs
+table-sector-requires : tie.Need-table-sector-requires
+table-sector-requires c κs = search needs
 
 put-copy-requires : tie.Need-put-copy-requires
 put-copy-requires c κs = search needs
@@ -33,12 +30,12 @@ same-length-2 c = search needs
 returns : tie.Need-returns
 returns c =
     let q = c .before .before .before .before in
-    let f = q .before .before .before .before in
-    let s = f .before .before .before .before .before .before .before in
+    let f = c .before .before .before .before .before .before .before .before in
+    let s = c .before .before .before .before .before .before .before .before .before .before .before .before .before .before in
     let a = s .args in
-    let held = sym (f .before .before .before .holds-beyond .ensures) ∙ f .before .before .if1 .taken in (
+    let held = sym (f .before .before .holds-beyond .ensures) ∙ f .before .if1 .taken in (
       rw (freed-hit (view (a .img .now)) (a .g) (s .pre .0 .is) (a .i .0) (a .o) (a .t) held)
-          (added-copy {s = tableAt (a .g) + a .t} (rw (← f .freed .ensures) (q .put-copy .ensures .0)) (rw (← f .before .table-at .ensures) (q .put-copy .ensures .1)) (omega arith)),
+          (added-copy {s = tableAt (a .g) + a .t} (rw (← f .freed .ensures) (q .put-copy .ensures .0)) (rw (← q .before .table-sector .ensures) (q .put-copy .ensures .1)) (omega arith)),
       (rw held (q .put-copy .ensures .0 .next), omega (arith, q .put-copy .ensures .0 .next)),
     )
 
@@ -56,9 +53,8 @@ put-freed-sector-spec =
     tie.close
     (tie.spec
     holds-beyond-requires
-    table-at-requires
     freed-requires
-    add-t16
+    table-sector-requires
     put-copy-requires
     same-length
     same-length-2

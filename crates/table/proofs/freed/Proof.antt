@@ -18,11 +18,8 @@ Inv-loop img g i o t a₀ k₀ a k =
 abbrev μ-loop : tie.MeasureT-loop
 μ-loop img g i o t a₀ k₀ a k = 128 - k
 
-add-t10 : tie.Need-add-t10 Inv-loop μ-loop
-add-t10 c = search needs
-
-add-t11 : tie.Need-add-t11 Inv-loop μ-loop
-add-t11 c = search needs
+table-sector-requires : tie.Need-table-sector-requires Inv-loop μ-loop
+table-sector-requires c κs = search needs
 
 sector-requires : tie.Need-sector-requires Inv-loop μ-loop
 sector-requires c κs = search needs
@@ -31,11 +28,8 @@ loop-holds : tie.Need-loop-holds Inv-loop μ-loop
 unfolding freedIn
 loop-holds c = (omega arith, refl, search needs)
 
-mul-t14 : tie.Need-mul-t14 Inv-loop μ-loop
-mul-t14 c = search needs
-
-add-t16 : tie.Need-add-t16 Inv-loop μ-loop
-add-t16 c = search needs
+table-extent-requires : tie.Need-table-extent-requires Inv-loop μ-loop
+table-extent-requires c κs = search needs
 
 is-beyond-requires : tie.Need-is-beyond-requires Inv-loop μ-loop
 is-beyond-requires c κs = search needs
@@ -54,13 +48,13 @@ loop-less c = search needs
 
 loop-again : tie.Need-loop-again Inv-loop μ-loop
 loop-again c =
-    let l = c .before .before .before .before .before .loop in
-    (omega arith, rw (freed-more, ← c .before .before .before .is-beyond .ensures, ← l .inv .1) (c .before .free-one .ensures), search needs)
+    let l = c .before .before .before .before .before .before .loop in
+    (omega arith, rw (freed-more, ← c .before .before .before .before .table-extent .ensures, ← c .before .before .before .is-beyond .ensures, ← l .inv .1) (c .before .free-one .ensures), search needs)
 
 returns : tie.Need-returns Inv-loop μ-loop
 returns c =
     let e : c .before .loop .k ≡ 128 = omega arith in
-    rw (← c .before .before .sector .ensures) (rw e at (c .before .loop .inv .1))
+    rw (← c .before .before .before .table-sector .ensures, ← c .before .before .sector .ensures) (rw e at (c .before .loop .inv .1))
 
 pub freed-spec : {M : Type 1} → statement M
 freed-spec =
@@ -68,12 +62,10 @@ freed-spec =
     (tie.spec
     Inv-loop
     μ-loop
-    add-t10
-    add-t11
+    table-sector-requires
     sector-requires
     loop-holds
-    mul-t14
-    add-t16
+    table-extent-requires
     is-beyond-requires
     slice-aggregate-free-one
     free-one-requires

@@ -25,11 +25,8 @@ loop-holds : tie.Need-loop-holds Inv-loop μ-loop
 unfolding some
 loop-holds c = (omega arith, refl)
 
-mul-t9 : tie.Need-mul-t9 Inv-loop μ-loop
-mul-t9 c = search needs
-
-add-t10 : tie.Need-add-t10 Inv-loop μ-loop
-add-t10 c = search needs
+table-extent-requires : tie.Need-table-extent-requires Inv-loop μ-loop
+table-extent-requires c κs = search needs
 
 is-beyond-requires : tie.Need-is-beyond-requires Inv-loop μ-loop
 is-beyond-requires c κs = search needs
@@ -37,8 +34,8 @@ is-beyond-requires c κs = search needs
 returns : tie.Need-returns Inv-loop μ-loop
 unfolding holdsBeyond
 returns c =
-    let a = c .before .before .before .before .before .args in
-    sym (some-true (hit (a .img .now) (a .i .0) (a .o) (a .t)) (c .before .before .before .loop .k) 128 (omega arith) (sym (c .before .is-beyond .ensures) ∙ c .if1 .taken))
+    let a = c .before .before .before .before .before .before .args in
+    sym (some-true (hit (a .img .now) (a .i .0) (a .o) (a .t)) (c .before .before .before .before .loop .k) 128 (omega arith) (rw (c .before .before .table-extent .ensures) at (sym (c .before .is-beyond .ensures) ∙ c .if1 .taken)))
 
 add-k : tie.Need-add-k Inv-loop μ-loop
 add-k c = search needs
@@ -48,9 +45,9 @@ loop-less c = search needs
 
 loop-again : tie.Need-loop-again Inv-loop μ-loop
 loop-again c =
-    let l = c .before .before .before .loop in
-    let a = c .before .before .before .before .before .args in
-    (omega arith, rw (some-more (hit (a .img .now) (a .i .0) (a .o) (a .t)) (l .k), ← c .before .is-beyond .ensures, c .if1 .left) (l .inv .1))
+    let l = c .before .before .before .before .loop in
+    let a = c .before .before .before .before .before .before .args in
+    (omega arith, rw (some-more (hit (a .img .now) (a .i .0) (a .o) (a .t)) (l .k), ← c .before .before .table-extent .ensures, ← c .before .is-beyond .ensures, c .if1 .left) (l .inv .1))
 
 returns-2 : tie.Need-returns-2 Inv-loop μ-loop
 unfolding holdsBeyond
@@ -65,8 +62,7 @@ holds-beyond-spec =
     Inv-loop
     μ-loop
     loop-holds
-    mul-t9
-    add-t10
+    table-extent-requires
     is-beyond-requires
     returns
     add-k

@@ -11,8 +11,8 @@ table-sector-of-requires c κs = search needs
 sector-requires : tie.Need-sector-requires
 sector-requires c κs = search needs
 
-mul-at : tie.Need-mul-at
-mul-at c = search needs
+table-place-requires : tie.Need-table-place-requires
+table-place-requires c κs = search needs
 
 slice-aggregate-put-be : tie.Need-slice-aggregate-put-be
 slice-aggregate-put-be c = search needs
@@ -39,7 +39,7 @@ taken-sector-spec =
     (tie.spec
     table-sector-of-requires
     sector-requires
-    mul-at
+    table-place-requires
     slice-aggregate-put-be
     put-be-requires
     slice-aggregate-put-be-2

@@ -1,9 +1,9 @@
 -- Laws of `count`, and of how long a list by index is. Assumes nothing.
 use Prim.Native.Nat.{ℕ, zero, suc, _+_, _≤_, _<_}
-use mathlib.Core.Path.{_≡_, refl, sym, _∙_}
+use mathlib.Core.Path.{_≡_, refl, sym, ap, _∙_}
 use mathlib.Core.Logic.{_≢_, ⊎-elim}
 use mathlib.Core.Bool.{Bool, true, false, cond, true≢false}
-use mathlib.Core.List.{List}
+use mathlib.Core.List.{List, [], _∷_, _++_, append-nil}
 use native.Mathlib.Nat.{eq-or-lt-of-le, le-of-suc-le-suc}
 use native.Mathlib.Omega.{arith}
 use lib.ListN.{length, length-append}
@@ -81,3 +81,20 @@ flat-room f a i zero h = absurd (omega arith)
 flat-room f a i (suc n) h =
     rw (length-append (flat f a n) (f (a + n)))
     (⊎-elim (λ (e : i ≡ n). rw e (omega arith)) (λ (r : i < n). omega (arith, flat-room f a i n r)) (eq-or-lt-of-le (le-of-suc-le-suc h)))
+
+no-elements {ℓ} : {A : Type ℓ} (x : List A) → length x ≡ 0 → x ≡ []
+no-elements [] e = refl
+no-elements (y ∷ x) e = absurd (omega arith)
+
+-- a part that is as long as all of it is all of it
+pub flat-full {ℓ} : {A : Type ℓ} (f : ℕ → List A) (a t n : ℕ) → t ≤ n → length (flat f a n) ≤ length (flat f a t) → flat f a n ≡ flat f a t
+unfolding flat
+flat-full f a t zero h l = let z : t ≡ 0 = omega arith in rw z
+flat-full f a t (suc n) h l = ⊎-elim (λ (e : t ≡ suc n). rw e) (before (flat-full f a t n)) (eq-or-lt-of-le h)
+  where
+    before : (t ≤ n → length (flat f a n) ≤ length (flat f a t) → flat f a n ≡ flat f a t) → t < suc n → (flat f a n ++ f (a + n)) ≡ flat f a t
+    before shorter s =
+        let le : t ≤ n = omega arith in
+        let sum : length (flat f a n ++ f (a + n)) ≡ length (flat f a n) + length (f (a + n)) = length-append (flat f a n) (f (a + n)) in
+        let more : length (flat f a t) ≤ length (flat f a n) = ⊎-elim (λ (e : t ≡ n). rw e (omega arith)) (λ (r : t < n). omega (arith, flat-room f a t n r)) (eq-or-lt-of-le le) in
+        ap (λ x. flat f a n ++ x) (no-elements (f (a + n)) (omega arith)) ∙ append-nil (flat f a n) ∙ shorter le (omega arith)

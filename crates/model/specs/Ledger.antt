@@ -124,7 +124,8 @@ pub data Answer : Type 0 where
   gave : BytesRead → List ℕ → Answer
   changed : Changed → Answer
 
--- how many records the list of a change has: "list lengths by the groups"
+-- how many records the list of a change has, "list lengths by the groups": of a write of n bytes to a file of that size; of a call that
+-- frees the extents of the file from an offset on, beside other targets
 unfoldable pub writtenRecords : Ledger → ℕ → ℕ → ℕ → ℕ
 writtenRecords L size offset n =
     cond (eqb n 0) 0 (recordCount (touchedSectors offset n) (cond (needsMore L size (max size (offset + n))) 2 1))
@@ -148,7 +149,7 @@ records (write name offset bytes time room) L = writtenRecords L (fileOf L name 
 abbrev pub tooShort : ℕ → ℕ → Bool × Verdict
 tooShort room needed = (ltb room needed, refusal 14)
 
--- "It gives 8 to 14 by their conditions (\"no room\" is 13), else 0"
+-- "It gives 8 to 14 by their conditions, else 0": of each call its own; "no room" is 13
 unfoldable pub refusals : Call → Ledger → Conditions
 refusals summary L = []
 refusals check L = []

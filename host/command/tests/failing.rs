@@ -8,20 +8,19 @@ use std::io::{self, Write};
 use std::path::Path;
 use std::process::{Command, Stdio};
 
-use shared::{bad, formatted, good, goofs, on, run, with_limit, Folder, Said};
+use shared::{bad, formatted, good, goofs, on, run, start, with_limit, Folder, Said};
 
 /// Runs the command with its standard output there.
 fn into(output: Stdio, command: &str, card: &Path, rest: &[&str]) -> Said {
-    let words = [command].into_iter();
-    let child = Command::new(env!("CARGO_BIN_EXE_goofs"))
-        .args(words)
-        .arg(card)
-        .args(rest)
-        .stdin(Stdio::null())
-        .stdout(output)
-        .stderr(Stdio::piped())
-        .spawn()
-        .unwrap();
+    let child = start(
+        Command::new(env!("CARGO_BIN_EXE_goofs"))
+            .arg(command)
+            .arg(card)
+            .args(rest)
+            .stdin(Stdio::null())
+            .stdout(output)
+            .stderr(Stdio::piped()),
+    );
     Said::of(child.wait_with_output().unwrap())
 }
 
@@ -97,7 +96,7 @@ fn errors_that_can_not_be_written() {
     for (words, status) in [(&["ls", "nothing"][..], 1), (&["nonsense"], 2)] {
         let mut command = Command::new(env!("CARGO_BIN_EXE_goofs"));
         command.args(words).current_dir(folder.file("."));
-        let ended = command.stderr(full()).status().unwrap();
+        let ended = start(command.stderr(full())).wait().unwrap();
         assert_eq!(ended.code(), Some(status));
     }
 }
@@ -364,13 +363,13 @@ fn options_are_those_of_the_command() {
 fn a_put_from_the_standard_input() {
     let folder = Folder::new("stdin");
     let card = formatted(&folder);
-    let mut child = Command::new(env!("CARGO_BIN_EXE_goofs"))
-        .arg("put")
-        .arg(&card)
-        .args(["-", "f"])
-        .stdin(Stdio::piped())
-        .spawn()
-        .unwrap();
+    let mut child = start(
+        Command::new(env!("CARGO_BIN_EXE_goofs"))
+            .arg("put")
+            .arg(&card)
+            .args(["-", "f"])
+            .stdin(Stdio::piped()),
+    );
     child
         .stdin
         .take()

@@ -6,6 +6,7 @@ use std::io;
 use std::os::unix::fs::FileExt;
 use std::path::{Path, PathBuf};
 use std::process::Command;
+use std::sync::{Mutex, MutexGuard, PoisonError};
 
 use goofs::change::{Change, Format};
 use goofs::device::{Device, Disk, Memory, SECTOR};
@@ -13,6 +14,13 @@ use goofs::error::{Error, Refusal};
 use goofs::image::{Image, State};
 use goofs::map::{self, Map};
 use goofs::volume::{self, Volume};
+
+/// One test at a time: a process that one of them starts has the files of all for a moment, and with
+/// them their locks.
+fn alone() -> MutexGuard<'static, ()> {
+    static ALONE: Mutex<()> = Mutex::new(());
+    ALONE.lock().unwrap_or_else(PoisonError::into_inner)
+}
 
 /// A file that goes away with the test.
 struct Temporary(PathBuf);
@@ -124,6 +132,7 @@ fn delete(name: &[u8]) -> Change<'_> {
 /// file and the other image are one and the same.
 #[test]
 fn image_and_file_in_step() {
+    let _alone = alone();
     let file = Temporary::new("step");
     let mut on_file = Volume::open(formatted(&file, 1_313, 255)).unwrap();
     let mut memory = Memory::of_sectors(1_316);
@@ -182,6 +191,7 @@ fn image_and_file_in_step() {
 /// What is done to an image in memory does not reach the file, and a second map shows the file.
 #[test]
 fn a_map_is_private() {
+    let _alone = alone();
     let file = Temporary::new("private");
     let disk = formatted(&file, 1_313, 255);
     let held = fs::read(&file.0).unwrap();
@@ -198,6 +208,7 @@ fn a_map_is_private() {
 /// Tried changes are refused as done ones are, and leave no trace in the image or the file.
 #[test]
 fn changes_are_tried_and_put_back() {
+    let _alone = alone();
     let file = Temporary::new("tried");
     let mut image = Image::load(&formatted(&file, 1_313, 255)).unwrap();
     let held = fs::read(&file.0).unwrap();
@@ -227,6 +238,7 @@ fn changes_are_tried_and_put_back() {
 /// The lock lasts as long as the map, also when the device is gone.
 #[test]
 fn a_map_keeps_the_lock() {
+    let _alone = alone();
     let file = Temporary::new("lock");
     drop(formatted(&file, 1_313, 255));
     let image = Image::load(&Disk::shared(file.open()).unwrap()).unwrap();
@@ -239,6 +251,7 @@ fn a_map_keeps_the_lock() {
 /// A program that doesn't ask for the lock can't change the metadata that calls rely on.
 #[test]
 fn metadata_are_held_apart() {
+    let _alone = alone();
     let file = Temporary::new("apart");
     let disk = formatted(&file, 1_313, 255);
     let image = Image::load(&disk).unwrap();
@@ -251,6 +264,7 @@ fn metadata_are_held_apart() {
 /// 600 GiB, of which the file has a few pages. Extents of 16 MiB take files past the first 4 GiB.
 #[test]
 fn a_volume_of_600_gib() {
+    let _alone = alone();
     const FILES: u64 = 300;
     let file = Temporary::new("large");
     let mut disk = formatted(&file, 600 << 21, 1_024);
@@ -318,6 +332,7 @@ impl Device for Endless {
 /// The greatest format has 65,535 extents of 2^31 sectors, more than a process has addresses.
 #[test]
 fn a_volume_that_no_memory_holds() {
+    let _alone = alone();
     let sectors = 546 + 1_024 + (65_535 << 31);
     let mut memory = Memory::of_sectors(2_000);
     let mut position = 0;
@@ -335,6 +350,7 @@ fn a_volume_that_no_memory_holds() {
 /// the program ends when it reads on.
 #[test]
 fn a_file_cut_short_under_its_map() {
+    let _alone = alone();
     const PATH: &str = "GOOFS_TEST_CUT_SHORT";
     if let Some(path) = std::env::var_os(PATH) {
         map::end_if_unreadable("the map could not be read\n");

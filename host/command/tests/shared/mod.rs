@@ -6,7 +6,8 @@
 use std::ffi::OsStr;
 use std::fs;
 use std::path::{Path, PathBuf};
-use std::process::{Command, Output, Stdio};
+use std::process::{Child, Command, Output, Stdio};
+use std::sync::{Mutex, PoisonError};
 
 /// A folder that goes away with the test.
 pub struct Folder(PathBuf);
@@ -79,8 +80,20 @@ pub fn with_limit(limit: &str, command: &str, card: &Path, rest: &[&str]) -> Sai
 }
 
 pub fn run(command: &mut Command) -> Said {
-    let output = command.stdin(Stdio::null()).output();
+    let command = command
+        .stdin(Stdio::null())
+        .stdout(Stdio::piped())
+        .stderr(Stdio::piped());
+    let output = start(command).wait_with_output();
     Said::of(output.expect("the command runs"))
+}
+
+/// Starts one process at a time: until it runs its own program, it has the files of all tests, and
+/// with them their locks.
+pub fn start(command: &mut Command) -> Child {
+    static START: Mutex<()> = Mutex::new(());
+    let _one = START.lock().unwrap_or_else(PoisonError::into_inner);
+    command.spawn().expect("the command starts")
 }
 
 /// Runs the command on a card; it must succeed.

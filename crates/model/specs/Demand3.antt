@@ -2,18 +2,19 @@
 -- directory and table say and the bytes of each file; journal, free extents, reserve and bytes past a file's end are outside it."
 use Prim.Native.Nat.{ℕ, _<_}
 use mathlib.Core.Path.{_≡_}
-use mathlib.Core.Bool.{true, false, cond}
+use mathlib.Core.Bool.{true, cond}
 use mathlib.Core.List.{List}
 use mathlib.Core.Option.{some as just}
 use lib.Dec.{ltb}
 use lib.ListN.{length}
 use Rattle.model.specs.declared.State.the-variants.{Clean}
-use Rattle.model.specs.Geometry.{superblockAt, rootAt}
+use Rattle.model.specs.Bytes.{numberIn}
+use Rattle.model.specs.Geometry.{superblockAt, rootAt, entryAt}
 use Rattle.model.specs.Disk.{view}
 use Rattle.model.specs.Superblock.{isVolume, geometryIn, stateOn}
 use Rattle.model.specs.Root.{rootIn}
-use Rattle.model.specs.Catalogue.{catalogueOf, fileBytes}
-use Rattle.model.specs.Faults.{fault21}
+use Rattle.model.specs.Entry.{entryField}
+use Rattle.model.specs.Catalogue.{catalogueOf, isFree, fileBytes}
 use Rattle.model.specs.WriteList.{listLength}
 use Rattle.model.specs.Format.{Format}
 use Rattle.model.specs.Recovery.{recoveryGroups, recoveryAnswer}
@@ -21,13 +22,13 @@ use Rattle.model.specs.Ledger.{Ledger, File, catalogue, ledgerAfter, ans
 use Rattle.model.specs.Run.{Phase, steady, broken, Run}
 
 -- the image says what the ledger says: the superblock magic, version, geometry and clean; the root its fields; the directory of
--- each slot free (mark 0) or its entry's fields; the table of each extent free or whose it is; each file's extents its bytes
+-- each slot its mark, 0 free or 65,535 occupied, and its entry's fields; the table of each extent free or whose it is; each file's extents its bytes
 pub record Says (L : Ledger) (img : List ℕ) : Type 0 where
   pub volume : isVolume (view img superblockAt) ≡ true
   pub geometry : geometryIn (view img superblockAt) ≡ L .geometry
   pub clean : stateOn (view img) ≡ Clean
   pub root : rootIn (view img rootAt) ≡ L .root
-  pub marks : (i : ℕ) → i < L .geometry .files → fault21 (view img) i ≡ false
+  pub marks : (i : ℕ) → i < L .geometry .files → numberIn (view img (entryAt i)) (entryField .mark) ≡ cond (isFree (L .slots i)) 0 65535
   pub directory : (i : ℕ) → catalogueOf (view img) .entries i ≡ catalogue L .entries i
   pub table : (e : ℕ) → catalogueOf (view img) .table e ≡ catalogue L .table e
   pub bytes : (i : ℕ) (f : File) → L .slots i ≡ just f → fileBytes (catalogueOf (view img)) (view img) i 0 (f .entry .size) ≡ f .bytes

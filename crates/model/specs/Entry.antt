@@ -93,27 +93,13 @@ unfoldable pub badName : List ℕ → Bool
 badName n = not (leb 1 (length n) && leb (length n) longestName) || hasZero n
 
 -- create's: "size 0, version 0, given id, mode and time (both times), bytes after the name zero"
-unfoldable pub newEntry : List ℕ → ℕ → ℕ → ℕ → Entry
-newEntry name id mode time = record { size = 0; version = 0; id = id; mode = mode; accessTime = time; changeTime = time; name = name }
-
 unfoldable pub newEntrySector : List ℕ → ℕ → ℕ → ℕ → List ℕ
 newEntrySector name id mode time =
     stamped zeroSector
     (setTo (entryField .mark) occupiedMark ∷ setTo (entryField .id) id ∷ setTo (entryField .mode) mode ∷ setTo (entryField .accessTime) time
     ∷ setTo (entryField .changeTime) time ∷ setTo (entryField .nameLength) (length name) ∷ (entryField .name, name) ∷ [])
 
--- write's and resize's: the size given, "version up, change time set"; and the same of its sector
-unfoldable pub updatedEntry : ℕ → ℕ → Entry → Entry
-updatedEntry size time e = record {
-  size = size;
-  version = raised (e .version);
-  id = e .id;
-  mode = e .mode;
-  accessTime = e .accessTime;
-  changeTime = time;
-  name = e .name;
-}
-
+-- write's and resize's: the size given, "version up, change time set"
 unfoldable pub updatedEntrySector : ℕ → ℕ → List ℕ → List ℕ
 updatedEntrySector size time s =
     stamped s

@@ -30,18 +30,12 @@ rootIn s = record {
   changeTime = numberIn s (rootField .changeTime);
 }
 
--- create's and delete's: "Root: version up, change time set"; and the same of its sector
-unfoldable pub updatedRoot : ℕ → Root → Root
-updatedRoot time r = record { version = raised (r .version); id = r .id; mode = r .mode; accessTime = r .accessTime; changeTime = time }
-
+-- create's and delete's: "Root: version up, change time set"
 unfoldable pub updatedRootSector : ℕ → List ℕ → List ℕ
 updatedRootSector time s =
     stamped s (setTo (rootField .version) (raised (numberIn s (rootField .version))) ∷ setTo (rootField .changeTime) time ∷ [])
 
 -- format's: "root (version 0, given id, mode and time, for both times)"; "unused bytes are zero"
-abbrev pub newRoot : ℕ → ℕ → ℕ → Root
-newRoot id mode time = record { version = 0; id = id; mode = mode; accessTime = time; changeTime = time }
-
 unfoldable pub newRootSector : ℕ → ℕ → ℕ → List ℕ
 newRootSector id mode time =
     stamped zeroSector

@@ -132,6 +132,22 @@ pub all-map : (P Q : Record → Type 0) → ((w : Record) → P w → Q w) → (
 all-map P Q f [] h = tt
 all-map P Q f (w ∷ ws) h = (f w (h .0), all-map P Q f ws (h .1))
 
+-- no two records are for one sector
+abbrev pub Own : Group → Type 0
+Own [] = Unit {0}
+Own (w ∷ ws) = All (λ v. w .sector ≢ v .sector) ws × Own ws
+
+pub own-append : (a b : Group) → Own a → Own b → All (λ v. All (λ w. v .sector ≢ w .sector) b) a → Own (a ++ b)
+own-append [] b p q h = q
+own-append (w ∷ ws) b p q h = (all-append (λ v. w .sector ≢ v .sector) ws b (p .0) (h .0), own-append ws b (p .1) q (h .1))
+
+pub own-tab : (f : ℕ → Record) (a n : ℕ) → ((j k : ℕ) → j < n → k < n → f (a + j) .sector ≡ f (a + k) .sector → j ≡ k) → Own (tab f a n)
+unfolding tab
+own-tab f a zero h = tt
+own-tab f a (suc n) h =
+    own-append (tab f a n) (f (a + n) ∷ []) (own-tab f a n (λ j k u v e. h j k (omega arith) (omega arith) e)) (tt, tt)
+    (all-tab (λ v. All (λ w. v .sector ≢ w .sector) (f (a + n) ∷ [])) f a n (λ k l. ((λ e. let q : k ≡ n = h k n (omega arith) (omega arith) e in omega arith), tt)))
+
 or-no : (a b c : Bool) → (a || b) ≡ false → (b ≡ false → c ≡ false) → (a || c) ≡ false
 or-no true b c e f = absurd (true≢false e)
 or-no false b c e f = f e

@@ -9,21 +9,22 @@ use native.Mathlib.Omega.{arith}
 use lib.Dec.{eqb}
 use lib.ListN.{length}
 use borrow.Author.Tests.{lt-ltb, not-false}
+use Rattle.model.specs.declared.Place.{Place}
 use Rattle.model.specs.Search.{tab, some, isAt, indexOf}
 use Rattle.model.specs.Geometry.{rootAt, entryAt, extentsFor}
 use Rattle.model.specs.Disk.{view}
-use Rattle.model.specs.Root.{rootIn, updatedRootSector, updatedRoot}
-use Rattle.model.specs.Entry.{badName, isOccupied, newEntry, newEntrySector}
+use Rattle.model.specs.Root.{rootIn, updatedRootSector}
+use Rattle.model.specs.Entry.{badName, isOccupied, newEntrySector}
 use Rattle.model.specs.Table.{tableSectorOf}
 use Rattle.model.specs.Catalogue.{Catalogue, catalogueOf, fileNamed, freeEntry, isFree, hasName, hasId, fileBytes}
 use Rattle.model.specs.Faults.{fault21}
 use Rattle.model.specs.Refusals.{Conditions}
 use Rattle.model.specs.WriteList.{Plan, Record, sectorWrite, groupsFor, listLength, recordSize}
-use Rattle.model.specs.Create.{createConditions, createPlan, createCount, createDecision, createAnswer}
-use Rattle.model.specs.Ledger.{Ledger, File, entryOfFile, catalogue, create, changed}
-use Rattle.model.specs.Run.{volumeAnswer, volumePlan}
+use Rattle.model.specs.Create.{createConditions, createPlan, createCount, createDecision}
+use Rattle.model.specs.Ledger.{Ledger, File, entryOfFile, catalogue, create, newEntry, updatedRoot, step, answer}
+use Rattle.model.specs.Run.{volumeAnswer, onVolume}
 use Rattle.laws.proofs.Disk.{length-view}
-use Rattle.safety.proofs.Asked.{answer, afterCall, afterCut}
+use Rattle.safety.proofs.OwnWords.{named-is, slot-is, ids-is, name-is}
 use Rattle.safety.proofs.Searches.{place-found, place-none, or-left-no, or-right-no, some-none}
 use Rattle.safety.proofs.Apply.{over-here, over-skip, over-none}
 use Rattle.safety.proofs.Plan.{UsableGeometry, WellFormed, metadata-directory}
@@ -31,7 +32,7 @@ use Rattle.safety.proofs.Commit.{Ready, uncut, ready-uncut}
 use Rattle.safety.proofs.Frame.{Outside, done-at, length-groups}
 use Rattle.safety.proofs.Bounds.{no-extent}
 use Rattle.safety.proofs.Rep.{Rep, rep-geometry}
-use Rattle.safety.proofs.Changing.{Passed, Refusing, answer-changing, Carries, effect-changing}
+use Rattle.safety.proofs.Changing.{Passed, Carries, effect-changing, Decides, same-changing}
 use Rattle.safety.proofs.Preserved.{out-front, out-table, out-data, slotIn, entry-is, table-keep, part-keeps}
 use Rattle.safety.proofs.Fields.{length-updatedRootSector, root-updated, length-newEntry, new-occupied, new-entry, occupied-mark}
 use Rattle.safety.proofs.Rewritten.{Rewrites, all-kept, rep-replaced}
@@ -66,13 +67,12 @@ module _ (L : Ledger) (img : List ℕ) (rep : Rep L img) (name : List ℕ) (id m
   unfolding groupsFor createPlan
   size = length-groups _ (view img) p
 
-  pub create-same : volumeAnswer (create name id mode time room) img ≡ answer (create name id mode time room) L
-  unfolding volumeAnswer answer createAnswer createDecision
-  create-same = ap changed (answer-changing L img rep conditions (λ x. just (plan x)) room createCount size)
+  decides : Decides L img (create name id mode time room) conditions (λ x. just (plan x)) room createCount
+  unfolding onVolume createDecision step createConditions catalogue
+  decides = record { volume = refl; reply = refl; conditions = rw (name-is name, named-is L name, ids-is L id, slot-is L); refusing = refl; size = size }
 
-  refusing : Refusing (createConditions (catalogue L) name id)
-  unfolding createConditions
-  refusing = ((λ e. omega arith), ((λ e. omega arith), ((λ e. omega arith), tt)))
+  pub create-same : volumeAnswer (create name id mode time room) img ≡ answer (create name id mode time room) L
+  create-same = same-changing L img rep _ _ _ room createCount decides
 
   module _ (hi : id < 2 ^ 64) (hm : mode < 2 ^ 32) (ht : time < 2 ^ 32) (passed : Passed (createConditions (catalogue L) name id)) where
     -- ---- what the conditions say
@@ -121,6 +121,7 @@ module _ (L : Ledger) (img : List ℕ) (rep : Rep L img) (name : List ℕ) (id m
           metadata = (metadata-directory (L .geometry) 1 (omega arith) (omega arith), (metadata-directory (L .geometry) (entryAt i) (omega arith) (omega arith), tt));
           rising = (omega arith, (omega arith, tt));
           usable = tt;
+          own = tt;
           wholeData = tt;
           wholeTargets = (length-updatedRootSector time (view img rootAt) ∙ length-view img 1, (length-newEntry name id mode time, tt));
         }
@@ -206,16 +207,14 @@ module _ (L : Ledger) (img : List ℕ) (rep : Rep L img) (name : List ℕ) (id m
         }
 
     carries : Carries L img (create name id mode time room) p
-    unfolding afterCall afterCut createPlan
+    unfolding step createPlan
     carries = record {
       fits = fits;
-      done = rep-replaced L img rep (updatedRoot time (L .root)) i (just (newFile L i name id mode time)) out rewrites;
+      done = subst (λ (x : Place). Rep (created L (indexOf x) name id mode time) out) (sym (slot-is L))
+          (rep-replaced L img rep (updatedRoot time (L .root)) i (just (newFile L i name id mode time)) out rewrites);
       partly = λ k m. part-keeps L img p rep fits refl k m;
     }
 
   -- what create does
   pub create-effect : (id < 2 ^ 64) × (mode < 2 ^ 32) × (time < 2 ^ 32) → Effect Rep (create name id mode time room) L img
-  unfolding volumePlan createDecision answer
-  create-effect f =
-      effect-changing L img rep conditions (λ x. just (plan x)) room createCount size (create name id mode time room) refl refl refusing
-      (λ passed. carries (f .0) (f .1) (f .2) passed)
+  create-effect f = effect-changing L img rep _ _ _ room createCount decides (λ passed. carries (f .0) (f .1) (f .2) passed)

@@ -1,6 +1,6 @@
 -- What delete owes: the ledger's answer, and its effect. Assumes nothing.
 use Prim.Native.Nat.{ℕ, suc, _+_, _*_, _^_, _≤_, _<_}
-use mathlib.Core.Path.{_≡_, refl, sym, ap, _∙_}
+use mathlib.Core.Path.{_≡_, refl, sym, ap, _∙_, subst}
 use mathlib.Core.Logic.{_≢_}
 use mathlib.Core.Bool.{Bool, true, false, cond, not, _&&_, _||_}
 use mathlib.Core.List.{List, _∷_}
@@ -9,30 +9,31 @@ use native.Mathlib.Omega.{arith}
 use lib.Dec.{eqb, leb, ltb, leb·zero}
 use lib.ListN.{length}
 use borrow.Author.Tests.{not-false}
+use Rattle.model.specs.declared.Place.{Place}
 use Rattle.model.specs.Bytes.{beAt, zeroSector}
 use Rattle.model.specs.Search.{isAt, indexOf}
 use Rattle.model.specs.Geometry.{rootAt, entryAt, tableAt, dataAt, tableSectors}
 use Rattle.model.specs.Disk.{view}
-use Rattle.model.specs.Root.{rootIn, updatedRootSector, updatedRoot}
+use Rattle.model.specs.Root.{rootIn, updatedRootSector}
 use Rattle.model.specs.Entry.{entryIn, isOccupied}
 use Rattle.model.specs.Catalogue.{Catalogue, Owner, catalogueOf, fileNamed, hasName, isBeyond, sectorsBeyond}
 use Rattle.model.specs.Faults.{among, fault21}
 use Rattle.model.specs.Refusals.{Conditions}
 use Rattle.model.specs.WriteList.{Plan, Record, Group, sectorWrite, groupsFor, listLength, recordSize, recordCount}
 use Rattle.model.specs.Find.{nameConditions}
-use Rattle.model.specs.Delete.{deletePlan, deleteDecision, deleteAnswer}
-use Rattle.model.specs.Ledger.{Ledger, catalogue, delete, changed}
-use Rattle.model.specs.Run.{volumeAnswer, volumePlan}
+use Rattle.model.specs.Delete.{deletePlan, deleteDecision}
+use Rattle.model.specs.Ledger.{Ledger, catalogue, delete, updatedRoot, freedRecords, withRootUpdated, step, answer}
+use Rattle.model.specs.Run.{volumeAnswer, onVolume}
 use Rattle.laws.proofs.Bytes.{length-zeroSector}
 use Rattle.laws.proofs.Disk.{length-view}
-use Rattle.safety.proofs.Asked.{answer, afterCall, afterCut, slotNamed, deleteCount}
+use Rattle.safety.proofs.OwnWords.{named-is, name-is}
 use Rattle.safety.proofs.Searches.{place-found}
 use Rattle.safety.proofs.Apply.{over, over-here, over-skip, over-none, over-miss}
 use Rattle.safety.proofs.Plan.{UsableGeometry, WellFormed, metadata-directory}
 use Rattle.safety.proofs.Commit.{Ready, uncut, ready-uncut}
 use Rattle.safety.proofs.Frame.{Outside, done-at, length-groups}
 use Rattle.safety.proofs.Rep.{Rep, rep-geometry}
-use Rattle.safety.proofs.Changing.{Passed, Refusing, answer-changing, Carries, effect-changing}
+use Rattle.safety.proofs.Changing.{Passed, Carries, effect-changing, Decides, same-changing}
 use Rattle.safety.proofs.Preserved.{out-front, out-data, slotIn, entry-is, part-keeps}
 use Rattle.safety.proofs.Fields.{beAt-zeros, zero-free, length-updatedRootSector, root-updated}
 use Rattle.safety.proofs.Replaced.{Admissible}
@@ -75,19 +76,22 @@ module _ (L : Ledger) (img : List ℕ) (rep : Rep L img) (name : List ℕ) (time
   abbrev table-writes : Group
   table-writes = freed L img i 0
 
-  size : listLength (groupsFor (view img) (just p)) ≡ deleteCount (catalogue L) i * recordSize
-  unfolding groupsFor deletePlan deleteCount
+  abbrev records : ℕ
+  records = freedRecords L name 0 2
+
+  size : listLength (groupsFor (view img) (just p)) ≡ freedRecords L name 0 2 * recordSize
+  unfolding groupsFor deletePlan freedRecords
   size =
-      length-groups _ (view img) p
-      ∙ ap (λ n. recordCount 0 n * recordSize) (let e : length table-writes ≡ sectorsBeyond (catalogue L) i 0 = length-freed L img i 0 in let q : suc (suc (length table-writes)) ≡ 2 + sectorsBeyond (catalogue L) i 0 = omega arith in q)
+      rw (named-is L name)
+      (length-groups _ (view img) p
+      ∙ ap (λ n. recordCount 0 n * recordSize) (let e : length table-writes ≡ sectorsBeyond (catalogue L) i 0 = length-freed L img i 0 in let q : suc (suc (length table-writes)) ≡ 2 + sectorsBeyond (catalogue L) i 0 = omega arith in q))
+
+  decides : Decides L img (delete name time room) conditions (λ x. just (plan x)) room records
+  unfolding onVolume deleteDecision step nameConditions
+  decides = record { volume = refl; reply = refl; conditions = rw (name-is name, named-is L name); refusing = refl; size = size }
 
   pub delete-same : volumeAnswer (delete name time room) img ≡ answer (delete name time room) L
-  unfolding volumeAnswer answer deleteAnswer deleteDecision slotNamed
-  delete-same = ap changed (answer-changing L img rep conditions (λ x. just (plan x)) room (deleteCount (catalogue L) i) size)
-
-  refusing : Refusing (nameConditions (catalogue L) name)
-  unfolding nameConditions
-  refusing = ((λ e. omega arith), ((λ e. omega arith), tt))
+  delete-same = same-changing L img rep _ _ _ room records decides
 
   geo : UsableGeometry (L .geometry)
   geo = rep-geometry L img rep
@@ -108,6 +112,7 @@ module _ (L : Ledger) (img : List ℕ) (rep : Rep L img) (name : List ℕ) (time
           metadata = (metadata-directory (L .geometry) 1 (omega arith) (omega arith), (metadata-directory (L .geometry) (entryAt i) (omega arith) (omega arith), freed-metadata L img i 0));
           rising = (omega arith, (omega arith, freed-rising L img i 0 (suc (entryAt i)) (omega arith)));
           usable = tt;
+          own = tt;
           wholeData = tt;
           wholeTargets = (length-updatedRootSector time (view img rootAt) ∙ length-view img 1, (length-zeroSector, freed-whole L img i 0));
         }
@@ -196,16 +201,13 @@ module _ (L : Ledger) (img : List ℕ) (rep : Rep L img) (name : List ℕ) (time
         }
 
     carries : Carries L img (delete name time room) p
-    unfolding afterCall afterCut deletePlan slotNamed
+    unfolding step deletePlan
     carries = record {
       fits = fits;
-      done = rep-replaced L img rep (updatedRoot time (L .root)) i none out rewrites;
+      done = subst (λ (x : Place). Rep (withRootUpdated L time (indexOf x) none) out) (sym (named-is L name)) (rep-replaced L img rep (updatedRoot time (L .root)) i none out rewrites);
       partly = λ k m. part-keeps L img p rep fits refl k m;
     }
 
   -- what delete does
   pub delete-effect : time < 2 ^ 32 → Effect Rep (delete name time room) L img
-  unfolding volumePlan deleteDecision answer slotNamed
-  delete-effect ht =
-      effect-changing L img rep conditions (λ x. just (plan x)) room (deleteCount (catalogue L) i) size (delete name time room) refl refl refusing
-      (λ passed. carries ht passed)
+  delete-effect ht = effect-changing L img rep _ _ _ room records decides (λ passed. carries ht passed)

@@ -14,8 +14,9 @@ use Rattle.model.specs.Geometry.{extentSectors}
 use Rattle.model.specs.Bytes.{beAt, beBytes, run, put, stamped, raised, zeroSector, onesSector}
 use Rattle.model.specs.Search.{every, same}
 use Rattle.model.specs.Superblock.{magic, newSuperblock, geometryIn, journalLength, isVolume}
-use Rattle.model.specs.Root.{rootIn, updatedRoot, updatedRootSector, newRoot, newRootSector}
-use Rattle.model.specs.Entry.{nameIn, entryIn, isOccupied, hasZero, badName, newEntry, newEntrySector, occupiedMark, updatedEntry, updatedEntrySector}
+use Rattle.model.specs.Root.{rootIn, updatedRootSector, newRootSector}
+use Rattle.model.specs.Entry.{nameIn, entryIn, isOccupied, hasZero, badName, newEntrySector, occupiedMark, updatedEntrySector}
+use Rattle.model.specs.Ledger.{newEntry, updatedEntry, updatedRoot, newRoot}
 use Rattle.laws.proofs.Booleans.{or-right}
 use Rattle.laws.proofs.Bytes.{length-put, length-zeroSector, number-same, number-other, bytes-other, number-apart, run-put-same}
 

@@ -16,23 +16,22 @@ use Rattle.model.specs.declared.Place.the-variants.{At, Nowhere}
 use Rattle.model.specs.Bytes.{run, put}
 use Rattle.model.specs.Search.{some, indexOf, same}
 use Rattle.model.specs.Disk.{view}
-use Rattle.model.specs.Entry.{Entry, newEntry, updatedEntry}
-use Rattle.model.specs.Catalogue.{Catalogue, catalogueOf, hasName, fileNamed, freeEntry, entryOf, entryOr, fileByte, fileBytes}
+use Rattle.model.specs.Entry.{Entry}
+use Rattle.model.specs.Catalogue.{Catalogue, catalogueOf, hasName, fileNamed, entryOf, entryOr, fileByte, fileBytes}
 use Rattle.model.specs.Faults.{among}
 use Rattle.model.specs.Resize.{zeros}
-use Rattle.model.specs.Ledger.{Ledger, File, fileOr, entryOfFile, catalogue, create, delete, resize, write, withFile, withRootUpdated, shrunk}
+use Rattle.model.specs.Ledger.{Ledger, File, fileOr, entryOfFile, catalogue, create, delete, resize, write, withFile, withRootUpdated, shrunk, newEntry, updatedEntry, holdsName, slotNamed, freeSlot, fileOf, written, afterWrite, step}
 use Rattle.model.specs.Demand3.{Says}
 use Rattle.laws.proofs.Booleans.{and-left}
 use Rattle.laws.proofs.Bytes.{length-run, getD-run, run-all, length-put, getD-put}
 use Rattle.laws.proofs.Search.{length-tab, Hit, first-none}
 use Rattle.safety.specs.Naming.{Contents, contentsAt, fileOn, contentsIn, fileIn}
-use Rattle.safety.proofs.Asked.{slotNamed, fileOf, written, afterWrite, afterCall}
+use Rattle.safety.proofs.OwnWords.{name-if, named-is, zeros-are}
 use Rattle.safety.proofs.Searches.{place-none}
 use Rattle.safety.proofs.Rep.{catalogue-is, NoFaults}
 use Rattle.safety.proofs.Replaced.{names-apart}
-use Rattle.safety.proofs.Read.{file-there}
 use Rattle.safety.proofs.TakenFile.{first-only}
-use Rattle.safety.proofs.Naming.{same-refl, same-true, named-hit, named-by, Found, Fresh}
+use Rattle.safety.proofs.Naming.{same-refl, same-true, named-hit, named-by, Found, Fresh, slotOf, filled}
 
 -- ---- what is said of the file that the call names
 
@@ -44,73 +43,73 @@ writtenInto f offset bytes time =
 
 module _ (L : Ledger) (m : List ℕ) where
   -- a slot that alone has the name
-  said-at : (M : Ledger) (i : ℕ) (f : File) → M .slots i ≡ just f → fileNamed (catalogue M) m ≡ At i → fileIn M m ≡ just (record { entry = f .entry; bytes = f .bytes })
+  said-at : (M : Ledger) (i : ℕ) (f : File) → M .slots i ≡ just f → slotNamed M m ≡ At i → fileIn M m ≡ just (record { entry = f .entry; bytes = f .bytes })
   unfolding fileIn
   said-at M i f e q = ap (contentsIn M) q ∙ ap (λ (o : Option File). just (record { entry = fileOr o .entry; bytes = fileOr o .bytes })) e
 
   slot-here : (i : ℕ) (f : Option File) → cond (eqb i i) f (L .slots i) ≡ f
   slot-here i f = ap (λ (b : Bool). cond b f (L .slots i)) (eq-eqb i i refl)
 
-  pub renewed-said : Found L m → (f : File) → f .entry .name ≡ fileOf L m .entry .name → fileIn (withFile L (slotNamed L m) f) m ≡ just (record { entry = f .entry; bytes = f .bytes })
+  pub renewed-said : Found L m → (f : File) → f .entry .name ≡ fileOf L m .entry .name → fileIn (withFile L (slotOf L m) f) m ≡ just (record { entry = f .entry; bytes = f .bytes })
   unfolding fileOf
   renewed-said h f e =
-      let i = slotNamed L m in
+      let i = slotOf L m in
       said-at (withFile L i f) i f (slot-here i (just f))
       (named-by L (L .root) i (just f) m (ap (λ (x : List ℕ). same x m) e ∙ by-file (L .slots i) (h .has)) ∙ h .at)
     where
-      by-file : (o : Option File) → hasName m (entryOfFile o) ≡ true → same (fileOr o .entry .name) m ≡ hasName m (entryOfFile o)
+      by-file : (o : Option File) → holdsName m o ≡ true → same (fileOr o .entry .name) m ≡ holdsName m o
       by-file none q = absurd (false≢true q)
       by-file (just x) q = refl
 
   pub found-said : Found L m → fileIn L m ≡ just (record { entry = fileOf L m .entry; bytes = fileOf L m .bytes })
   unfolding fileOf
-  found-said h = said-at L (slotNamed L m) (fileOr (L .slots (slotNamed L m))) (file-there (L .slots (slotNamed L m)) m (h .has)) (h .at)
+  found-said h = said-at L (slotOf L m) (fileOr (L .slots (slotOf L m))) (filled (L .slots (slotOf L m)) m (h .has)) (h .at)
 
-  pub created-said : Fresh L m → (id mode time room : ℕ) → fileIn (afterCall (create m id mode time room) L) m ≡ just (record { entry = newEntry m id mode time; bytes = [] })
-  unfolding afterCall fileNamed catalogue newEntry
+  pub created-said : Fresh L m → (id mode time room : ℕ) → fileIn (step (create m id mode time room) L .done) m ≡ just (record { entry = newEntry m id mode time; bytes = [] })
+  unfolding step slotNamed newEntry
   created-said h id mode time room =
       said-at (withRootUpdated L time i (just f)) i f (slot-here i (just f))
-      (first-only (λ k. hasName m (entryOfFile (cond (eqb k i) (just f) (L .slots k)))) (L .geometry .files) i (h .within)
-      (ap (λ (o : Option File). hasName m (entryOfFile o)) (slot-here i (just f)) ∙ same-refl m) (λ k l. go k l (eqb k i) refl))
+      (first-only (λ k. holdsName m (cond (eqb k i) (just f) (L .slots k))) (L .geometry .files) i (h .within)
+      (ap (λ (o : Option File). holdsName m o) (slot-here i (just f)) ∙ same-refl m) (λ k l. go k l (eqb k i) refl))
     where
       i : ℕ
-      i = indexOf (freeEntry (catalogue L))
+      i = indexOf (freeSlot L)
 
       f : File
       f = record { entry = newEntry m id mode time; bytes = []; extents = [] }
 
-      go : (k : ℕ) → k < L .geometry .files → (b : Bool) → eqb k i ≡ b → hasName m (entryOfFile (cond b (just f) (L .slots k))) ≡ true → k ≡ i
+      go : (k : ℕ) → k < L .geometry .files → (b : Bool) → eqb k i ≡ b → holdsName m (cond b (just f) (L .slots k)) ≡ true → k ≡ i
       go k l true e q = eqb-true k i e
-      go k l false e q = absurd (true≢false (sym q ∙ place-none (λ x. hasName m (entryOfFile (L .slots x))) (L .geometry .files) (h .unused) k l))
+      go k l false e q = absurd (true≢false (sym q ∙ place-none (λ x. holdsName m (L .slots x)) (L .geometry .files) (h .unused) k l))
 
   -- where no two files have one name, none has the name after a delete
-  pub deleted-said : NoFaults (catalogue L) → Found L m → (time room : ℕ) → fileIn (afterCall (delete m time room) L) m ≡ none
-  unfolding afterCall fileIn fileNamed catalogue
+  pub deleted-said : NoFaults (catalogue L) → Found L m → (time room : ℕ) → fileIn (step (delete m time room) L .done) m ≡ none
+  unfolding step fileIn slotNamed catalogue
   deleted-said nf h time room =
       ap (contentsIn (withRootUpdated L time i none))
-      (first-none (λ k. hasName m (entryOfFile (cond (eqb k i) none (L .slots k)))) (L .geometry .files) (λ k l. go k l (eqb k i) refl))
+      (first-none (λ k. holdsName m (cond (eqb k i) none (L .slots k))) (L .geometry .files) (λ k l. go k l (eqb k i) refl))
     where
       i : ℕ
-      i = slotNamed L m
+      i = slotOf L m
 
-      apart : (o : Option Entry) (k : ℕ) → hasName m o ≡ true → among o (λ e. hasName (e .name) (entryOfFile (L .slots k))) ≡ false → hasName m (entryOfFile (L .slots k)) ≡ false
+      apart : (o : Option File) (k : ℕ) → holdsName m o ≡ true → among (entryOfFile o) (λ e. hasName (e .name) (entryOfFile (L .slots k))) ≡ false → holdsName m (L .slots k) ≡ false
       apart none k q r = absurd (false≢true q)
-      apart (just e) k q r = ap (λ (x : List ℕ). hasName x (entryOfFile (L .slots k))) (sym (same-true (e .name) m q)) ∙ r
+      apart (just f) k q r = name-if m (L .slots k) ∙ ap (λ (x : List ℕ). hasName x (entryOfFile (L .slots k))) (sym (same-true (f .entry .name) m q)) ∙ r
 
-      go : (k : ℕ) → k < L .geometry .files → (b : Bool) → eqb k i ≡ b → hasName m (entryOfFile (cond b none (L .slots k))) ≡ false
+      go : (k : ℕ) → k < L .geometry .files → (b : Bool) → eqb k i ≡ b → holdsName m (cond b none (L .slots k)) ≡ false
       go k l true q = refl
-      go k l false q = apart (entryOfFile (L .slots i)) k (h .has) (names-apart (catalogue L) nf i k (h .within) l (eqb-false k i q))
+      go k l false q = apart (L .slots i) k (h .has) (names-apart (catalogue L) nf i k (h .within) l (eqb-false k i q))
 
   written-file : Found L m → (offset : ℕ) (bytes : List ℕ) (time : ℕ)
-      → fileIn (withFile L (slotNamed L m) (written L (slotNamed L m) offset bytes time)) m ≡ just (writtenInto (fileOf L m) offset bytes time)
+      → fileIn (withFile L (slotOf L m) (written L (slotOf L m) offset bytes time)) m ≡ just (writtenInto (fileOf L m) offset bytes time)
   unfolding written fileOf updatedEntry
-  written-file h offset bytes time = renewed-said h (written L (slotNamed L m) offset bytes time) refl
+  written-file h offset bytes time = renewed-said h (written L (slotOf L m) offset bytes time) refl
 
   pub written-said : Found L m → (offset : ℕ) (bytes : List ℕ) (time room : ℕ) → 0 < length bytes
-      → fileIn (afterCall (write m offset bytes time room) L) m ≡ just (writtenInto (fileOf L m) offset bytes time)
-  unfolding afterCall afterWrite
+      → fileIn (step (write m offset bytes time room) L .done) m ≡ just (writtenInto (fileOf L m) offset bytes time)
+  unfolding step afterWrite
   written-said h offset bytes time room some =
-      ap (λ (b : Bool). fileIn (cond b L (withFile L (slotNamed L m) (written L (slotNamed L m) offset bytes time))) m) (ne-eqb (length bytes) 0 (λ e. omega arith))
+      ap (λ (b : Bool). fileIn (cond b L (withFile L (slotOf L m) (written L (slotOf L m) offset bytes time))) m) (ne-eqb (length bytes) 0 (λ e. omega arith))
       ∙ written-file h offset bytes time
 
 -- zeros written at the end of a file's bytes are what lies past them
@@ -135,7 +134,7 @@ module _ (L : Ledger) (m : List ℕ) (h : Found L m) (sized : length (fileOf L m
   old = fileOf L m
 
   abbrev i : ℕ
-  i = slotNamed L m
+  i = slotOf L m
 
   -- its entry, unless the size stays, and its first bytes, with zeros behind them where it grows
   abbrev resizedEntry : Bool → Entry
@@ -172,10 +171,10 @@ module _ (L : Ledger) (m : List ℕ) (h : Found L m) (sized : length (fileOf L m
       let ne : length end ≢ 0 = eqb-false _ 0 e in
       written-file L m h (old .entry .size) end time ∙ ap just (grown-file l) ∙ ap resized (sym (ne-eqb size (old .entry .size) (λ x. omega arith)))
 
-  pub resized-said : fileIn (afterCall (resize m size time room) L) m
+  pub resized-said : fileIn (step (resize m size time room) L .done) m
       ≡ just (record { entry = cond (eqb size (fileOf L m .entry .size)) (fileOf L m .entry) (updatedEntry size time (fileOf L m .entry)); bytes = run (fileOf L m .bytes) 0 size })
-  unfolding afterCall afterWrite
-  resized-said = go (ltb size (old .entry .size)) refl
+  unfolding step afterWrite
+  resized-said = rw (zeros-are (size - fileOf L m .entry .size)) (go (ltb size (old .entry .size)) refl)
     where
       go : (b : Bool) → ltb size (old .entry .size) ≡ b
           → fileIn (cond b (withFile L i (shrunk L i size time)) (afterWrite L i (old .entry .size) (zeros (size - old .entry .size)) time)) m ≡ resized (eqb size (old .entry .size))
@@ -193,7 +192,8 @@ entry-of L img s k f e = entry-or (catalogueOf (view img) .entries k) (f .entry)
 
 pub said : (L : Ledger) (img : List ℕ) → Says L img → (n : List ℕ) → fileOn img n ≡ fileIn L n
 unfolding fileOn fileIn
-said L img s n = ap (λ (c : Catalogue). contentsAt (view img) (fileNamed c n)) (catalogue-is L img s) ∙ go (fileNamed (catalogue L) n) (named-hit L n)
+said L img s n =
+    ap (λ (c : Catalogue). contentsAt (view img) (fileNamed c n)) (catalogue-is L img s) ∙ ap (contentsAt (view img)) (sym (named-is L n)) ∙ go (slotNamed L n) (named-hit L n)
   where
     at-slot : (k : ℕ) (f : File) → L .slots k ≡ just f → contentsAt (view img) (At k) ≡ just (record { entry = f .entry; bytes = f .bytes })
     at-slot k f e =
@@ -201,13 +201,13 @@ said L img s n = ap (λ (c : Catalogue). contentsAt (view img) (fileNamed c n)) 
         ap (λ (x : Entry). just (record { entry = x; bytes = fileBytes (catalogueOf (view img)) (view img) k 0 (x .size) })) q
         ∙ ap (λ (b : List ℕ). just (record { entry = f .entry; bytes = b })) (s .bytes k f e)
 
-    go : (r : Place) → Hit (λ k. hasName n (entryOfFile (L .slots k))) (L .geometry .files - 0) 0 r → contentsAt (view img) r ≡ contentsIn L r
+    go : (r : Place) → Hit (λ k. holdsName n (L .slots k)) (L .geometry .files - 0) 0 r → contentsAt (view img) r ≡ contentsIn L r
     go Nowhere h = refl
-    go (At k) h = at-slot k (fileOr (L .slots k)) (file-there (L .slots k) n (h .2))
+    go (At k) h = at-slot k (fileOr (L .slots k)) (filled (L .slots k) n (h .2))
 
 -- a file has as many bytes as its size says
 pub said-length : (L : Ledger) (img : List ℕ) → Says L img → (m : List ℕ) → Found L m → length (fileOf L m .bytes) ≡ fileOf L m .entry .size
 unfolding fileOf fileBytes
 said-length L img s m h =
-    let i = slotNamed L m in
-    ap length (sym (s .bytes i (fileOr (L .slots i)) (file-there (L .slots i) m (h .has)))) ∙ length-tab (fileByte (catalogueOf (view img)) (view img) i) 0 (fileOr (L .slots i) .entry .size)
+    let i = slotOf L m in
+    ap length (sym (s .bytes i (fileOr (L .slots i)) (filled (L .slots i) m (h .has)))) ∙ length-tab (fileByte (catalogueOf (view img)) (view img) i) 0 (fileOr (L .slots i) .entry .size)

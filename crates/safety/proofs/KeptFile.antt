@@ -14,10 +14,10 @@ use Rattle.model.specs.Search.{some}
 use Rattle.model.specs.Geometry.{superblockAt, extentBytes, usable, entryAt, extentsFor}
 use Rattle.model.specs.Disk.{view}
 use Rattle.model.specs.Superblock.{geometryIn}
-use Rattle.model.specs.Entry.{Entry, entryIn, isOccupied, badName, updatedEntry, updatedEntrySector}
+use Rattle.model.specs.Entry.{Entry, entryIn, isOccupied, badName, updatedEntrySector}
 use Rattle.model.specs.Catalogue.{catalogueOf, isFree, hasName, hasId}
 use Rattle.model.specs.Faults.{among, fault21, fault22, fault24, fault25, exact}
-use Rattle.model.specs.Ledger.{Ledger, File, entryOfFile, catalogue}
+use Rattle.model.specs.Ledger.{Ledger, File, entryOfFile, catalogue, updatedEntry}
 use Rattle.laws.proofs.Disk.{length-view}
 use Rattle.safety.proofs.Searches.{or-left-no, or-right-no, among-or-right}
 use Rattle.safety.proofs.Rep.{Rep}

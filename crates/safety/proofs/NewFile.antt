@@ -9,11 +9,10 @@ use lib.Dec.{eqb, leb}
 use borrow.Author.Tests.{le-ltb, eqb-true}
 use Rattle.model.specs.Search.{every}
 use Rattle.model.specs.Geometry.{usable, extentBytes, extentsFor}
-use Rattle.model.specs.Root.{updatedRoot}
-use Rattle.model.specs.Entry.{badName, newEntry}
+use Rattle.model.specs.Entry.{badName}
 use Rattle.model.specs.Catalogue.{Catalogue, Owner, isFree, hasName, hasId, isBeyond}
 use Rattle.model.specs.Faults.{among, fault25, exact}
-use Rattle.model.specs.Ledger.{Ledger, File, fileOr, entryOfFile, catalogue, withRootUpdated}
+use Rattle.model.specs.Ledger.{Ledger, File, fileOr, entryOfFile, catalogue, withRootUpdated, newEntry, updatedRoot}
 use Rattle.model.specs.Opened.{Bounded}
 use Rattle.laws.proofs.Search.{every-yes}
 use Rattle.safety.proofs.Searches.{or-left-no, among-or-right}

@@ -12,9 +12,8 @@ use borrow.Author.Tests.{eqb-true}
 use Rattle.model.specs.WriteList.{Record, Group, stored}
 use Rattle.model.specs.Cut.{kept}
 use Rattle.laws.proofs.Disk.{same-view}
-use Rattle.safety.proofs.Apply.{over, apply, All, all-map, all-kept, InImage, length-stored, stored-view}
+use Rattle.safety.proofs.Apply.{over, apply, All, all-map, all-kept, InImage, length-stored, stored-view, Own}
 use Rattle.safety.proofs.Journal.{Rising}
-use Rattle.safety.proofs.Spliced.{Own}
 
 -- the same records in another order
 pub data Reordered : Group → Group → Type 0 where

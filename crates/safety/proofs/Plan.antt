@@ -23,7 +23,7 @@ use Rattle.model.specs.Journal.{sourceAt, targetAt, journalSectors, journalSect
 use Rattle.model.specs.Recovery.{isData, isMetadata, goodEntry, replayedSector, replayed, badJournal, replayGroups}
 use Rattle.laws.proofs.Booleans.{range-yes, range-no, and-yes, or-left, or-right}
 use Rattle.laws.proofs.Search.{every-yes, some-no, getD-tab0, tab-ext, flat-ext}
-use Rattle.safety.proofs.Apply.{over, apply, hits, over-append, over-miss, over-skip, over-none, All, all-map, all-at, hits-append, all-miss, tab-miss, tab-at}
+use Rattle.safety.proofs.Apply.{over, apply, hits, over-append, over-miss, over-skip, over-none, All, all-map, all-at, hits-append, all-miss, tab-miss, tab-at, Own}
 use Rattle.safety.proofs.Journal.{packed-source, packed-target, Rising, rising-lt, picked, flat-picked, made, made-picked}
 use Rattle.safety.proofs.Superblock.{journalLength-with, with-with, state-waiting, Volume, volume-with, recovers-by, Recovers}
 
@@ -68,13 +68,14 @@ abbrev pub Whole : Record → Type 0
 Whole w = length (w .contents) ≡ 512
 
 -- at least one target and no more than the table's sectors, entry and root; targets in rising order in root, directory and table,
--- data sectors in usable extents; all of 512 bytes
+-- data sectors in usable extents, none of them twice; all of 512 bytes
 pub record WellFormed (g : Geometry) (p : Plan) : Type 0 where
   pub nonempty : 0 < length (p .targets)
   pub few : length (p .targets) ≤ tableSectors g + 2
   pub metadata : All (Metadata g) (p .targets)
   pub rising : Rising 0 (p .targets)
   pub usable : All (UsableSector g) (p .dataSectors)
+  pub own : Own (p .dataSectors)
   pub wholeData : All Whole (p .dataSectors)
   pub wholeTargets : All Whole (p .targets)
 

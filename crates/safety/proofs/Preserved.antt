@@ -31,7 +31,7 @@ use Rattle.safety.proofs.Plan.{UsableGeometry, WellFormed, A}
 use Rattle.safety.proofs.Commit.{Ready, partOf, ready-part}
 use Rattle.safety.proofs.Frame.{Outside, part-at}
 use Rattle.safety.proofs.Bounds.{usable-some}
-use Rattle.safety.proofs.Rep.{Rep, says-of, disk-geometry, rep-geometry}
+use Rattle.safety.proofs.Rep.{Rep, says-of, disk-geometry, rep-geometry, no-mark-fault}
 
 -- ---- areas lie outside journal and reserve
 
@@ -159,7 +159,7 @@ module _ (L : Ledger) (img img′ : List ℕ) (rep : Rep L img) (ready : Ready (
         disjoint = rep .disjoint;
         sized = rep .sized;
         says = says-of L img′ ready (ap rootIn (keeps 1 (out-front g geo 1 (omega arith))) ∙ rep .says .root)
-            (λ i l. marks-keep (view img) (view img′) i (keeps (entryAt i) (out-front g geo (entryAt i) (omega arith))) ∙ rep .says .marks i l)
+            (λ i l. marks-keep (view img) (view img′) i (keeps (entryAt i) (out-front g geo (entryAt i) (omega arith))) ∙ no-mark-fault L img (rep .says) i l)
             (λ i. ap (λ (c : Catalogue). c .entries i) same-cat ∙ rep .says .directory i)
             (λ e. ap (λ (c : Catalogue). c .table e) same-cat ∙ rep .says .table e)
             (λ i f e.

@@ -15,13 +15,13 @@ use Rattle.model.specs.Disk.{Disk, view}
 use Rattle.model.specs.Catalogue.{Catalogue, catalogueOf, hasName, fileNamed, entryOf, entryOr, fileByte, fileBytes}
 use Rattle.model.specs.Refusals.{verdictOf, andThen, isDone}
 use Rattle.model.specs.Read.{readCount, sizeNamed, readConditions, notRead, readBy, readAnswer, readGives}
-use Rattle.model.specs.Ledger.{Ledger, File, fileOr, entryOfFile, catalogue, read, gave}
-use Rattle.model.specs.Run.{volumeAnswer}
+use Rattle.model.specs.Ledger.{Ledger, File, fileOr, entryOfFile, catalogue, read, gave, numbered, refused, step, answer}
+use Rattle.model.specs.Run.{volumeAnswer, onVolume}
 use Rattle.laws.proofs.Search.{getD-tab0}
-use Rattle.safety.proofs.Asked.{answer, slotNamed, fileOf}
+use Rattle.safety.proofs.OwnWords.{named-is, entry-is, file-is, entry-named, name-is, verdicts, answers}
 use Rattle.safety.proofs.Searches.{place-found}
 use Rattle.safety.proofs.Rep.{Rep, cat-is, opens}
-use Rattle.safety.proofs.Changing.{Passed, Refusing, passed-by}
+use Rattle.safety.proofs.Changing.{Passed, passed-by, refuses}
 
 run-tab : (f : ℕ → ℕ) (size off n : ℕ) → off + n ≤ size → run (tab f 0 size) off n ≡ tab f off n
 unfolding run tab
@@ -73,9 +73,9 @@ module _ (L : Ledger) (img : List ℕ) (rep : Rep L img) (name : List ℕ) (offs
   unfolding sizeNamed entryOf catalogue
   size-of = size-is (L .slots i)
 
-  refusing : Refusing (readConditions (catalogue L) name offset asked room)
+  refusing : refuses (readConditions (catalogue L) name offset asked room) ≡ true
   unfolding readConditions
-  refusing = ((λ e. omega arith), ((λ e. omega arith), ((λ e. omega arith), ((λ e. omega arith), tt))))
+  refusing = refl
 
   -- of the n bytes that are given
   given-bytes : (n : ℕ) → answered .count ≡ n → fileBytes (catalogueOf (view img)) (view img) i offset n ≡ run (f .bytes) offset n
@@ -95,10 +95,30 @@ module _ (L : Ledger) (img : List ℕ) (rep : Rep L img) (name : List ℕ) (offs
           let h : offset + n ≤ f .entry .size = omega arith in
           sym (bytes-from (catalogueOf (view img)) (view img) i (f .entry .size) offset n h) ∙ ap (λ (b : List ℕ). run b offset n) (rep .says .bytes i f there)
 
+  -- as the ledger's words say it
+  conditions-are : v ≡ verdictOf (verdicts (step (read name offset asked room) L .refusals))
+  unfolding readConditions sizeNamed step
+  conditions-are = rw (name-is name, named-is L name, entry-named L name)
+
+  abbrev n : ℕ
+  n = readCount (sizeNamed (catalogue L) name) offset asked
+
+  reply-is : gave (record { verdict = numbered 0; count = n }) (run (f .bytes) offset n) ≡ step (read name offset asked room) L .reply
+  unfolding sizeNamed step
+  reply-is = rw (file-is L name, entry-is L i)
+
+  given-none : (b : Bool) → run (f .bytes) offset (cond b (record { verdict = v; count = n }) (notRead v) .count) ≡ cond b (run (f .bytes) offset n) []
+  unfolding run
+  given-none true = refl
+  given-none false = refl
+
   pub read-same : volumeAnswer (read name offset asked room) img ≡ answer (read name offset asked room) L
-  unfolding volumeAnswer answer readGives fileOf slotNamed
+  unfolding onVolume readGives readBy
   read-same =
       ap₂ gave answer-is
       (ap (λ n. fileBytes (catalogueOf (view img)) (view img) (indexOf (fileNamed (catalogueOf (view img)) name)) offset n) (ap (λ (r : BytesRead). r .count) answer-is)
       ∙ ap (λ (x : Catalogue). fileBytes (catalogueOf (view img)) (view img) (indexOf (fileNamed x name)) offset (answered .count)) (cat-is L img rep)
-      ∙ given-bytes (answered .count) refl)
+      ∙ given-bytes (answered .count) refl ∙ given-none (isDone v))
+      ∙ answers (step (read name offset asked room) L)
+      (λ b w. gave (cond b (record { verdict = w; count = n }) (notRead w)) (cond b (run (f .bytes) offset n) []))
+      reply-is (λ m. ap (refused m) reply-is) v conditions-are

@@ -2,29 +2,35 @@
 -- what summary, check, find and list answer. Assumes nothing.
 use Prim.Native.Nat.{ℕ, _<_}
 use mathlib.Core.Path.{_≡_, refl, sym, ap, _∙_, fun-ext}
-use mathlib.Core.Bool.{Bool, true, false}
-use mathlib.Core.List.{List}
+use mathlib.Core.Bool.{Bool, true, false, cond, not, _&&_, _||_, true≢false}
+use mathlib.Core.List.{List, []}
 use lib.ListN.{length}
-use mathlib.Core.Option.{some as just}
+use mathlib.Core.Option.{some as just, Option, none, Option·none-ne-some}
+use lib.Dec.{eqb, ltb}
+use borrow.Author.Tests.{eqb-true, lt-ltb}
+use Rattle.model.specs.declared.Geometry.{Geometry}
 use Rattle.model.specs.declared.Soundness.the-variants.{Sound}
 use Rattle.model.specs.declared.Place.the-variants.{At}
 use Rattle.model.specs.declared.Verdict.{Verdict}
-use Rattle.model.specs.Search.{first, isAt}
-use Rattle.model.specs.Geometry.{rootAt, extentsFor}
+use Rattle.model.specs.Bytes.{numberIn}
+use Rattle.model.specs.Search.{first, isAt, indexOf}
+use Rattle.model.specs.Geometry.{rootAt, extentsFor, superblockAt, entryAt}
 use Rattle.model.specs.Disk.{Disk, view}
+use Rattle.model.specs.Superblock.{geometryIn}
 use Rattle.model.specs.Root.{rootIn}
-use Rattle.model.specs.Catalogue.{Catalogue, catalogueOf, fileByte, fileBytes}
+use Rattle.model.specs.Entry.{entryField, entryIn, isOccupied, fieldsOf}
+use Rattle.model.specs.Catalogue.{Catalogue, catalogueOf, fileByte, fileBytes, entryOf, fileNamed, isFree}
 use Rattle.model.specs.Faults.{fault21, fault22, fault23, fault24, fault25, fault26, firstFault, orElse}
 use Rattle.model.specs.Refusals.{verdictOf, andThen, given, done, refusal, stateNumber, faultVerdict, soundVerdict, judged, imageVerdict}
 use Rattle.model.specs.Summary.{noSummary, summaryAnswer, checkAnswer}
-use Rattle.model.specs.Find.{nameConditions, foundBy, findAnswer}
-use Rattle.model.specs.Listing.{listConditions, listVerdict, listedBy, copiedBy, listAnswer, listCopies}
-use Rattle.model.specs.Ledger.{Ledger, File, fileOr, placeAmong, holderOf, catalogue, summary, check, find, list, summarized, checked, found, listed}
-use Rattle.model.specs.Run.{volumeAnswer}
+use Rattle.model.specs.Find.{nameConditions, foundBy, findAnswer, notFound}
+use Rattle.model.specs.Listing.{listConditions, listVerdict, listedBy, copiedBy, listAnswer, listCopies, notListed}
+use Rattle.model.specs.Ledger.{Ledger, File, fileOr, placeAmong, holderOf, catalogue, summary, check, find, list, summarized, checked, found, listed, entryOfFile, entryFields, lowest, step, answer}
+use Rattle.model.specs.Run.{volumeAnswer, onVolume}
 use Rattle.model.specs.Demand3.{Says}
 use Rattle.model.specs.Opened.{Bounded}
 use Rattle.laws.proofs.Search.{first-none, length-tab}
-use Rattle.safety.proofs.Asked.{answer}
+use Rattle.safety.proofs.OwnWords.{free-if, named-is, entry-is, entry-named, named-conditions, answers}
 use Rattle.safety.proofs.Superblock.{volume-accepted}
 use Rattle.safety.proofs.Plan.{UsableGeometry}
 use Rattle.safety.proofs.Commit.{Ready}
@@ -60,6 +66,35 @@ pub record Rep (L : Ledger) (img : List ℕ) : Type 0 where
   pub disjoint : Disjoint L
   pub sized : Sized L
 
+-- a slot's mark, where it is one of the two values and the directory says what the ledger says; and back
+mark-said : (L : Ledger) (d : Disk) → geometryIn (d superblockAt) ≡ L .geometry → (i : ℕ) → i < L .geometry .files → fault21 d i ≡ false
+    → catalogueOf d .entries i ≡ catalogue L .entries i → numberIn (d (entryAt i)) (entryField .mark) ≡ cond (isFree (L .slots i)) 0 65535
+unfolding fault21 isOccupied catalogueOf catalogue
+mark-said L d g i l h e =
+    go (eqb m 65535) (L .slots i) refl h
+    (ap (λ (b : Bool). cond (b && eqb m 65535) (just (entryIn (d (entryAt i)))) none) (sym (lt-ltb i _ l) ∙ ap (λ (x : Geometry). ltb i (x .files)) (sym g)) ∙ e)
+  where
+    m : ℕ
+    m = numberIn (d (entryAt i)) (entryField .mark)
+
+    free : (b : Bool) → eqb m 0 ≡ b → not (b || false) ≡ false → m ≡ 0
+    free true q k = eqb-true m 0 q
+    free false q k = absurd (true≢false k)
+
+    go : (b : Bool) (o : Option File) → eqb m 65535 ≡ b → not (eqb m 0 || b) ≡ false → cond b (just (entryIn (d (entryAt i)))) none ≡ entryOfFile o → m ≡ cond (isFree o) 0 65535
+    go true (just f) q k n = eqb-true m 65535 q
+    go true none q k n = absurd (Option·none-ne-some _ (sym n))
+    go false (just f) q k n = absurd (Option·none-ne-some _ n)
+    go false none q k n = free (eqb m 0) refl k
+
+pub no-mark-fault : (L : Ledger) (img : List ℕ) → Says L img → (i : ℕ) → i < L .geometry .files → fault21 (view img) i ≡ false
+unfolding fault21 isOccupied
+no-mark-fault L img s i l = ap (λ (m : ℕ). not (eqb m 0 || eqb m 65535)) (s .marks i l) ∙ go (isFree (L .slots i))
+  where
+    go : (b : Bool) → not (eqb (cond b 0 65535) 0 || eqb (cond b 0 65535) 65535) ≡ false
+    go true = refl
+    go false = refl
+
 -- what is left to say of a ready image
 pub says-of : (L : Ledger) (img : List ℕ) → Ready (L .geometry) img → rootIn (view img rootAt) ≡ L .root
     → ((i : ℕ) → i < L .geometry .files → fault21 (view img) i ≡ false)
@@ -72,7 +107,7 @@ says-of L img ready root marks directory table bytes = record {
   geometry = ready .volume .geometry;
   clean = ready .clean;
   root = root;
-  marks = marks;
+  marks = λ i l. mark-said L (view img) (ready .volume .geometry) i l (marks i l) (directory i);
   directory = directory;
   table = table;
   bytes = bytes;
@@ -116,7 +151,7 @@ module _ (L : Ledger) (img : List ℕ) (rep : Rep L img) where
 
   no-fault : firstFault (view img) ≡ Sound
   unfolding catalogue
-  no-fault = sound-of (view img) (catalogue L) cat-is (rep .says .marks) (rep .faultless)
+  no-fault = sound-of (view img) (catalogue L) cat-is (no-mark-fault L img (rep .says)) (rep .faultless)
 
   accepted : imageVerdict (length img) (view img) ≡ done
   accepted = volume-accepted (L .geometry) (length img) (view img) (rep .ready .volume)
@@ -129,19 +164,30 @@ module _ (L : Ledger) (img : List ℕ) (rep : Rep L img) where
   -- ---- the calls that read no file's bytes
 
   pub summary-same : volumeAnswer summary img ≡ answer summary L
-  unfolding volumeAnswer answer summaryAnswer
+  unfolding onVolume step lowest summaryAnswer
   summary-same =
       ap summarized (λ i. given (accepted i) (record { number = 0; summary = record { geometry = rep .ready .volume .geometry i; state = rep .ready .clean i } }) noSummary)
 
   pub check-same : volumeAnswer check img ≡ answer check L
-  unfolding volumeAnswer answer checkAnswer
+  unfolding onVolume step lowest checkAnswer
   check-same = ap (λ (v : Verdict). checked (record { verdict = v })) opens
 
   pub find-same : (name : List ℕ) → volumeAnswer (find name) img ≡ answer (find name) L
-  unfolding volumeAnswer answer findAnswer
-  find-same name = ap found (λ i. foundBy (andThen (opens i) (verdictOf (nameConditions (cat-is i) name))) (cat-is i) name)
+  unfolding onVolume step findAnswer foundBy entryFields fieldsOf
+  find-same name =
+      ap found (λ i. foundBy (andThen (opens i) (verdictOf (nameConditions (cat-is i) name))) (cat-is i) name)
+      ∙ answers (step (find name) L)
+      (λ b v. found (cond b (record { verdict = v; index = record { 0 = at }; fields = fieldsOf (entryOf (catalogue L) at) }) (notFound v)))
+      (rw (named-is L name, entry-named L name)) (λ n. refl) _ (ap verdictOf (named-conditions L name))
+    where
+      at : ℕ
+      at = indexOf (fileNamed (catalogue L) name)
 
   pub list-same : (k room : ℕ) → volumeAnswer (list k room) img ≡ answer (list k room) L
-  unfolding volumeAnswer answer listAnswer listCopies listVerdict
+  unfolding onVolume step listAnswer listCopies listVerdict listedBy copiedBy listConditions catalogue entryFields fieldsOf
   list-same k room =
-      λ i. let v = andThen (opens i) (verdictOf (listConditions (cat-is i) k room)) in listed (listedBy v (cat-is i) k) (copiedBy v (cat-is i) k)
+      (λ i. let v = andThen (opens i) (verdictOf (listConditions (cat-is i) k room)) in listed (listedBy v (cat-is i) k) (copiedBy v (cat-is i) k))
+      ∙ answers (step (list k room) L)
+      (λ b v. let e = entryOf (catalogue L) k in listed (cond b (record { verdict = v; fields = fieldsOf e }) (notListed v)) (cond b (e .name) []))
+      (rw (entry-is L k)) (λ n. refl)
+      (verdictOf (listConditions (catalogue L) k room)) (rw (free-if (L .slots k), entry-is L k))

@@ -18,18 +18,18 @@ use Rattle.model.specs.Catalogue.{Catalogue, hasName, fileNamed, entryOf, secto
 use Rattle.model.specs.Refusals.{Conditions}
 use Rattle.model.specs.WriteList.{Plan, groupsFor, listLength, recordSize, recordCount, stored}
 use Rattle.model.specs.Read.{longestTransfer, sizeNamed}
-use Rattle.model.specs.Write.{noRoom, sizeAfter, writePlanned}
-use Rattle.model.specs.Resize.{zeros, shrinkPlan, resizePlanned, resizeConditions, resizeDecision, resizeAnswer}
-use Rattle.model.specs.Ledger.{Ledger, File, fileOr, entryOfFile, catalogue, resize, changed, withFile, partlyWritten, shrunk}
-use Rattle.model.specs.Run.{volumeAnswer, volumePlan}
+use Rattle.model.specs.Write.{noRoom, sizeAfter, writePlanned, grows}
+use Rattle.model.specs.Resize.{zeros, shrinkPlan, resizePlanned, resizeConditions, resizeDecision}
+use Rattle.model.specs.Ledger.{Ledger, File, fileOr, entryOfFile, catalogue, resize, withFile, partlyWritten, shrunk, fileOf, freedRecords, writtenRecords, written, afterWrite, step, answer}
+use Rattle.model.specs.Run.{volumeAnswer, onVolume}
 use Rattle.laws.proofs.Bytes.{length-run}
 use Rattle.laws.proofs.Search.{length-tab, getD-tab0}
-use Rattle.safety.proofs.Asked.{answer, afterCall, afterCut, slotNamed, fileOf, written, afterWrite, writeCount, resizeCount}
+use Rattle.safety.proofs.OwnWords.{named-is, unheld-is, file-is, entry-named, name-is, zeros-are}
 use Rattle.safety.proofs.Searches.{place-found, or-right-no}
 use Rattle.safety.proofs.Plan.{A}
 use Rattle.safety.proofs.Commit.{partOf, uncut}
 use Rattle.safety.proofs.Rep.{Rep, bytes-length}
-use Rattle.safety.proofs.Changing.{Passed, Refusing, answer-changing, Carries, Carried, effect-changing}
+use Rattle.safety.proofs.Changing.{Passed, Carries, Carried, effect-changing, Decides, same-changing}
 use Rattle.safety.proofs.Read.{file-there, size-is}
 use Rattle.safety.proofs.Write.{partlyWrittenFile, writing, write-length, Writes, writes-carried}
 use Rattle.safety.proofs.Shrink.{shrink-length, shrink-fits, shrink-done, shrink-partly}
@@ -75,25 +75,39 @@ module _ (L : Ledger) (img : List ℕ) (rep : Rep L img) (name : List ℕ) (z ti
   abbrev plan : Catalogue → Option Plan
   plan x = resizePlanned x (view img) (indexOf (fileNamed x name)) z time
 
-  size : listLength (groupsFor (view img) (resizePlanned (catalogue L) (view img) i z time)) ≡ resizeCount (catalogue L) i z * recordSize
-  unfolding resizePlanned resizeCount
-  size = go (ltb z (entryOf (catalogue L) i .size))
+  abbrev records : ℕ
+  records =
+      cond (ltb z (fileOf L name .entry .size)) (freedRecords L name (extentsFor (L .geometry) z) 1)
+      (writtenRecords L (fileOf L name .entry .size) (fileOf L name .entry .size) (z - fileOf L name .entry .size))
+
+  size : listLength (groupsFor (view img) (resizePlanned (catalogue L) (view img) i z time)) ≡ records * recordSize
+  unfolding resizePlanned freedRecords catalogue
+  size = rw (entry-named L name, named-is L name) (go (ltb z s))
     where
       s : ℕ
       s = entryOf (catalogue L) i .size
 
       go : (b : Bool) → listLength (groupsFor (view img) (cond b (just (shrinkPlan (catalogue L) (view img) i z time)) (writePlanned (catalogue L) i (view img) s (zeros (z - s)) time)))
-          ≡ cond b (recordCount 0 (1 + sectorsBeyond (catalogue L) i (extentsFor (catalogue L .geometry) z))) (writeCount (catalogue L) i s (z - s)) * recordSize
+          ≡ cond b (recordCount 0 (1 + sectorsBeyond (catalogue L) i (extentsFor (catalogue L .geometry) z))) (writtenRecords L s s (z - s)) * recordSize
       go true = shrink-length L img i z time
-      go false = write-length L img i s (zeros (z - s)) time ∙ ap (λ m. writeCount (catalogue L) i s m * recordSize) (length-run [] 0 (z - s))
+      go false = write-length L img i s (zeros (z - s)) time ∙ ap (λ m. writtenRecords L s s m * recordSize) (length-run [] 0 (z - s))
+
+  decides : Decides L img (resize name z time room) conditions plan room records
+  unfolding onVolume resizeDecision step resizeConditions sizeNamed noRoom grows catalogue
+  decides = record {
+    volume = refl;
+    reply = refl;
+    conditions = rw (name-is name, named-is L name, entry-named L name, unheld-is L);
+    refusing = refl;
+    size = size;
+  }
 
   pub resize-same : volumeAnswer (resize name z time room) img ≡ answer (resize name z time room) L
-  unfolding volumeAnswer answer resizeAnswer resizeDecision slotNamed
-  resize-same = ap changed (answer-changing L img rep conditions plan room (resizeCount (catalogue L) i z) size)
+  resize-same = same-changing L img rep _ _ _ room records decides
 
-  refusing : Refusing (resizeConditions (catalogue L) name z)
-  unfolding resizeConditions
-  refusing = ((λ e. omega arith), ((λ e. omega arith), ((λ e. omega arith), tt)))
+  done-is : step (resize name z time room) L .done ≡ cond (ltb z (old .entry .size)) (withFile L i (shrunk L i z time)) (afterWrite L i (old .entry .size) end time)
+  unfolding step
+  done-is = rw (file-is L name, named-is L name, zeros-are)
 
   size-of : entryOf (catalogue L) i .size ≡ old .entry .size
   unfolding entryOf catalogue
@@ -129,11 +143,12 @@ module _ (L : Ledger) (img : List ℕ) (rep : Rep L img) (name : List ℕ) (z ti
     -- ---- shrinking
 
     shrinks : z < old .entry .size → Carries L img (resize name z time room) (shrinkPlan (catalogue L) (view img) i z time)
-    unfolding afterCall afterCut slotNamed fileOf shrinkPlan
+    unfolding step shrinkPlan
     shrinks less = record {
       fits = shrink-fits L img i z time rep there (found .0) less ht;
-      done = subst (λ (b : Bool). Rep (cond b (withFile L i (shrunk L i z time)) (afterWrite L i (old .entry .size) end time)) (uncut (L .geometry) img (shrinkPlan (catalogue L) (view img) i z time)))
-          (sym (lt-ltb z (old .entry .size) less)) (shrink-done L img i z time rep there (found .0) less ht);
+      done = subst (λ (X : Ledger). Rep X (uncut (L .geometry) img (shrinkPlan (catalogue L) (view img) i z time)))
+          (sym (done-is ∙ ap (λ (b : Bool). cond b (withFile L i (shrunk L i z time)) (afterWrite L i (old .entry .size) end time)) (lt-ltb z (old .entry .size) less)))
+          (shrink-done L img i z time rep there (found .0) less ht);
       partly = λ k m. shrink-partly L img i z time rep there (found .0) less ht k m;
     }
 
@@ -156,10 +171,11 @@ module _ (L : Ledger) (img : List ℕ) (rep : Rep L img) (name : List ℕ) (z ti
           let l = end-length in
           omega arith
 
-      after-is : (b : Bool) → eqb (length end) 0 ≡ b → afterCall (resize name z time room) L ≡ cond b L new
-      unfolding afterCall slotNamed fileOf afterWrite
+      after-is : (b : Bool) → eqb (length end) 0 ≡ b → step (resize name z time room) L .done ≡ cond b L new
+      unfolding afterWrite
       after-is b e =
-          ap (λ (t : Bool). cond t (withFile L i (shrunk L i z time)) (afterWrite L i (old .entry .size) end time)) (le-ltb z (old .entry .size) more)
+          done-is
+          ∙ ap (λ (t : Bool). cond t (withFile L i (shrunk L i z time)) (afterWrite L i (old .entry .size) end time)) (le-ltb z (old .entry .size) more)
           ∙ ap (λ (t : Bool). cond t L new) e
 
       -- none of the landed data sectors holds a byte of the file
@@ -170,7 +186,7 @@ module _ (L : Ledger) (img : List ℕ) (rep : Rep L img) (name : List ℕ) (z ti
           (sym (partly-at-end old (old .entry .size) end mask (bytes-length L img rep i old there))))
 
       grow : Writes L img i (old .entry .size) end time → eqb (length end) 0 ≡ false → Carries L img (resize name z time room) q
-      unfolding afterCut
+      unfolding step
       grow w e = record {
         fits = w .fits;
         done = subst (λ (X : Ledger). Rep X (uncut (L .geometry) img q)) (sym (after-is false e)) (w .done);
@@ -201,7 +217,4 @@ module _ (L : Ledger) (img : List ℕ) (rep : Rep L img) (name : List ℕ) (z ti
 
   -- what resize does
   pub resize-effect : time < 2 ^ 32 → Effect Rep (resize name z time room) L img
-  unfolding volumePlan resizeDecision answer slotNamed
-  resize-effect ht =
-      effect-changing L img rep conditions plan room (resizeCount (catalogue L) i z) size (resize name z time room) refl refl refusing
-      (λ passed. carried ht passed)
+  resize-effect ht = effect-changing L img rep _ _ _ room records decides (λ passed. carried ht passed)

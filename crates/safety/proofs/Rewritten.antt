@@ -20,7 +20,7 @@ use Rattle.model.specs.Faults.{fault21}
 use Rattle.model.specs.Ledger.{Ledger, File, entryOfFile, catalogue}
 use Rattle.model.specs.Opened.{Bounded}
 use Rattle.safety.proofs.Commit.{Ready}
-use Rattle.safety.proofs.Rep.{Rep, says-of, Disjoint, Sized, cat-is, catalogue-geometry}
+use Rattle.safety.proofs.Rep.{Rep, says-of, Disjoint, Sized, cat-is, catalogue-geometry, no-mark-fault}
 use Rattle.safety.proofs.Preserved.{entries-keep, marks-keep, sector-data, bytes-keep-at}
 use Rattle.safety.proofs.Replaced.{replaced, entries-other, entries-here, part-other, Admissible, faultless-replaced}
 
@@ -82,7 +82,7 @@ module _ (L : Ledger) (img : List ℕ) (rep : Rep L img) (root : Root) (i : ℕ)
     where
       go : (b : Bool) → eqb k i ≡ b → fault21 (view out) k ≡ false
       go true e = ap (fault21 (view out)) (eqb-true k i e) ∙ w .mark
-      go false e = marks-keep (view img) (view out) k (w .entries k l (eqb-false k i e)) ∙ rep .says .marks k l
+      go false e = marks-keep (view img) (view out) k (w .entries k l (eqb-false k i e)) ∙ no-mark-fault L img (rep .says) k l
 
   out-geometry : catalogueOf (view out) .geometry ≡ catalogue L .geometry
   unfolding catalogueOf

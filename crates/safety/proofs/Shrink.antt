@@ -17,12 +17,12 @@ use Rattle.model.specs.Search.{tab, first, count, indexOf}
 use Rattle.model.specs.Geometry.{extentSectors, extentBytes, usable, rootAt, entryAt, tableAt, dataAt, tableSectors, extentsFor}
 use Rattle.model.specs.Disk.{Disk, view}
 use Rattle.model.specs.Root.{rootIn}
-use Rattle.model.specs.Entry.{updatedEntry, updatedEntrySector}
+use Rattle.model.specs.Entry.{updatedEntrySector}
 use Rattle.model.specs.Catalogue.{Catalogue, Owner, catalogueOf, isPart, isBeyond, extentOf, sectorOf, fileByte, fileBytes, sectorsBeyond}
 use Rattle.model.specs.Faults.{among, exact}
 use Rattle.model.specs.WriteList.{Plan, Record, Group, sectorWrite, stored, groupsFor, listLength, recordSize, recordCount}
 use Rattle.model.specs.Resize.{shrinkPlan}
-use Rattle.model.specs.Ledger.{Ledger, File, fileOr, catalogue, withFile, shrunk}
+use Rattle.model.specs.Ledger.{Ledger, File, fileOr, catalogue, withFile, shrunk, updatedEntry}
 use Rattle.laws.proofs.Disk.{length-view}
 use Rattle.laws.proofs.Booleans.{and-left, and-yes}
 use Rattle.laws.proofs.Search.{every-yes, every-at, tab-ext, count-ext}
@@ -131,6 +131,7 @@ module _ (L : Ledger) (img : List ℕ) (i z time : ℕ) where
           metadata = (metadata-directory (L .geometry) (entryAt i) (omega arith) (omega arith), freed-metadata L img i n);
           rising = (omega arith, freed-rising L img i n (suc (entryAt i)) (omega arith));
           usable = tt;
+          own = tt;
           wholeData = tt;
           wholeTargets = (length-updatedEntrySector z time (view img (entryAt i)) ∙ length-view img (entryAt i), freed-whole L img i n);
         }

@@ -3,7 +3,7 @@ use Prim.Native.Nat.{ℕ, zero, suc, _+_, _*_, _-_, _≤_, _<_, min, max}
 use mathlib.Core.Path.{_≡_, refl, sym, ap, _∙_, subst}
 use mathlib.Core.Logic.{_≢_}
 use mathlib.Core.Bool.{Bool, true, false, cond, _&&_, true≢false}
-use mathlib.Core.List.{List, [], _∷_, _++_}
+use mathlib.Core.List.{List, [], _∷_}
 use native.Mathlib.Omega.{arith}
 use native.Mathlib.Nat.{not-suc-le-zero}
 use lib.Dec.{leb, ltb}
@@ -17,7 +17,7 @@ use Rattle.model.specs.Search.{tab}
 use Rattle.laws.proofs.Booleans.{and-left, and-right, range-yes}
 use Rattle.laws.proofs.Bytes.{length-run, length-put, getD-run, getD-put-same, getD-put-other}
 use Rattle.laws.proofs.Search.{length-tab, getD-tab}
-use Rattle.safety.proofs.Apply.{over, hits, over-here, over-skip, over-none, over-miss, kept-miss, all-miss, all-at, all-append, all-tab, All}
+use Rattle.safety.proofs.Apply.{over, hits, over-here, over-skip, over-none, over-miss, kept-miss, all-miss, all-at, All, Own, own-tab}
 use Rattle.safety.proofs.Commit.{partOf}
 
 -- bytes from `from` to `to` of a file, put into the sector that starts at base
@@ -59,10 +59,6 @@ spliced-at offset bytes s old j l h =
 
 -- ---- data sectors: each is for a sector of its own
 
-abbrev pub Own : Group → Type 0
-Own [] = Unit {0}
-Own (w ∷ ws) = All (λ v. w .sector ≢ v .sector) ws × Own ws
-
 own-other : (w : Record) (ws : Group) (k : ℕ) (z : Record) → All (λ v. w .sector ≢ v .sector) ws → k < length ws → (getD ws k z) .sector ≢ w .sector
 own-other w ws k z a l e = all-at (λ v. w .sector ≢ v .sector) ws k z a l (sym e)
 
@@ -94,17 +90,6 @@ part-miss zero m ws j x h = over-miss (kept m ws) j x (kept-miss m ws j h)
 part-miss (suc k) m ws j x h = over-miss ws j x h
 
 -- ---- data sectors by index
-
-own-snoc : (ws : Group) (v : Record) → Own ws → All (λ w. w .sector ≢ v .sector) ws → Own (ws ++ (v ∷ []))
-own-snoc [] v o h = (tt, tt)
-own-snoc (w ∷ ws) v o h = (all-append (λ u. w .sector ≢ u .sector) ws (v ∷ []) (o .0) (h .0, tt), own-snoc ws v (o .1) (h .1))
-
-own-tab : (f : ℕ → Record) (a n : ℕ) → ((j k : ℕ) → j < n → k < n → f (a + j) .sector ≡ f (a + k) .sector → j ≡ k) → Own (tab f a n)
-unfolding tab
-own-tab f a zero h = tt
-own-tab f a (suc n) h =
-    own-snoc (tab f a n) (f (a + n)) (own-tab f a n (λ j k u v e. h j k (omega arith) (omega arith) e))
-    (all-tab (λ w. w .sector ≢ f (a + n) .sector) f a n (λ k l e. let q : k ≡ n = h k n (omega arith) (omega arith) e in omega arith))
 
 pub part-tab : (k : ℕ) (m : List Bool) (f : ℕ → Record) (a n j : ℕ) (x : List ℕ) → ((j k : ℕ) → j < n → k < n → f (a + j) .sector ≡ f (a + k) .sector → j ≡ k) → j < n
     → over (partOf k m (tab f a n)) (f (a + j) .sector) x ≡ cond (dataBy k m j) (f (a + j) .contents) x

@@ -8,7 +8,7 @@ use mathlib.Core.Option.{Option, none, some as just}
 use native.Mathlib.Omega.{arith}
 use lib.Dec.{eqb}
 use lib.ListN.{length}
-use borrow.Author.Tests.{ltb-false, not-false}
+use borrow.Author.Tests.{ltb-false, not-false, eqb-false}
 use Rattle.model.specs.Search.{tab, isAt, indexOf}
 use Rattle.model.specs.Geometry.{entryAt}
 use Rattle.model.specs.Disk.{view}
@@ -18,18 +18,18 @@ use Rattle.model.specs.Catalogue.{Catalogue, hasName, fileNamed, freeExtent, en
 use Rattle.model.specs.Refusals.{Conditions}
 use Rattle.model.specs.WriteList.{Plan, sectorWrite, groupsFor, listLength, recordSize, recordCount, stored}
 use Rattle.model.specs.Read.{longestTransfer, sizeNamed}
-use Rattle.model.specs.Write.{touchedSectors, heldExtents, grows, noRoom, sizeAfter, dataSector, writePlan, writePlanned, writeConditions, writeDecision, writeAnswer}
+use Rattle.model.specs.Write.{touchedSectors, heldExtents, grows, noRoom, sizeAfter, dataSector, writePlan, writePlanned, writeConditions, writeDecision}
 use Rattle.model.specs.Cut.{dataBy}
-use Rattle.model.specs.Ledger.{Ledger, File, fileOr, entryOfFile, catalogue, write, changed, withFile, partlyWritten}
-use Rattle.model.specs.Run.{volumeAnswer, volumePlan}
+use Rattle.model.specs.Ledger.{Ledger, File, fileOr, entryOfFile, catalogue, write, withFile, partlyWritten, fileOf, spannedSectors, writtenRecords, written, afterWrite, step, answer}
+use Rattle.model.specs.Run.{volumeAnswer, onVolume}
 use Rattle.laws.proofs.Search.{length-tab}
-use Rattle.safety.proofs.Asked.{answer, afterCall, afterCut, slotNamed, fileOf, written, afterWrite, writeCount}
+use Rattle.safety.proofs.OwnWords.{named-is, unheld-is, file-is, entry-named, name-is, spanned-are}
 use Rattle.safety.proofs.Searches.{place-found, or-right-no}
 use Rattle.safety.proofs.Plan.{WellFormed, A}
 use Rattle.safety.proofs.Commit.{partOf, uncut}
 use Rattle.safety.proofs.Frame.{length-groups}
 use Rattle.safety.proofs.Rep.{Rep}
-use Rattle.safety.proofs.Changing.{Passed, Refusing, answer-changing, Carries, Carried, effect-changing}
+use Rattle.safety.proofs.Changing.{Passed, Carries, Carried, effect-changing, Decides, same-changing}
 use Rattle.safety.proofs.Read.{file-there, size-is}
 use Rattle.safety.proofs.WriteLedger.{Writable}
 use Rattle.safety.proofs.WriteDone.{fits, done}
@@ -61,16 +61,17 @@ module _ (L : Ledger) (img : List ℕ) (i offset : ℕ) (bytes : List ℕ) (time
   targets-length false = refl
 
   -- the length of its list
-  pub write-length : listLength (groupsFor (view img) (writePlanned (catalogue L) i (view img) offset bytes time)) ≡ writeCount (catalogue L) i offset (length bytes) * recordSize
-  unfolding groupsFor writePlanned writePlan writeCount
-  write-length = go (eqb (length bytes) 0)
+  pub write-length : listLength (groupsFor (view img) (writePlanned (catalogue L) i (view img) offset bytes time)) ≡ writtenRecords L (entryOf (catalogue L) i .size) offset (length bytes) * recordSize
+  unfolding groupsFor writePlanned writePlan writtenRecords grows catalogue
+  write-length = go (eqb (length bytes) 0) refl
     where
-      go : (b : Bool) → listLength (groupsFor (view img) (cond b none (just writing)))
-          ≡ cond b 0 (recordCount (touchedSectors offset (length bytes)) (cond (grows (catalogue L) i after) 2 1)) * recordSize
-      go true = refl
-      go false =
+      go : (b : Bool) → eqb (length bytes) 0 ≡ b → listLength (groupsFor (view img) (cond b none (just writing)))
+          ≡ cond b 0 (recordCount (spannedSectors offset (length bytes)) (cond (grows (catalogue L) i after) 2 1)) * recordSize
+      go true e = refl
+      go false e =
           length-groups _ (view img) writing
-          ∙ ap₂ (λ k m. recordCount k m * recordSize) (length-tab (dataSector (catalogue L) i (view img) offset bytes) (offset / 512) (touchedSectors offset (length bytes)))
+          ∙ ap₂ (λ k m. recordCount k m * recordSize)
+          (length-tab (dataSector (catalogue L) i (view img) offset bytes) (offset / 512) (touchedSectors offset (length bytes)) ∙ sym (spanned-are offset (length bytes) (eqb-false _ 0 e)))
           (targets-length (grows (catalogue L) i after))
 
   -- what it does, carried out whole, or cut before its start mark: then "data sectors that landed hold their new bytes up to the old size"
@@ -110,13 +111,21 @@ module _ (L : Ledger) (img : List ℕ) (rep : Rep L img) (name : List ℕ) (offs
   abbrev plan : Catalogue → Option Plan
   plan v = writePlanned v (indexOf (fileNamed v name)) (view img) offset bytes time
 
-  pub write-same : volumeAnswer (write name offset bytes time room) img ≡ answer (write name offset bytes time room) L
-  unfolding volumeAnswer answer writeAnswer writeDecision slotNamed
-  write-same = ap changed (answer-changing L img rep conditions plan room (writeCount (catalogue L) i offset (length bytes)) (write-length L img i offset bytes time))
+  abbrev records : ℕ
+  records = writtenRecords L (fileOf L name .entry .size) offset (length bytes)
 
-  refusing : Refusing (writeConditions (catalogue L) name offset (length bytes))
-  unfolding writeConditions
-  refusing = ((λ e. omega arith), ((λ e. omega arith), ((λ e. omega arith), ((λ e. omega arith), tt))))
+  decides : Decides L img (write name offset bytes time room) conditions plan room records
+  unfolding onVolume writeDecision step writeConditions sizeNamed noRoom grows catalogue
+  decides = record {
+    volume = refl;
+    reply = refl;
+    conditions = rw (name-is name, named-is L name, entry-named L name, unheld-is L);
+    refusing = refl;
+    size = rw (entry-named L name) (write-length L img i offset bytes time);
+  }
+
+  pub write-same : volumeAnswer (write name offset bytes time room) img ≡ answer (write name offset bytes time room) L
+  write-same = same-changing L img rep _ _ _ room records decides
 
   module _ (ht : time < 2 ^ 32) (passed : Passed (writeConditions (catalogue L) name offset (length bytes))) where
     -- ---- what the conditions say
@@ -142,18 +151,21 @@ module _ (L : Ledger) (img : List ℕ) (rep : Rep L img) (name : List ℕ) (offs
 
     -- ---- the plan, or none for no bytes
 
-    after-is : (b : Bool) → eqb (length bytes) 0 ≡ b → afterCall (write name offset bytes time room) L ≡ cond b L (withFile L i (written L i offset bytes time))
-    unfolding afterCall slotNamed afterWrite
-    after-is b e = ap (λ (t : Bool). cond t L (withFile L i (written L i offset bytes time))) e
+    after-is : (b : Bool) → eqb (length bytes) 0 ≡ b → step (write name offset bytes time room) L .done ≡ cond b L (withFile L i (written L i offset bytes time))
+    unfolding step afterWrite
+    after-is b e = rw (named-is L name) (ap (λ (t : Bool). cond t L (withFile L i (written L i offset bytes time))) e)
+
+    cut-is : (mask : List Bool) → step (write name offset bytes time room) L .cut mask ≡ withFile L i (partlyWrittenFile f offset bytes mask)
+    unfolding step
+    cut-is mask = rw (file-is L name, named-is L name)
 
     carries : eqb (length bytes) 0 ≡ false → Carries L img (write name offset bytes time room) (writing L img i offset bytes time)
-    unfolding afterCut slotNamed fileOf
     carries e =
         let w = writes-carried L img i offset bytes time rep there start short roomy ht in
         record {
           fits = w .fits;
           done = subst (λ (X : Ledger). Rep X (uncut (L .geometry) img (writing L img i offset bytes time))) (sym (after-is false e)) (w .done);
-          partly = w .partly;
+          partly = λ k m. subst (λ (X : Ledger). Rep X (stored (partOf k m (A (L .geometry) (writing L img i offset bytes time))) img)) (sym (cut-is _)) (w .partly k m);
         }
 
     carried : Carried L img (write name offset bytes time room) (writePlanned (catalogue L) i (view img) offset bytes time)
@@ -166,7 +178,4 @@ module _ (L : Ledger) (img : List ℕ) (rep : Rep L img) (name : List ℕ) (offs
 
   -- what write does
   pub write-effect : time < 2 ^ 32 → Effect Rep (write name offset bytes time room) L img
-  unfolding volumePlan writeDecision answer slotNamed
-  write-effect ht =
-      effect-changing L img rep conditions plan room (writeCount (catalogue L) i offset (length bytes)) (write-length L img i offset bytes time) (write name offset bytes time room) refl refl refusing
-      (λ passed. carried ht passed)
+  write-effect ht = effect-changing L img rep _ _ _ room records decides (λ passed. carried ht passed)

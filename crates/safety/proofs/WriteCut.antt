@@ -27,7 +27,7 @@ use Rattle.safety.proofs.Apply.{over}
 use Rattle.safety.proofs.Plan.{UsableGeometry, A}
 use Rattle.safety.proofs.Commit.{Ready, partOf, ready-part}
 use Rattle.safety.proofs.Frame.{Outside, part-at}
-use Rattle.safety.proofs.Rep.{Rep, rep-geometry, bytes-length}
+use Rattle.safety.proofs.Rep.{Rep, rep-geometry, bytes-length, no-mark-fault}
 use Rattle.safety.proofs.Preserved.{out-front, out-table, out-data, entries-keep, table-keep, marks-keep, sector-data}
 use Rattle.safety.proofs.Rewritten.{bytes-of, rep-replaced}
 use Rattle.safety.proofs.KeptFile.{entry-of}
@@ -135,7 +135,7 @@ module _ (L : Ledger) (img : List ℕ) (rep : Rep L img) (i : ℕ) (f : File) (o
       rep-replaced L img rep (L .root) i (just y) out (record {
         ready = ready;
         new-root = ap rootIn (at-low 1 (out-front (L .geometry) geo 1 (omega arith)) (omega arith)) ∙ rep .says .root;
-        mark = marks-keep (view img) (view out) i (at-low (entryAt i) (out-front (L .geometry) geo (entryAt i) (omega arith)) (omega arith)) ∙ rep .says .marks i l;
+        mark = marks-keep (view img) (view out) i (at-low (entryAt i) (out-front (L .geometry) geo (entryAt i) (omega arith)) (omega arith)) ∙ no-mark-fault L img (rep .says) i l;
         entry = entries-keep (L .geometry) (view img) (view out) (rep .ready .volume .geometry) (ready .volume .geometry) i
             (λ q. at-low (entryAt i) (out-front (L .geometry) geo (entryAt i) (omega arith)) (omega arith)) ∙ rep .says .directory i ∙ entry-of L img rep i f (w .has);
         entries = λ j q ne. at-low (entryAt j) (out-front (L .geometry) geo (entryAt j) (omega arith)) (omega arith);

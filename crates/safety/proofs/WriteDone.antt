@@ -17,17 +17,16 @@ use Rattle.model.specs.Bytes.{run}
 use Rattle.model.specs.Geometry.{extentSectors, usable, entryAt, journalAt, dataAt, reserveAt, tableSectors, extentsFor}
 use Rattle.model.specs.Disk.{view}
 use Rattle.model.specs.Root.{rootIn}
-use Rattle.model.specs.Entry.{updatedEntry, updatedEntrySector}
+use Rattle.model.specs.Entry.{updatedEntrySector}
 use Rattle.model.specs.Table.{tableSectorOf, takenIn}
 use Rattle.model.specs.Catalogue.{catalogueOf, isPart, entryOf, sectorOf, fileByte, fileBytes}
 use Rattle.model.specs.WriteList.{Plan, Record, Group, sectorWrite}
 use Rattle.model.specs.Write.{heldExtents, placeOf, writePlan}
-use Rattle.model.specs.Ledger.{Ledger, File, catalogue, withFile}
+use Rattle.model.specs.Ledger.{Ledger, File, catalogue, withFile, updatedEntry, written}
 use Rattle.laws.proofs.Booleans.{range-yes}
 use Rattle.laws.proofs.Bytes.{length-put, length-run, getD-put, getD-run}
 use Rattle.laws.proofs.Search.{length-tab, getD-tab0}
 use Rattle.laws.proofs.Disk.{length-view}
-use Rattle.safety.proofs.Asked.{written}
 use Rattle.safety.proofs.Apply.{over, over-here, over-skip, over-miss, All}
 use Rattle.safety.proofs.Journal.{Rising}
 use Rattle.safety.proofs.Plan.{UsableGeometry, WellFormed, Metadata, Whole, metadata-directory, metadata-table}
@@ -42,7 +41,7 @@ use Rattle.safety.proofs.KeptFile.{size-small, entry-updated, mark-upda
 use Rattle.safety.proofs.Extents.{extents-le, sector-held}
 use Rattle.safety.proofs.TakenTable.{length-takenIn, table-changed}
 use Rattle.safety.proofs.WriteLedger.{sizeWritten, takesOne, nextExtent, Writable, within, size-is, held-is, taken, size-bounded, writtenFile, written-is, sized-written, table-written, disjoint-written, admissible-written}
-use Rattle.safety.proofs.WritePlaces.{writes, writes-usable, writes-whole, writes-miss, low-miss, place-usable, place-other, sector-new, byte-landed}
+use Rattle.safety.proofs.WritePlaces.{writes, writes-usable, writes-whole, writes-miss, low-miss, place-usable, place-other, sector-new, byte-landed, writes-own}
 
 module _ (L : Ledger) (img : List ℕ) (rep : Rep L img) (i : ℕ) (f : File) (offset : ℕ) (bytes : List ℕ) (w : Writable L i f offset bytes) (time : ℕ) where
   abbrev z : ℕ
@@ -88,6 +87,7 @@ module _ (L : Ledger) (img : List ℕ) (rep : Rep L img) (i : ℕ) (f : File) (o
         metadata = (metadata-directory (L .geometry) (entryAt i) (omega arith) (omega arith), metadata b refl);
         rising = (omega arith, rising b);
         usable = writes-usable L img rep i f offset bytes w;
+        own = writes-own L img rep i f offset bytes w;
         wholeData = writes-whole L img rep i f offset bytes w;
         wholeTargets = (length-updatedEntrySector z time (view img (entryAt i)) ∙ length-view img (entryAt i), whole b);
       }

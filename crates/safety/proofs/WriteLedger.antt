@@ -11,16 +11,16 @@ use lib.Dec.{eqb, ltb}
 use lib.ListN.{length, length-append}
 use borrow.Author.Tests.{ltb-true, ltb-false, not-false}
 use Rattle.model.specs.declared.Geometry.{Geometry}
+use Rattle.model.specs.declared.Place.{Place}
 use Rattle.model.specs.Bytes.{run, put}
 use Rattle.model.specs.Search.{isAt, indexOf}
 use Rattle.model.specs.Geometry.{extentBytes, extentsFor, usable}
-use Rattle.model.specs.Entry.{updatedEntry}
 use Rattle.model.specs.Catalogue.{Catalogue, isFree, freeExtent, entryOf, entryOr, extentOf}
 use Rattle.model.specs.Faults.{exact}
 use Rattle.model.specs.Write.{heldExtents, grows, noRoom, sizeAfter}
 use Rattle.model.specs.Read.{longestTransfer}
-use Rattle.model.specs.Ledger.{Ledger, File, fileOr, entryOfFile, catalogue}
-use Rattle.safety.proofs.Asked.{written}
+use Rattle.model.specs.Ledger.{Ledger, File, fileOr, entryOfFile, catalogue, updatedEntry, written, unheldExtent}
+use Rattle.safety.proofs.OwnWords.{unheld-is}
 use Rattle.safety.proofs.Searches.{place-found}
 use Rattle.safety.proofs.Rep.{Rep, Disjoint, catalogue-geometry}
 use Rattle.safety.proofs.Replaced.{replaced, Admissible}
@@ -158,22 +158,20 @@ module _ (L : Ledger) (img : List ℕ) (rep : Rep L img) (i : ℕ) (f : File) (o
     y = writtenFile L i f offset bytes time
 
     pub written-is : written L i offset bytes time ≡ writtenFile L i f offset bytes time
-    unfolding written
+    unfolding written grows catalogue
     written-is =
-        ap (λ (o : Option File).
-        let s = max (fileOr o .entry .size) (offset + length bytes) in
-        record {
-          entry = updatedEntry s time (fileOr o .entry);
-          bytes = put (run (fileOr o .bytes) 0 s) offset bytes;
-          extents = fileOr o .extents ++ cond (grows (catalogue L) i s) (nextExtent L ∷ []) [];
-        }) (w .has)
-        ∙ ap (λ (m : ℕ).
-        let s = max m (offset + length bytes) in
-        record {
-          entry = updatedEntry s time (f .entry);
-          bytes = put (run (f .bytes) 0 s) offset bytes;
-          extents = f .extents ++ cond (grows (catalogue L) i s) (nextExtent L ∷ []) [];
-        }) (sym size-is)
+        ap (λ (o : Option File). file (fileOr o) (fileOr o .entry .size) (unheldExtent L)) (w .has)
+        ∙ (λ k. file f (sym size-is k) (unheld-is L k))
+      where
+        -- f with the bytes put in, by its size and by the extent that it takes
+        file : File → ℕ → Place → File
+        file x m p =
+            let s = max m (offset + length bytes) in
+            record {
+              entry = updatedEntry s time (x .entry);
+              bytes = put (run (x .bytes) 0 s) offset bytes;
+              extents = x .extents ++ cond (ltb (extentsFor (L .geometry) m) (extentsFor (L .geometry) s)) (indexOf p ∷ []) [];
+            }
 
     pub sized-written : length (writtenFile L i f offset bytes time .extents) ≡ extentsFor (L .geometry) (sizeWritten L i offset bytes)
     sized-written = go b ∙ sym needs

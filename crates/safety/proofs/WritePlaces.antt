@@ -22,7 +22,7 @@ use Rattle.model.specs.Ledger.{Ledger, File, catalogue}
 use Rattle.laws.proofs.Booleans.{and-false, range-no}
 use Rattle.laws.proofs.Search.{first-ext, getD-tab0}
 use Rattle.laws.proofs.Disk.{length-view}
-use Rattle.safety.proofs.Apply.{over, hits, All, all-tab, all-miss}
+use Rattle.safety.proofs.Apply.{over, hits, All, all-tab, all-miss, Own, own-tab}
 use Rattle.safety.proofs.Plan.{UsableSector, Whole}
 use Rattle.safety.proofs.Commit.{partOf}
 use Rattle.safety.proofs.Rep.{Rep, cat-is}
@@ -179,7 +179,7 @@ module _ (L : Ledger) (img : List ℕ) (rep : Rep L img) (i : ℕ) (f : File) (o
   touched-held j l = sector-held (L .geometry) (rep .bounded) z (offset / 512 + j) (omega arith)
 
   -- no two of them are for one sector
-  pub touched-apart : (j k : ℕ) → j < touchedSectors offset (length bytes) → k < touchedSectors offset (length bytes)
+  touched-apart : (j k : ℕ) → j < touchedSectors offset (length bytes) → k < touchedSectors offset (length bytes)
       → placeOf (catalogue L) i (offset / 512 + j) ≡ placeOf (catalogue L) i (offset / 512 + k) → j ≡ k
   touched-apart j k l m e =
       let d : offset / 512 + j ≡ offset / 512 + k = place-apart (offset / 512 + j) (offset / 512 + k) (touched-held j l) (touched-held k m) e in
@@ -188,6 +188,10 @@ module _ (L : Ledger) (img : List ℕ) (rep : Rep L img) (i : ℕ) (f : File) (o
   pub writes-usable : All (UsableSector (L .geometry)) (writes L img i offset bytes)
   unfolding dataSector
   writes-usable = all-tab (UsableSector (L .geometry)) (dataSector (catalogue L) i (view img) offset bytes) (offset / 512) t (λ k l. place-usable (offset / 512 + k) (touched-held k l))
+
+  pub writes-own : Own (writes L img i offset bytes)
+  unfolding dataSector
+  writes-own = own-tab (dataSector (catalogue L) i (view img) offset bytes) (offset / 512) t touched-apart
 
   pub writes-whole : All Whole (writes L img i offset bytes)
   unfolding dataSector

@@ -10,21 +10,14 @@ use Rattle.model.specs.declared.Place.the-variants.{At, Nowhere}
 use Rattle.model.specs.Search.{indexOf}
 use Rattle.model.specs.Geometry.{FileNumber}
 use Rattle.model.specs.Disk.{Disk, view}
-use Rattle.model.specs.Entry.{Entry, newEntry}
+use Rattle.model.specs.Entry.{Entry}
 use Rattle.model.specs.Catalogue.{catalogueOf, fileNamed, freeEntry, entryOf, fileBytes}
-use Rattle.model.specs.Ledger.{Ledger, fileOr, catalogue, Call, summary, check, find, list, read, create, delete, resize, write, Feed, callOf}
+use Rattle.model.specs.Ledger.{Ledger, fileOr, Call, Feed, callOf, newEntry, slotNamed}
+use Rattle.model.specs.Run.{arguments}
 
 -- the name of the file that a call is to change; summary, check, find, list and read change none
 abbrev pub names : Call → Option (List ℕ)
-names summary = none
-names check = none
-names (find name) = none
-names (list i room) = none
-names (read name offset count room) = none
-names (create name id mode time room) = just name
-names (delete name time room) = just name
-names (resize name size time room) = just name
-names (write name offset bytes time room) = just name
+names c = arguments c .file
 
 -- none of these calls, whole or cut, is to change the file of that name
 abbrev pub NoneNames : List ℕ → List Feed → Type 0
@@ -52,7 +45,7 @@ contentsIn L (At i) = let f = fileOr (L .slots i) in just (record { entry = f .e
 
 -- what the ledger says of it
 unfoldable pub fileIn : Ledger → List ℕ → Option Contents
-fileIn L name = contentsIn L (fileNamed (catalogue L) name)
+fileIn L name = contentsIn L (slotNamed L name)
 
 -- the directory that an image shows: each slot free, or its entry's fields
 abbrev pub directoryOn : List ℕ → FileNumber → Option Entry

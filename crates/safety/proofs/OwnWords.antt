@@ -1,0 +1,144 @@
+-- The ledger's own words say what the calls' say: what it looks up in its slots is what a call finds in its catalogue, and its conditions
+-- and answers are a call's. Each call cites them at its head. Assumes nothing.
+use Prim.Native.Nat.{ℕ, zero, suc}
+use mathlib.Core.Path.{_≡_, refl, sym, ap, ap₂, _∙_}
+use mathlib.Core.Logic.{_≢_}
+use mathlib.Core.Bool.{Bool, true, false, cond, not, _&&_, _||_}
+use mathlib.Core.List.{List, [], _∷_, _++_}
+use mathlib.Core.Option.{Option, none, some as just}
+use native.Mathlib.Omega.{arith}
+use lib.Dec.{eqb, leb, ltb}
+use lib.ListN.{length, getD}
+use borrow.Author.Tests.{eqb-true, ne-eqb, le-ltb}
+use Rattle.model.specs.declared.Place.{Place}
+use Rattle.model.specs.declared.Place.the-variants.{At, Nowhere}
+use Rattle.model.specs.declared.Verdict.{Verdict}
+use Rattle.model.specs.Bytes.{run}
+use Rattle.model.specs.Search.{some, tab, isAt, indexOf}
+use Rattle.model.specs.Geometry.{FileNumber, ExtentNumber, usable}
+use Rattle.model.specs.Entry.{hasZero, badName, longestName}
+use Rattle.model.specs.Catalogue.{entryOr, fileNamed, freeEntry, freeExtent, entryOf, hasName, hasId, isFree}
+use Rattle.model.specs.Refusals.{Conditions, verdictOf, isDone, refusal}
+use Rattle.model.specs.Find.{nameConditions}
+use Rattle.model.specs.Write.{touchedSectors}
+use Rattle.model.specs.Resize.{zeros}
+use Rattle.model.specs.Ledger.{Ledger, File, fileOr, entryOfFile, holderOf, ownerFrom, catalogue, holdsName, holdsId, slotNamed, freeSlot, unheldExtent, fileOf, Answer, summarized, checked, found, listed, gave, changed, numberOf, numbered, refused, Refusals, lowest, unfitName, spannedSectors, zeroBytes, Step, answerBy}
+use Rattle.laws.proofs.Booleans.{not-and, not-leb}
+use Rattle.laws.proofs.Search.{first-ext, some-ext}
+
+-- ---- what it looks up
+
+pub name-if : (name : List ℕ) (s : Option File) → holdsName name s ≡ hasName name (entryOfFile s)
+name-if name none = refl
+name-if name (just f) = refl
+
+id-if : (id : ℕ) (s : Option File) → holdsId id s ≡ hasId id (entryOfFile s)
+id-if id none = refl
+id-if id (just f) = refl
+
+pub free-if : (s : Option File) → isFree s ≡ isFree (entryOfFile s)
+free-if none = refl
+free-if (just f) = refl
+
+unheld-if : (L : Ledger) (e : ExtentNumber) (p : Place) → not (isAt p) ≡ isFree (ownerFrom L e p)
+unheld-if L e (At i) = refl
+unheld-if L e Nowhere = refl
+
+entry-if : (s : Option File) → fileOr s .entry ≡ entryOr (entryOfFile s)
+entry-if none = refl
+entry-if (just f) = refl
+
+module _ (L : Ledger) where
+  pub named-is : (name : List ℕ) → slotNamed L name ≡ fileNamed (catalogue L) name
+  unfolding slotNamed fileNamed catalogue
+  named-is name = first-ext _ _ (L .geometry .files) (λ i l. name-if name (L .slots i))
+
+  pub slot-is : freeSlot L ≡ freeEntry (catalogue L)
+  unfolding freeSlot freeEntry catalogue
+  slot-is = first-ext _ _ (L .geometry .files) (λ i l. free-if (L .slots i))
+
+  pub unheld-is : unheldExtent L ≡ freeExtent (catalogue L)
+  unfolding unheldExtent freeExtent catalogue
+  unheld-is = first-ext _ _ (usable (L .geometry)) (λ e l. unheld-if L e (holderOf L e))
+
+  pub ids-is : (id : ℕ) → some (λ i. holdsId id (L .slots i)) (L .geometry .files) ≡ some (λ i. hasId id (catalogue L .entries i)) (L .geometry .files)
+  unfolding catalogue
+  ids-is id = some-ext _ _ (L .geometry .files) (λ i l. id-if id (L .slots i))
+
+  pub entry-is : (i : FileNumber) → fileOr (L .slots i) .entry ≡ entryOf (catalogue L) i
+  unfolding entryOf catalogue
+  entry-is i = entry-if (L .slots i)
+
+  pub file-is : (name : List ℕ) → fileOf L name ≡ fileOr (L .slots (indexOf (fileNamed (catalogue L) name)))
+  unfolding fileOf
+  file-is name = ap (λ (p : Place). fileOr (L .slots (indexOf p))) (named-is name)
+
+  pub entry-named : (name : List ℕ) → fileOf L name .entry ≡ entryOf (catalogue L) (indexOf (fileNamed (catalogue L) name))
+  entry-named name = ap (λ (f : File). f .entry) (file-is name) ∙ entry-is (indexOf (fileNamed (catalogue L) name))
+
+-- ---- its words
+
+pub name-is : (name : List ℕ) → unfitName name ≡ badName name
+unfolding unfitName badName hasZero
+name-is name = ap (λ (b : Bool). b || some (λ k. eqb (getD name k 0) 0) (length name)) (bounds (length name))
+  where
+    none-if : (n : ℕ) → eqb n 0 ≡ ltb n 1
+    none-if zero = refl
+    none-if (suc k) = ne-eqb (suc k) 0 (λ e. omega arith) ∙ sym (le-ltb (suc k) 1 (omega arith))
+
+    bounds : (n : ℕ) → (eqb n 0 || ltb 476 n) ≡ not (leb 1 n && leb n longestName)
+    bounds n = ap₂ (λ a b. a || b) (none-if n ∙ sym (not-leb 1 n)) (sym (not-leb n longestName)) ∙ sym (not-and (leb 1 n) (leb n longestName))
+
+pub zeros-are : (n : ℕ) → zeroBytes n ≡ zeros n
+unfolding zeroBytes tab run
+zeros-are zero = refl
+zeros-are (suc n) = ap (λ (l : List ℕ). l ++ (0 ∷ [])) (zeros-are n)
+
+pub spanned-are : (offset n : ℕ) → n ≢ 0 → spannedSectors offset n ≡ touchedSectors offset n
+spanned-are offset n some = omega arith
+
+-- ---- its refusals
+
+-- as a call's conditions
+abbrev pub verdicts : Refusals → Conditions
+verdicts [] = []
+verdicts (r ∷ rs) = (r .0, refusal (r .1)) ∷ verdicts rs
+
+-- of a call that only names a file
+pub named-conditions : (L : Ledger) (name : List ℕ) → nameConditions (catalogue L) name ≡ verdicts ((unfitName name, 8) ∷ (not (isAt (slotNamed L name)), 9) ∷ [])
+unfolding nameConditions
+named-conditions L name = rw (name-is name, named-is L name)
+
+verdict-is : (rs : Refusals) → verdictOf (verdicts rs) ≡ numbered (lowest rs)
+unfolding verdictOf lowest
+verdict-is [] = refl
+verdict-is (r ∷ rs) = go (r .0) (verdict-is rs)
+  where
+    go : (b : Bool) → verdictOf (verdicts rs) ≡ numbered (lowest rs) → cond b (refusal (r .1)) (verdictOf (verdicts rs)) ≡ numbered (cond b (r .1) (lowest rs))
+    go true e = refl
+    go false e = e
+
+-- a call's answer, P of whether its verdict is 0 and of the verdict, is the ledger's if it is the reply where it is done, and else refused
+pub answers : (s : Step) (P : Bool → Verdict → Answer) → P true (numbered 0) ≡ s .reply → ((n : ℕ) → P false (numbered n) ≡ refused n (s .reply))
+    → (v : Verdict) → v ≡ verdictOf (verdicts (s .refusals)) → P (isDone v) v ≡ answerBy s
+answers s P e f v is = ap (λ (w : Verdict). P (isDone w) w) (is ∙ verdict-is (s .refusals)) ∙ go (eqb (lowest (s .refusals)) 0) (lowest (s .refusals)) refl
+  where
+    go : (b : Bool) (n : ℕ) → eqb n 0 ≡ b → P b (numbered n) ≡ cond b (s .reply) (refused n (s .reply))
+    go true n q = ap (λ (k : ℕ). P true (numbered k)) (eqb-true n 0 q) ∙ e
+    go false n q = f n
+
+-- the number of its answer
+number-refused : (n : ℕ) (a : Answer) → numberOf (refused n a) ≡ n
+number-refused n (summarized a) = refl
+number-refused n (checked a) = refl
+number-refused n (found a) = refl
+number-refused n (listed a bytes) = refl
+number-refused n (gave a bytes) = refl
+number-refused n (changed a) = refl
+
+pub number-is : (s : Step) → numberOf (s .reply) ≡ 0 → numberOf (answerBy s) ≡ verdictOf (verdicts (s .refusals)) .number
+number-is s e = go (eqb (lowest (s .refusals)) 0) refl ∙ sym (ap (λ (v : Verdict). v .number) (verdict-is (s .refusals)))
+  where
+    go : (b : Bool) → eqb (lowest (s .refusals)) 0 ≡ b → numberOf (cond b (s .reply) (refused (lowest (s .refusals)) (s .reply))) ≡ lowest (s .refusals)
+    go true q = e ∙ sym (eqb-true _ 0 q)
+    go false q = number-refused (lowest (s .refusals)) (s .reply)

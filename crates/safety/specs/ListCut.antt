@@ -6,10 +6,11 @@ use mathlib.Core.List.{List, [], _∷_}
 use lib.Dec.{eqb}
 use lib.ListN.{length}
 use Rattle.model.specs.Bytes.{run}
+use Rattle.model.specs.Search.{flat}
 use Rattle.model.specs.WriteList.{Record, Group, barrierNumber, stored}
 use Rattle.model.specs.CarryOut.{recordsIn, carryImage}
 use Rattle.model.specs.Cut.{Cut, landed}
-use Rattle.model.specs.Format.{Format, formatAnswer, formatOutput}
+use Rattle.model.specs.Format.{Format, geometryFor, formatCount, formatAnswer, formatOutput}
 
 -- a record put in front of the first group
 abbrev pub withRecord : Record → List Group → List Group
@@ -31,3 +32,8 @@ unfoldable pub formatCarried : Format → (ℕ → List ℕ) → ℕ → List �
 formatCarried a outs zero img = img
 formatCarried a outs (suc n) img =
     carryImage (formatCarried a outs n img) (run (formatOutput a n (outs n)) 0 (formatAnswer a n (length (outs n)) .length))
+
+-- the bytes of a format's records, one after the other, each asked for with the buffer outs gives
+unfoldable pub formatList : Format → (ℕ → List ℕ) → List ℕ
+formatList a outs =
+    flat (λ p. run (formatOutput a p (outs p)) 0 (formatAnswer a p (length (outs p)) .length)) 0 (formatCount (geometryFor (a .sectors) (a .files)))

@@ -1,0 +1,39 @@
+-- WHAT THE CALLS ANSWER WHERE CHECK REFUSES: its verdict, "all other result numbers are then 0 (except with 7), .., and no buffer changes".
+use Prim.Native.Nat.{ℕ}
+use mathlib.Core.Path.{_≡_}
+use mathlib.Core.List.{List}
+use lib.ListN.{length}
+use Rattle.model.specs.declared.Verdict.{Verdict}
+use Rattle.model.specs.declared.Changed.{Changed}
+use Rattle.model.specs.Disk.{view}
+use Rattle.model.specs.Summary.{checkAnswer}
+use Rattle.model.specs.Find.{notFound, findAnswer}
+use Rattle.model.specs.Listing.{notListed, listAnswer, listOutput}
+use Rattle.model.specs.Read.{notRead, readAnswer, readOutput}
+use Rattle.model.specs.Create.{createAnswer, createList}
+use Rattle.model.specs.Delete.{deleteAnswer, deleteList}
+use Rattle.model.specs.Resize.{resizeAnswer, resizeList}
+use Rattle.model.specs.Write.{writeAnswer, writeList}
+
+abbrev pub notChanged : Verdict → Changed
+notChanged v = record { verdict = v; length = 0 }
+
+-- every call but format, summary, recovery and carrying out answers v; out is a lent output, list a lent list
+pub record RefusedWith (v : Verdict) (img : List ℕ) : Type 0 where
+  pub check : checkAnswer (length img) (view img) ≡ record { verdict = v }
+  pub find : (name : List ℕ) → findAnswer (length img) (view img) name ≡ notFound v
+  pub list : (i : ℕ) (out : List ℕ)
+      → (listAnswer (length img) (view img) i (length out) ≡ notListed v) × (listOutput (length img) (view img) i out ≡ out)
+  pub read : (name : List ℕ) (offset asked : ℕ) (out : List ℕ)
+      → (readAnswer (length img) (view img) name offset asked (length out) ≡ notRead v) × (readOutput (length img) (view img) name offset asked out ≡ out)
+  pub create : (name : List ℕ) (id mode time : ℕ) (list : List ℕ)
+      → (createAnswer (length img) (view img) name id mode time (length list) ≡ notChanged v)
+      × (createList (length img) (view img) name id mode time list ≡ list)
+  pub delete : (name : List ℕ) (time : ℕ) (list : List ℕ)
+      → (deleteAnswer (length img) (view img) name time (length list) ≡ notChanged v) × (deleteList (length img) (view img) name time list ≡ list)
+  pub resize : (name : List ℕ) (size time : ℕ) (list : List ℕ)
+      → (resizeAnswer (length img) (view img) name size time (length list) ≡ notChanged v)
+      × (resizeList (length img) (view img) name size time list ≡ list)
+  pub write : (name : List ℕ) (offset : ℕ) (bytes : List ℕ) (time : ℕ) (list : List ℕ)
+      → (writeAnswer (length img) (view img) name offset bytes time (length list) ≡ notChanged v)
+      × (writeList (length img) (view img) name offset bytes time list ≡ list)

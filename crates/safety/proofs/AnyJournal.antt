@@ -34,7 +34,7 @@ use Rattle.laws.proofs.Seeking.{first-there, some-first}
 use Rattle.laws.proofs.Refusals.{image-passed}
 use Rattle.safety.specs.Room.{geometryOn}
 use Rattle.safety.specs.AnyJournal.{InMetadata, GoodEntries, recoveryNumber, recoveredBy, Replayed, CutRecoveries, none, oneMore, AnyJournal}
-use Rattle.safety.proofs.Searches.{place-found}
+use Rattle.safety.proofs.Searches.{place-found, not-no, not-yes}
 use Rattle.safety.proofs.Apply.{over, apply, hits, over-append, over-here, over-miss, over-skip, over-none, apply-append, apply-agree, apply-miss, All, all-append, all-map, all-kept}
 use Rattle.safety.proofs.Apply.{all-miss, kept-miss, kept-one, InImage, stored-view, stored-closed, length-stored}
 use Rattle.safety.proofs.Superblock.{length-withJournalLength, journalLength-with, state-clean, Volume, volume-with, volume-long, volume-bounds, volume-accepted, Recovers}
@@ -133,14 +133,6 @@ no-6 : (a b : Bool) → isDone (cond a (refusal 4) (cond b (refusal 6) done)) �
 no-6 true b h = absurd (false≢true h)
 no-6 false true h = absurd (false≢true h)
 no-6 false false h = refl
-
-not-no : (b : Bool) → not b ≡ false → b ≡ true
-not-no true e = refl
-not-no false e = sym e
-
-not-yes : (b : Bool) → not b ≡ true → b ≡ false
-not-yes true e = sym e
-not-yes false e = refl
 
 -- ---- what recovery makes of sector t
 

@@ -1,2 +1,3 @@
--- The proof that the cases hold.
+-- The proofs that the tables hold.
 pub mod Computed
+pub mod Literals

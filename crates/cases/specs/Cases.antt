@@ -11,7 +11,7 @@ use Rattle.model.specs.Geometry.{tableSectors, reserveExtents, journalAt, table
 use Rattle.model.specs.Disk.{Disk}
 use Rattle.model.specs.Catalogue.{Owner, Catalogue}
 use Rattle.model.specs.Refusals.{done}
-use Rattle.model.specs.WriteList.{Plan, Group, barrierNumber, groupsOf, closed, listLength, recordCount, sectorsOf}
+use Rattle.model.specs.WriteList.{Plan, Group, groupsOf, closed, listLength, recordCount, sectorsOf}
 use Rattle.model.specs.Format.{Format, geometryFor, formatAnswer}
 use Rattle.model.specs.Create.{createPlan}
 use Rattle.model.specs.Write.{writePlan}
@@ -77,9 +77,10 @@ groups d p = groupsOf (shape 4 128) d p
 abbrev pub order : List Group → List ℕ
 order gs = sectorsOf (closed gs)
 
--- the order of groups B to D of a call with these targets, behind group A
+-- the order of groups B to D of a call with these targets, behind group A; a barrier's number is written out
 abbrev pub behind : List ℕ → List ℕ
-behind targets = barrierNumber ∷ 0 ∷ barrierNumber ∷ (targets ++ (barrierNumber ∷ 0 ∷ barrierNumber ∷ []))
+behind targets =
+    18446744073709551615 ∷ 0 ∷ 18446744073709551615 ∷ (targets ++ (18446744073709551615 ∷ 0 ∷ 18446744073709551615 ∷ []))
 
 -- the four table entries
 abbrev pub owned : ℕ → ℕ → Option Owner

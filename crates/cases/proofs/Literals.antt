@@ -1,0 +1,40 @@
+-- The table of literal bytes holds: each line computes. Assumes nothing.
+use mathlib.Core.Path.{refl}
+use Rattle.model.specs.Bytes.{beAt, beBytes, run, put, onesSector, zeroSector}
+use Rattle.model.specs.Search.{scan, some, every, count, same}
+use Rattle.model.specs.Geometry.{inBounds}
+use Rattle.model.specs.Superblock.{isVolume, geometryIn, journalLength, stateOf, newSuperblock}
+use Rattle.model.specs.Root.{rootIn, newRootSector, updatedRootSector}
+use Rattle.model.specs.Entry.{nameIn, entryIn, isOccupied, hasZero, badName, newEntrySector, updatedEntrySector}
+use Rattle.model.specs.Table.{tableFile, tableOffset, takenIn, freedIn}
+use Rattle.model.specs.Journal.{entriesIn, journalSector}
+use Rattle.model.specs.Catalogue.{catalogueOf, fileNamed, entryOf}
+use Rattle.model.specs.Faults.{fault21, fault22, fault23, fault24, fault25, exact, fault26, firstFault}
+use Rattle.model.specs.Refusals.{verdictOf, isWhole, fitsImage, imageVerdict, soundVerdict, judged}
+use Rattle.model.specs.WriteList.{barrier, recordBytes}
+use Rattle.model.specs.Summary.{superblockVerdict, superblockAnswer}
+use Rattle.model.specs.Read.{sizeNamed, readConditions, readBy, readAnswer}
+use Rattle.cases.specs.Literals.{Literals}
+
+pub literals : Literals
+unfolding beAt beBytes run put onesSector zeroSector scan some every count same inBounds isVolume geometryIn journalLength stateOf newSuperblock
+    rootIn newRootSector updatedRootSector nameIn entryIn isOccupied hasZero badName newEntrySector updatedEntrySector tableFile tableOffset takenIn freedIn
+    entriesIn journalSector catalogueOf fileNamed entryOf fault21 fault22 fault23 fault24 fault25 exact fault26 firstFault
+    verdictOf isWhole fitsImage imageVerdict soundVerdict judged barrier recordBytes superblockVerdict superblockAnswer sizeNamed readConditions readBy readAnswer
+literals = record {
+  unfinished = refl;
+  clean = refl;
+  read-back = refl;
+  root = refl;
+  root-updated = refl;
+  created = refl;
+  written = refl;
+  taken = refl;
+  freed = refl;
+  journal = refl;
+  barrier-bytes = refl;
+  record-bytes = refl;
+  states = refl;
+  judged = refl;
+  refused = refl;
+}

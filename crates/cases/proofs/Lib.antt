@@ -1,3 +1,4 @@
 -- The proofs that the tables hold.
 pub mod Computed
 pub mod Literals
+pub mod Edges

@@ -1,3 +1,4 @@
--- The table of the cases P1 to P10, and a second one of literal bytes.
+-- The table of the cases P1 to P10, a second one of literal bytes, a third of edges.
 pub mod Cases
 pub mod Literals
+pub mod Edges

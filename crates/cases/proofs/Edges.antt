@@ -1,0 +1,46 @@
+-- The table of edges holds: each line computes. Assumes nothing.
+use mathlib.Core.Path.{refl}
+use Rattle.model.specs.Bytes.{beAt, beBytes, run, put, onesSector, zeroSector}
+use Rattle.model.specs.Search.{scan, some, every, count, same, tab}
+use Rattle.model.specs.Geometry.{inBounds}
+use Rattle.model.specs.Superblock.{isVolume, geometryIn, journalLength, stateOf, newSuperblock}
+use Rattle.model.specs.Root.{rootIn, newRootSector}
+use Rattle.model.specs.Entry.{nameIn, entryIn, isOccupied, hasZero, badName, newEntrySector, updatedEntrySector}
+use Rattle.model.specs.Table.{tableFile, tableOffset, takenIn}
+use Rattle.model.specs.Journal.{sourceAt, targetAt, entriesIn, journalSector}
+use Rattle.model.specs.Catalogue.{catalogueOf, entryOf}
+use Rattle.model.specs.Faults.{fault21, fault22, fault23, fault24, fault25, exact, fault26, firstFault}
+use Rattle.model.specs.Refusals.{verdictOf, isWhole, fitsImage, imageVerdict, soundVerdict, judged}
+use Rattle.model.specs.WriteList.{barrier, recordBytes}
+use Rattle.model.specs.Summary.{superblockVerdict, superblockAnswer, checkAnswer}
+use Rattle.model.specs.Listing.{listConditions, listedBy, listVerdict, listAnswer}
+use Rattle.model.specs.Recovery.{isData, isMetadata, goodEntry, replayedSector, replayed, recoveryGroups, recoveryVerdict}
+use Rattle.model.specs.Search.{flat}
+use Rattle.model.specs.Format.{doubled, geometryFor, canFormat, formatVerdict, formatAnswer}
+use Rattle.model.specs.CarryOut.{recordIn, badRecord, carryVerdict, carryAnswer}
+use Rattle.cases.specs.Edges.{Edges}
+
+pub edges : Edges
+unfolding beAt beBytes run put onesSector zeroSector scan some every count same tab flat inBounds isVolume geometryIn journalLength stateOf newSuperblock
+    rootIn newRootSector nameIn entryIn isOccupied hasZero badName newEntrySector updatedEntrySector tableFile tableOffset takenIn sourceAt targetAt
+    entriesIn journalSector catalogueOf entryOf fault21 fault22 fault23 fault24 fault25 exact fault26 firstFault
+    verdictOf isWhole fitsImage imageVerdict soundVerdict judged barrier recordBytes superblockVerdict superblockAnswer checkAnswer
+    listConditions listedBy listVerdict listAnswer isData isMetadata goodEntry replayedSector replayed recoveryGroups recoveryVerdict
+    doubled geometryFor canFormat formatVerdict formatAnswer recordIn badRecord carryVerdict carryAnswer
+edges = record {
+  table-sectors = refl;
+  files = refl;
+  most-sectors = refl;
+  positions = refl;
+  superblocks = refl;
+  refused = refl;
+  short = refl;
+  codes = refl;
+  areas = refl;
+  lowest = refl;
+  tail-stays = refl;
+  entries = refl;
+  table = refl;
+  journals = refl;
+  lists = refl;
+}

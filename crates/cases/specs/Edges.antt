@@ -1,0 +1,137 @@
+-- Both sides of each bound, one worked volume for each fault, and journals and lists that are refused: a third table, of what neither the
+-- cases P1 to P10 nor a theorem decides.
+use Prim.Native.Nat.{ℕ, _+_, _^_}
+use mathlib.Core.Path.{_≡_}
+use mathlib.Core.Bool.{cond}
+use mathlib.Core.List.{List, [], _∷_, _++_}
+use lib.Dec.{eqb}
+use lib.ListN.{getD, replicate}
+use Rattle.model.specs.declared.Geometry.{Geometry}
+use Rattle.model.specs.declared.State.the-variants.{Clean, Waiting, Damaged, Unfinished}
+use Rattle.model.specs.declared.Area.the-variants.{Journal, Table, Data, Reserve}
+use Rattle.model.specs.declared.Summary.{Summary}
+use Rattle.model.specs.declared.Summarized.{Summarized}
+use Rattle.model.specs.declared.Verdict.{Verdict}
+use Rattle.model.specs.Bytes.{zeroSector, onesSector}
+use Rattle.model.specs.Geometry.{tableSectors}
+use Rattle.model.specs.Disk.{Disk}
+use Rattle.model.specs.Superblock.{newSuperblock}
+use Rattle.model.specs.Root.{newRootSector}
+use Rattle.model.specs.Entry.{newEntrySector, updatedEntrySector}
+use Rattle.model.specs.Table.{takenIn}
+use Rattle.model.specs.Journal.{journalSector}
+use Rattle.model.specs.Refusals.{refusal, done}
+use Rattle.model.specs.WriteList.{barrier, sectorWrite, recordBytes}
+use Rattle.model.specs.Summary.{superblockAnswer, stateCode, located, areaAt, checkAnswer}
+use Rattle.model.specs.Listing.{listAnswer}
+use Rattle.model.specs.Recovery.{recoveryVerdict}
+use Rattle.model.specs.Format.{Format, formatAnswer}
+use Rattle.model.specs.CarryOut.{carryAnswer}
+use Rattle.cases.specs.Cases.{shape, called, sample}
+use Rattle.cases.specs.Literals.{padded, cleanSuperblock, sampleBytes}
+
+-- ---- bounds
+
+-- what format answers when asked for the first record of a volume of so many files and sectors
+abbrev pub formats : ℕ → ℕ → ℕ
+formats files sectors = formatAnswer (record { sectors = sectors; files = files; id = 1; mode = 0; time = 0 }) 0 520 .number
+
+-- what the summary answers of a superblock
+abbrev pub ofSuperblock : List ℕ → Summarized
+ofSuperblock s = superblockAnswer 512 (λ k. s)
+
+abbrev pub superblockOf : ℕ → ℕ → ℕ → List ℕ
+superblockOf files extents extentSectors = newSuperblock (record { files = files; extents = extents; «extent_sectors» = extentSectors }) 0
+
+abbrev pub sampleSummary : Summary
+sampleSummary = record { geometry = shape 4 128; state = Clean }
+
+abbrev pub noSummary : Summary
+noSummary = record { geometry = record { files = 0; extents = 0; «extent_sectors» = 0 }; state = Clean }
+
+-- ---- faults: the sample's disk with a file of one name and id in its first entry, another in its fourth, and a table sector
+
+abbrev pub diskOf : List ℕ → List ℕ → List ℕ → Disk
+diskOf first fourth table k =
+    cond (eqb k 0) cleanSuperblock
+    (cond (eqb k 1) (newRootSector 1 0 0) (cond (eqb k 2) first (cond (eqb k 5) fourth (cond (eqb k 289) table zeroSector))))
+
+abbrev pub checks : List ℕ → List ℕ → List ℕ → Verdict
+checks first fourth table = checkAnswer sampleBytes (diskOf first fourth table) .verdict
+
+-- an empty file of that name and id; one of so many bytes
+abbrev pub empty : ℕ → ℕ → List ℕ
+empty letter id = newEntrySector (called letter) id 0 0
+
+abbrev pub sized : ℕ → List ℕ
+sized size = updatedEntrySector size 0 (empty 97 5)
+
+abbrev pub fault : ℕ → ℕ → Verdict
+fault n place = record { number = 7; fault = n; place = place }
+
+-- ---- recovery: the sample's disk, waiting with two entries: their sources, their targets
+
+abbrev pub waits : ℕ → ℕ → ℕ → ℕ → Disk
+waits source target source2 target2 k =
+    cond (eqb k 0) (newSuperblock (shape 4 128) 2)
+    (cond (eqb k 257) (journalSector (λ j. cond (eqb j 0) source source2) (λ j. cond (eqb j 0) target target2) 2 0) zeroSector)
+
+abbrev pub recovers : Disk → ℕ
+recovers d = recoveryVerdict sampleBytes d 65536 .number
+
+-- ---- carrying out on an image of one sector
+
+abbrev pub carries : List ℕ → ℕ
+carries list = carryAnswer zeroSector list .number
+
+pub record Edges : Type 0 where
+  -- T = (N + 127) / 128
+  pub table-sectors : (tableSectors (shape 128 128) ∷ tableSectors (shape 129 128) ∷ []) ≡ (1 ∷ 2 ∷ [])
+  -- F 255 to 1,024
+  pub files : (formats 254 1312 ∷ formats 255 1313 ∷ formats 1024 2082 ∷ formats 1025 2083 ∷ []) ≡ (8 ∷ 0 ∷ 0 ∷ 8 ∷ [])
+  -- "up to 2^31": the most sectors, and one more
+  pub most-sectors : (formats 255 (2 ^ 47 + 800) ∷ formats 255 (2 ^ 47 + 801) ∷ []) ≡ (0 ∷ 8 ∷ [])
+  -- the last record of the sample's format, and the position after it
+  pub positions : (formatAnswer sample 261 520 .number ∷ formatAnswer sample 262 520 .number ∷ formatAnswer sample 261 519 .number ∷ []) ≡ (0 ∷ 9 ∷ 14 ∷ [])
+  -- 2 another magic, version 2; 3 F 254, N 1, S 127; none of the three
+  pub superblocks : (ofSuperblock (padded (0 ∷ 255 ∷ 0 ∷ 4 ∷ 0 ∷ 0 ∷ 0 ∷ 128 ∷ 47 ∷ 71 ∷ 79 ∷ 111 ∷ 47 ∷ 70 ∷ 83 ∷ 47 ∷ 0 ∷ 1 ∷ [])) .number
+      ∷ ofSuperblock (padded (0 ∷ 255 ∷ 0 ∷ 4 ∷ 0 ∷ 0 ∷ 0 ∷ 128 ∷ 47 ∷ 71 ∷ 111 ∷ 111 ∷ 47 ∷ 70 ∷ 83 ∷ 47 ∷ 0 ∷ 2 ∷ [])) .number
+      ∷ ofSuperblock (superblockOf 254 4 128) .number ∷ ofSuperblock (superblockOf 255 1 128) .number ∷ ofSuperblock (superblockOf 255 4 127) .number
+      ∷ ofSuperblock (superblockOf 255 2 128) .number ∷ [])
+      ≡ (2 ∷ 2 ∷ 3 ∷ 3 ∷ 3 ∷ 0 ∷ [])
+  -- "all other result numbers are then 0, a state reads clean"; the small program's 1
+  pub refused : ofSuperblock zeroSector ≡ record { number = 2; summary = noSummary }
+  pub short : superblockAnswer 511 (λ k. cleanSuperblock) ≡ record { number = 1; summary = noSummary }
+  pub codes : (stateCode Clean ∷ stateCode (Waiting 1) ∷ stateCode Damaged ∷ stateCode Unfinished ∷ []) ≡ (0 ∷ 1 ∷ 2 ∷ 3 ∷ [])
+  -- where the summary puts the four areas; 3 for a geometry out of bounds
+  pub areas : (located (areaAt Journal) sampleSummary ∷ located (areaAt Table) sampleSummary ∷ located (areaAt Data) sampleSummary
+      ∷ located (areaAt Reserve) sampleSummary ∷ located (areaAt Data) noSummary ∷ [])
+      ≡ (record { number = 0; sector = record { 0 = 257 } } ∷ record { number = 0; sector = record { 0 = 289 } }
+      ∷ record { number = 0; sector = record { 0 = 290 } } ∷ record { number = 0; sector = record { 0 = 674 } }
+      ∷ record { number = 3; sector = record { 0 = 0 } } ∷ [])
+  -- the lowest number: index 255 is bad (8), and no occupied entry (9)
+  pub lowest : listAnswer sampleBytes (diskOf zeroSector zeroSector onesSector) 255 0 .verdict ≡ refusal 8
+  -- "bytes not named here stay"
+  pub tail-stays : getD (updatedEntrySector 1 0 onesSector) 511 0 ≡ 255
+  -- two files without a fault; 21 mark 1; 22 no name, 65,536 x 3 + 1 bytes; 23 the same name; 24 id 0, the root's, the same id
+  pub entries : (checks (empty 97 5) (empty 98 6) onesSector ∷ checks (empty 97 5) (padded (0 ∷ 1 ∷ [])) onesSector
+      ∷ checks (empty 97 5) (newEntrySector [] 6 0 0) onesSector ∷ checks (sized 196609) (empty 98 6) onesSector
+      ∷ checks (empty 97 5) (empty 97 6) onesSector ∷ checks (empty 97 5) (empty 98 0) onesSector ∷ checks (empty 97 5) (empty 98 1) onesSector
+      ∷ checks (empty 97 5) (empty 98 5) onesSector ∷ [])
+      ≡ (done ∷ fault 21 3 ∷ fault 22 3 ∷ fault 22 0 ∷ fault 23 3 ∷ fault 24 3 ∷ fault 24 3 ∷ fault 24 3 ∷ [])
+  -- 25 an extent of no file, one of the reserve; 26 none of two extents, one twice, one too many; and both where they belong
+  pub table : (checks (empty 97 5) (empty 98 6) (takenIn 2 9 0 onesSector) ∷ checks (sized 1) (empty 98 6) (takenIn 3 0 0 onesSector)
+      ∷ checks (sized 65537) (empty 98 6) (takenIn 1 0 0 onesSector) ∷ checks (sized 1) (empty 98 6) (takenIn 1 0 0 (takenIn 2 0 0 onesSector))
+      ∷ checks (sized 65536) (empty 98 6) (takenIn 1 0 0 (takenIn 2 0 1 onesSector)) ∷ checks (sized 65537) (empty 98 6) (takenIn 1 0 1 (takenIn 2 0 0 onesSector)) ∷ [])
+      ≡ (fault 25 2 ∷ fault 25 3 ∷ fault 26 0 ∷ fault 26 0 ∷ fault 26 0 ∷ done ∷ [])
+  -- recovery: root and the last table sector from any data sectors; 6 a source before or behind the data area, a target that is superblock,
+  -- journal or data, a target twice
+  pub journals : (recovers (waits 290 1 801 289) ∷ recovers (waits 674 2 674 256) ∷ recovers (waits 289 1 675 2) ∷ recovers (waits 674 1 802 2)
+      ∷ recovers (waits 674 0 675 2) ∷ recovers (waits 674 1 675 257) ∷ recovers (waits 674 288 675 2) ∷ recovers (waits 674 1 675 290)
+      ∷ recovers (waits 674 1 675 1) ∷ recovers (λ k. newSuperblock (shape 4 128) 1025) ∷ recovers (λ k. newSuperblock (shape 4 128) 65535) ∷ [])
+      ≡ (0 ∷ 0 ∷ 6 ∷ 6 ∷ 6 ∷ 6 ∷ 6 ∷ 6 ∷ 6 ∷ 6 ∷ 4 ∷ [])
+  -- carrying out: an empty list, one write, a barrier; 8 part of a record, a sector outside the image, a barrier whose last byte is 1; 1
+  pub lists : (carries [] ∷ carries (recordBytes (sectorWrite 0 onesSector)) ∷ carries (recordBytes barrier)
+      ∷ carries (recordBytes barrier ++ (0 ∷ [])) ∷ carries (recordBytes (sectorWrite 1 onesSector))
+      ∷ carries (replicate 8 255 ++ replicate 511 0 ++ (1 ∷ [])) ∷ carryAnswer [] [] .number ∷ [])
+      ≡ (0 ∷ 0 ∷ 0 ∷ 8 ∷ 8 ∷ 8 ∷ 1 ∷ [])

@@ -2,15 +2,14 @@
 -- ledger keeps what it says of a file while no call names it. Assumes nothing.
 use Prim.Native.Nat.{ℕ}
 use mathlib.Core.Path.{_≡_, refl, sym, ap, subst}
-use mathlib.Core.Logic.{_≢_}
 use mathlib.Core.Bool.{Bool, true, false, cond}
 use mathlib.Core.List.{List}
-use mathlib.Core.Option.{none, some as just}
+use mathlib.Core.Option.{none}
 use lib.Dec.{eqb, ltb}
 use borrow.Author.Tests.{eqb-true}
 use Rattle.model.specs.Ledger.{Ledger, fileOf, Call, summary, check, find, list, read, create, delete, resize, write, numberOf, partlyWritten, step, answer, Feed, whole, cutMarked, cutUnmarked, callOf, fed}
 use Rattle.model.specs.Run.{onVolume, volumeAnswer, volumePlan, Fits}
-use Rattle.safety.specs.Naming.{names, fileIn}
+use Rattle.safety.specs.Naming.{Spares, fileIn}
 use Rattle.safety.proofs.Induction.{Effect, nothing}
 use Rattle.safety.proofs.Rep.{Rep, summary-same, check-same, find-same, list-same}
 use Rattle.safety.proofs.Read.{read-same}
@@ -25,8 +24,8 @@ pub record CallFacts (c : Call) : Type 0 where
   pub same : (L : Ledger) (img : List ℕ) → Rep L img → Fits c → volumeAnswer c img ≡ answer c L
   pub effect : (L : Ledger) (img : List ℕ) → Rep L img → Fits c → Effect Rep c L img
   -- done, or cut before its start mark, it leaves what is said of a file that it does not name
-  pub done-other : (L : Ledger) (n : List ℕ) → names c ≢ just n → numberOf (answer c L) ≡ 0 → fileIn (step c L .done) n ≡ fileIn L n
-  pub cut-other : (L : Ledger) (n : List ℕ) → names c ≢ just n → numberOf (answer c L) ≡ 0 → (mask : List Bool) → fileIn (step c L .cut mask) n ≡ fileIn L n
+  pub done-other : (L : Ledger) (n : List ℕ) → Spares c n → numberOf (answer c L) ≡ 0 → fileIn (step c L .done) n ≡ fileIn L n
+  pub cut-other : (L : Ledger) (n : List ℕ) → Spares c n → numberOf (answer c L) ≡ 0 → (mask : List Bool) → fileIn (step c L .cut mask) n ≡ fileIn L n
 
 -- of a call that only reads
 reads : (c : Call) → ((L : Ledger) (img : List ℕ) → Rep L img → volumeAnswer c img ≡ answer c L) → ((img : List ℕ) → volumePlan c img ≡ none)
@@ -42,9 +41,6 @@ reads c same none-planned done cut = record {
     either L img true h = subst (λ (X : Ledger). Rep X img) (sym (done L)) h
     either L img false h = h
 
-unnamed : {m n : List ℕ} → just m ≢ just n → m ≢ n
-unnamed h e = h (ap just e)
-
 pub facts : (c : Call) → CallFacts c
 unfolding onVolume step
 facts summary = reads summary summary-same (λ img. refl) (λ L. refl) (λ L mask. refl)
@@ -56,26 +52,26 @@ facts (read name offset count room) =
 facts (create name id mode time room) = record {
   same = λ L img h f. create-same L img h name id mode time room;
   effect = λ L img h f. create-effect L img h name id mode time room f;
-  done-other = λ L n ne e. created-other L name n (unnamed ne) (create-fresh L name id mode time room e) _ id mode time;
+  done-other = λ L n ne e. created-other L name n (ne .0) (create-fresh L name id mode time room e) _ id mode time;
   cut-other = λ L n ne e mask. refl;
 }
 facts (delete name time room) = record {
   same = λ L img h f. delete-same L img h name time room;
   effect = λ L img h f. delete-effect L img h name time room (f .2);
-  done-other = λ L n ne e. freed-other L name n (unnamed ne) (delete-found L name time room e) _;
+  done-other = λ L n ne e. freed-other L name n (ne .0) (delete-found L name time room e) _;
   cut-other = λ L n ne e mask. refl;
 }
 facts (resize name size time room) = record {
   same = λ L img h f. resize-same L img h name size time room;
   effect = λ L img h f. resize-effect L img h name size time room (f .2);
-  done-other = λ L n ne e. resized-other L name n (unnamed ne) (resize-found L name size time room e) size time (ltb size (fileOf L name .entry .size));
+  done-other = λ L n ne e. resized-other L name n (ne .0) (resize-found L name size time room e) size time (ltb size (fileOf L name .entry .size));
   cut-other = λ L n ne e mask. refl;
 }
 facts (write name offset bytes time room) = record {
   same = λ L img h f. write-same L img h name offset bytes time room;
   effect = λ L img h f. write-effect L img h name offset bytes time room (f .2);
-  done-other = λ L n ne e. written-other L name n (unnamed ne) (write-found L name offset bytes time room e) offset bytes time;
-  cut-other = λ L n ne e mask. renewed-other L name n (unnamed ne) (write-found L name offset bytes time room e)
+  done-other = λ L n ne e. written-other L name n (ne .0) (write-found L name offset bytes time room e) offset bytes time;
+  cut-other = λ L n ne e mask. renewed-other L name n (ne .0) (write-found L name offset bytes time room e)
       (record { entry = fileOf L name .entry; bytes = partlyWritten (fileOf L name) offset bytes mask; extents = fileOf L name .extents }) refl;
 }
 
@@ -88,7 +84,7 @@ Accepted (cutMarked c) L = numberOf (answer c L) ≡ 0
 Accepted (cutUnmarked c mask) L = numberOf (answer c L) ≡ 0
 
 -- THE LEDGER KEEPS WHAT IT SAYS OF A FILE THAT IS NOT NAMED
-pub fed-other : (L : Ledger) (n : List ℕ) (f : Feed) → Accepted f L → names (callOf f) ≢ just n → fileIn (fed f L) n ≡ fileIn L n
+pub fed-other : (L : Ledger) (n : List ℕ) (f : Feed) → Accepted f L → Spares (callOf f) n → fileIn (fed f L) n ≡ fileIn L n
 fed-other L n (whole c) a h = go (eqb (numberOf (answer c L)) 0) refl
   where
     go : (b : Bool) → eqb (numberOf (answer c L)) 0 ≡ b → fileIn (cond b (step c L .done) L) n ≡ fileIn L n

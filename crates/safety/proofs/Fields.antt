@@ -61,7 +61,7 @@ pub root-updated : (time : ℕ) (s : List ℕ) → length s ≡ 512 → time < 2
 unfolding rootIn updatedRootSector updatedRoot
 root-updated time s l h =
     let t : ltb time (256 ^ 4) ≡ true = lt-ltb time (256 ^ 4) h in
-    let v : ltb (raised (beAt s 0 4)) (256 ^ 4) ≡ true = lt-ltb (raised (beAt s 0 4)) (256 ^ 4) (mod-lt (beAt s 0 4 + 1) (lit< tt)) in
+    let v : ltb (raised (beAt s 0 4)) (256 ^ 4) ≡ true = lt-ltb (raised (beAt s 0 4)) (256 ^ 4) (mod-lt _ (lit< tt)) in
     let a : length (put s 0 (beBytes 4 (raised (beAt s 0 4)))) ≡ 512 = length-put s 0 _ ∙ l in
     simp (fields, l, t, v, a)
 
@@ -182,7 +182,7 @@ module _ (size time : ℕ) (s : List ℕ) where
         let v : ℕ = raised (beAt s 10 4) in
         let i : ltb size (256 ^ 8) ≡ true = lt-ltb size (256 ^ 8) hs in
         let t : ltb time (256 ^ 4) ≡ true = lt-ltb time (256 ^ 4) ht in
-        let m : ltb (raised (beAt s 10 4)) (256 ^ 4) ≡ true = lt-ltb (raised (beAt s 10 4)) (256 ^ 4) (mod-lt (beAt s 10 4 + 1) (lit< tt)) in
+        let m : ltb (raised (beAt s 10 4)) (256 ^ 4) ≡ true = lt-ltb (raised (beAt s 10 4)) (256 ^ 4) (mod-lt _ (lit< tt)) in
         let x : List ℕ = updatedEntrySector size time s in
         let p1 : beAt x 2 8 ≡ size = simp (fields, l, i) in
         let p2 : beAt x 10 4 ≡ raised (beAt s 10 4) = simp (fields, l, m) in

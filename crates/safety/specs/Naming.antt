@@ -1,4 +1,4 @@
--- Which file a call names to change it, and what an image, or the ledger, says of the file of a name.
+-- Which files a call names to change them, and what an image, or the ledger, says of the file of a name.
 use Prim.Native.Nat.{ℕ}
 use mathlib.Core.Logic.{_≢_}
 use mathlib.Core.Bool.{cond}
@@ -15,14 +15,18 @@ use Rattle.model.specs.Catalogue.{catalogueOf, fileNamed, freeEntry, entryOf, f
 use Rattle.model.specs.Ledger.{Ledger, fileOr, Call, Feed, callOf, newEntry, slotNamed}
 use Rattle.model.specs.Run.{arguments}
 
--- the name of the file that a call is to change; summary, check, find, list and read change none
-abbrev pub names : Call → Option (List ℕ)
-names c = arguments c .file
+-- a call names files to change them, and not this one; summary, check, find, list and read name none
+abbrev pub NotAmong : List ℕ → List (List ℕ) → Type 0
+NotAmong name [] = Unit {0}
+NotAmong name (m ∷ ms) = (m ≢ name) × NotAmong name ms
+
+abbrev pub Spares : Call → List ℕ → Type 0
+Spares c name = NotAmong name (arguments c .files)
 
 -- none of these calls, whole or cut, is to change the file of that name
 abbrev pub NoneNames : List ℕ → List Feed → Type 0
 NoneNames name [] = Unit {0}
-NoneNames name (f ∷ fs) = (names (callOf f) ≢ just name) × NoneNames name fs
+NoneNames name (f ∷ fs) = Spares (callOf f) name × NoneNames name fs
 
 -- what is said of a file: its entry and its bytes
 pub record Contents : Type 0 where

@@ -7,7 +7,8 @@ use mathlib.Core.List.{List}
 use mathlib.Core.Option.{none}
 use lib.Dec.{eqb, ltb}
 use borrow.Author.Tests.{eqb-true}
-use Rattle.model.specs.Ledger.{Ledger, fileOf, Call, summary, check, find, list, read, create, delete, resize, write, numberOf, partlyWritten, step, answer, Feed, whole, cutMarked, cutUnmarked, callOf, fed}
+use Rattle.model.specs.Ledger.{Ledger, fileOf, Call, summary, check, find, list, read, create, delete, resize, write, numberOf, partlyWritten, step, answer, Feed, whole, cutMarked, cutUnmarked}
+use Rattle.model.specs.Ledger.{callOf, fed}
 use Rattle.model.specs.Run.{onVolume, volumeAnswer, volumePlan, Fits}
 use Rattle.safety.specs.Naming.{Spares, fileIn}
 use Rattle.safety.proofs.Induction.{Effect, nothing}

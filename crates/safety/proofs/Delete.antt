@@ -84,7 +84,9 @@ module _ (L : Ledger) (img : List ℕ) (rep : Rep L img) (name : List ℕ) (time
   size =
       rw (named-is L name)
       (length-groups _ (view img) p
-      ∙ ap (λ n. recordCount 0 n * recordSize) (let e : length table-writes ≡ sectorsBeyond (catalogue L) i 0 = length-freed L img i 0 in let q : suc (suc (length table-writes)) ≡ 2 + sectorsBeyond (catalogue L) i 0 = omega arith in q))
+      ∙ ap (λ n. recordCount 0 n * recordSize)
+      (let e : length table-writes ≡ sectorsBeyond (catalogue L) i 0 = length-freed L img i 0 in
+      let q : suc (suc (length table-writes)) ≡ 2 + sectorsBeyond (catalogue L) i 0 = omega arith in q))
 
   decides : Decides L img (delete name time room) conditions (λ x. just (plan x)) room records
   unfolding onVolume deleteDecision step nameConditions

@@ -20,7 +20,8 @@ use Rattle.model.specs.Entry.{Entry}
 use Rattle.model.specs.Catalogue.{Catalogue, catalogueOf, hasName, fileNamed, entryOf, entryOr, fileByte, fileBytes}
 use Rattle.model.specs.Faults.{among}
 use Rattle.model.specs.Resize.{zeros}
-use Rattle.model.specs.Ledger.{Ledger, File, fileOr, entryOfFile, catalogue, create, delete, resize, write, withFile, withRootUpdated, shrunk, newEntry, updatedEntry, holdsName, slotNamed, freeSlot, fileOf, written, afterWrite, step}
+use Rattle.model.specs.Ledger.{Ledger, File, fileOr, entryOfFile, catalogue, create, delete, resize, write, withFile, withRootUpdated, shrunk, newEntry, updatedEntry, holdsName, slotNamed}
+use Rattle.model.specs.Ledger.{freeSlot, fileOf, written, afterWrite, step}
 use Rattle.model.specs.Demand3.{Says}
 use Rattle.laws.proofs.Booleans.{and-left}
 use Rattle.laws.proofs.Bytes.{length-run, getD-run, run-all, length-put, getD-put}

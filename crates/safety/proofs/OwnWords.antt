@@ -22,7 +22,8 @@ use Rattle.model.specs.Refusals.{Conditions, verdictOf, isDone, refusal}
 use Rattle.model.specs.Find.{nameConditions}
 use Rattle.model.specs.Write.{touchedSectors}
 use Rattle.model.specs.Resize.{zeros}
-use Rattle.model.specs.Ledger.{Ledger, File, fileOr, entryOfFile, holderOf, ownerFrom, catalogue, holdsName, holdsId, slotNamed, freeSlot, unheldExtent, fileOf, Answer, summarized, checked, found, listed, gave, changed, numberOf, numbered, refused, Refusals, lowest, unfitName, spannedSectors, zeroBytes, Step, answerBy}
+use Rattle.model.specs.Ledger.{Ledger, File, fileOr, entryOfFile, holderOf, ownerFrom, catalogue, holdsName, holdsId, slotNamed, freeSlot, unheldExtent, fileOf, Answer, summarized, checked, found}
+use Rattle.model.specs.Ledger.{listed, gave, changed, numberOf, numbered, refused, Refusals, lowest, unfitName, spannedSectors, zeroBytes, Step, answerBy}
 use Rattle.laws.proofs.Booleans.{not-and, not-leb}
 use Rattle.laws.proofs.Search.{first-ext, some-ext}
 

@@ -40,7 +40,8 @@ use Rattle.safety.proofs.Rewritten.{bytes-of, rep-replaced}
 use Rattle.safety.proofs.KeptFile.{size-small, entry-updated, mark-updated}
 use Rattle.safety.proofs.Extents.{extents-le, sector-held}
 use Rattle.safety.proofs.TakenTable.{length-takenIn, table-changed}
-use Rattle.safety.proofs.WriteLedger.{sizeWritten, takesOne, nextExtent, Writable, within, size-is, held-is, taken, size-bounded, writtenFile, written-is, sized-written, table-written, disjoint-written, admissible-written}
+use Rattle.safety.proofs.WriteLedger.{sizeWritten, takesOne, nextExtent, Writable, within, size-is, held-is, taken, size-bounded, writtenFile, written-is, sized-written, table-written}
+use Rattle.safety.proofs.WriteLedger.{disjoint-written, admissible-written}
 use Rattle.safety.proofs.WritePlaces.{writes, writes-usable, writes-whole, writes-miss, low-miss, place-usable, place-other, sector-new, byte-landed, writes-own}
 
 module _ (L : Ledger) (img : List ℕ) (rep : Rep L img) (i : ℕ) (f : File) (offset : ℕ) (bytes : List ℕ) (w : Writable L i f offset bytes) (time : ℕ) where

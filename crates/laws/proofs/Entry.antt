@@ -5,10 +5,11 @@ use mathlib.Core.Bool.{true}
 use mathlib.Core.List.{List}
 use native.Mathlib.Omega.{arith}
 use lib.ListN.{length}
-use borrow.Author.Tests.{le-leb, lt-leb}
+use borrow.Author.Tests.{lt-leb}
 use Rattle.model.specs.Bytes.{beAt, run}
 use Rattle.model.specs.Disk.{view}
 use Rattle.model.specs.Entry.{nameIn, badName}
+use Rattle.laws.proofs.Booleans.{and-false}
 use Rattle.laws.proofs.Bytes.{length-run}
 use Rattle.laws.proofs.Disk.{run-view}
 
@@ -22,6 +23,4 @@ name-view img k n e h = rw (← e) (run-view img k 36 n (omega arith))
 
 pub long-name : (n : List ℕ) → 476 < length n → badName n ≡ true
 unfolding badName
-long-name n h =
-    let one : 1 ≤ length n = omega arith in
-    rw (le-leb 1 (length n) one, lt-leb (length n) 476 h)
+long-name n h = rw (lt-leb (length n) 476 h, and-false)

@@ -1,24 +1,24 @@
 -- What the updated and the new sectors say: root, superblock, entry, and a sector of zeros. Assumes nothing.
 use Prim.Native.Nat.{ℕ, zero, suc, _+_, _*_, _^_, _≤_, _<_}
 use mathlib.Core.Path.{_≡_, refl, ap, ap₂, _∙_}
-use mathlib.Core.Bool.{Bool, true, false, not, _&&_, _||_, true≢false}
+use mathlib.Core.Bool.{Bool, true, false, not, _&&_, _||_}
 use mathlib.Core.List.{List, [], _∷_}
 use native.Mathlib.Omega.{arith}
-use native.Mathlib.Decide.{decLt}
 use native.Mathlib.Nat.{mod-lt}
 use lib.Dec.{eqb, leb, ltb, lit<}
-use lib.ListN.{length, getD, replicate, length-replicate, getD-replicate, List·getD-eq-default}
-use borrow.Author.Tests.{lt-ltb, leb-true}
+use lib.ListN.{length, getD, replicate, getD-replicate}
+use borrow.Author.Tests.{lt-ltb}
 use Rattle.model.specs.declared.Geometry.{Geometry}
 use Rattle.model.specs.Geometry.{extentSectors}
 use Rattle.model.specs.Bytes.{beAt, beBytes, run, put, stamped, raised, zeroSector, onesSector}
 use Rattle.model.specs.Search.{every, same}
 use Rattle.model.specs.Superblock.{magic, newSuperblock, geometryIn, journalLength, isVolume}
 use Rattle.model.specs.Root.{rootIn, updatedRootSector, newRootSector}
-use Rattle.model.specs.Entry.{nameIn, entryIn, isOccupied, hasZero, badName, newEntrySector, occupiedMark, updatedEntrySector}
+use Rattle.model.specs.Entry.{nameIn, entryIn, isOccupied, badName, newEntrySector, occupiedMark, updatedEntrySector}
 use Rattle.model.specs.Ledger.{newEntry, updatedEntry, updatedRoot, newRoot}
 use Rattle.laws.proofs.Booleans.{or-right}
-use Rattle.laws.proofs.Bytes.{length-put, length-zeroSector, number-same, number-other, bytes-other, number-apart, run-put-same}
+use Rattle.laws.proofs.Bytes.{length-put, length-zeroSector, number-same, number-other, bytes-other, number-apart, run-put-same, zeros-at}
+use Rattle.laws.proofs.Named.{short-name}
 
 -- a number put into a whole sector
 pub field-same : (l : List ℕ) (o w v : ℕ) → length l ≡ 512 → leb (o + w) 512 ≡ true → ltb v (256 ^ w) ≡ true → beAt (put l o (beBytes w v)) o w ≡ v
@@ -30,13 +30,6 @@ pub ruleset fields = (field-same, number-other, number-apart, length-put, length
 
 getD-all : (n x i : ℕ) → i < n → getD (replicate n x) i 0 ≡ x
 getD-all n x i h = getD-replicate {A = ℕ} n i x 0 h
-
-zeros-at : (n i : ℕ) → getD (replicate {A = ℕ} n 0) i 0 ≡ 0
-zeros-at n i = go (decLt i n)
-  where
-    go : Dec (i < n) → getD (replicate {A = ℕ} n 0) i 0 ≡ 0
-    go (yes h) = getD-all n 0 i h
-    go (no h) = List·getD-eq-default (replicate {A = ℕ} n 0) 0 (omega (arith, length-replicate {A = ℕ} n 0))
 
 pub getD-zeros : (i : ℕ) → getD zeroSector i 0 ≡ 0
 unfolding zeroSector
@@ -108,15 +101,6 @@ module _ (g : Geometry) (n : ℕ) (f : g .files < 65536) (e : g .extents < 65536
 
 -- ---- a new entry
 
-named : (name : List ℕ) → badName name ≡ false → length name ≤ 476
-unfolding badName
-named name h = go (leb 1 (length name)) (leb (length name) 476) refl h
-  where
-    go : (a b : Bool) → leb (length name) 476 ≡ b → (not (a && b) || hasZero name) ≡ false → length name ≤ 476
-    go true true e q = leb-true (length name) 476 e
-    go true false e q = absurd (true≢false q)
-    go false b e q = absurd (true≢false q)
-
 module _ (name : List ℕ) (id mode time : ℕ) where
   pub length-newEntry : length (newEntrySector name id mode time) ≡ 512
   unfolding newEntrySector
@@ -130,7 +114,7 @@ module _ (name : List ℕ) (id mode time : ℕ) where
     new-name : nameIn (newEntrySector name id mode time) ≡ name
     unfolding nameIn newEntrySector
     new-name =
-        let short : length name ≤ 476 = named name good in
+        let short : length name ≤ 476 = short-name name good in
         let t : ltb (length name) (256 ^ 2) ≡ true = lt-ltb (length name) (256 ^ 2) (omega arith) in
         let x : List ℕ = stamped zeroSector
         ((0, beBytes 2 occupiedMark) ∷ (14, beBytes 8 id) ∷ (22, beBytes 4 mode) ∷ (26, beBytes 4 time) ∷ (30, beBytes 4 time) ∷ (34, beBytes 2 (length name)) ∷ []) in

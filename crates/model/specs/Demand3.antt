@@ -22,7 +22,8 @@ use Rattle.model.specs.Ledger.{Ledger, File, catalogue, ledgerAfter, ans
 use Rattle.model.specs.Run.{Phase, steady, broken, Run}
 
 -- the image says what the ledger says: the superblock magic, version, geometry and clean; the root its fields; the directory of
--- each slot its mark, 0 free or 65,535 occupied, and its entry's fields; the table of each extent free or whose it is; each file's extents its bytes
+-- each slot its mark, 0 free or 65,535 occupied, and its entry's fields; the table of each extent free or whose it is; each file's
+-- extents its bytes
 pub record Says (L : Ledger) (img : List ℕ) : Type 0 where
   pub volume : isVolume (view img superblockAt) ≡ true
   pub geometry : geometryIn (view img superblockAt) ≡ L .geometry

@@ -1,4 +1,4 @@
--- What create owes: the ledger's answer, and its effect. Assumes nothing.
+-- What create has to show: the ledger's answer, and its effect. Assumes nothing.
 use Prim.Native.Nat.{ℕ, _*_, _^_, _<_}
 use mathlib.Core.Path.{_≡_, refl, sym, ap, _∙_, subst}
 use mathlib.Core.Logic.{_≢_}

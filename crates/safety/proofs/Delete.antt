@@ -1,4 +1,4 @@
--- What delete owes: the ledger's answer, and its effect. Assumes nothing.
+-- What delete has to show: the ledger's answer, and its effect. Assumes nothing.
 use Prim.Native.Nat.{ℕ, suc, _+_, _*_, _^_, _≤_, _<_}
 use mathlib.Core.Path.{_≡_, refl, sym, ap, _∙_, subst}
 use mathlib.Core.Logic.{_≢_}

@@ -1,4 +1,4 @@
--- What read owes: the ledger's answer and the file's bytes. Assumes nothing.
+-- What read has to show: the ledger's answer and the file's bytes. Assumes nothing.
 use Prim.Native.Nat.{ℕ, zero, suc, _+_, _≤_}
 use mathlib.Core.Path.{_≡_, refl, sym, ap, ap₂, _∙_}
 use mathlib.Core.Bool.{Bool, true, false, cond, false≢true}

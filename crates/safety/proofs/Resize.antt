@@ -1,4 +1,4 @@
--- What resize owes: the ledger's answer, and its effect. A shrinking one has a plan of its own, a growing one is a write of zeros at the
+-- What resize has to show: the ledger's answer, and its effect. A shrinking one has a plan of its own, a growing one is a write of zeros at the
 -- end. Assumes nothing.
 use Prim.Native.Nat.{ℕ, _+_, _*_, _-_, _/_, _^_, _≤_, _<_}
 use mathlib.Core.Path.{_≡_, refl, sym, ap, _∙_, subst, fun-ext}

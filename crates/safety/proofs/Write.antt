@@ -1,4 +1,4 @@
--- What write owes: a write of bytes into a file at an offset is carried out, whole or in part, as the ledger says; so the call has the
+-- What write has to show: a write of bytes into a file at an offset is carried out, whole or in part, as the ledger says; so the call has the
 -- ledger's answer and its effect. Assumes nothing.
 use Prim.Native.Nat.{ℕ, _*_, _/_, _^_, _≤_, _<_}
 use mathlib.Core.Path.{_≡_, refl, sym, ap, ap₂, _∙_, subst}

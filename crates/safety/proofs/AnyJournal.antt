@@ -4,12 +4,12 @@ use Prim.Native.Nat.{ℕ, zero, suc, _+_, _*_, _/_, _%_, _≤_, _<_}
 use mathlib.Core.Path.{_≡_, refl, sym, ap, ap₂, _∙_, subst}
 use mathlib.Core.Logic.{_≢_, _⊎_, inl, inr, ⊎-elim, _↔_}
 use mathlib.Core.Bool.{Bool, true, false, cond, not, _&&_, _||_, true≢false, false≢true}
-use mathlib.Core.List.{List, [], _∷_, _++_, append-nil}
+use mathlib.Core.List.{List, [], _∷_, _++_}
 use native.Mathlib.Omega.{arith}
 use native.Mathlib.Decide.{decLt}
 use native.Mathlib.Nat.{not-suc-le-zero, zero-add}
 use lib.Dec.{eqb, leb, ltb}
-use lib.ListN.{length, getD}
+use lib.ListN.{length}
 use borrow.Author.Tests.{eqb-true, eqb-false, eq-eqb, ne-eqb, leb-true, ltb-true, ltb-false, le-ltb}
 use Rattle.model.specs.declared.Geometry.{Geometry}
 use Rattle.model.specs.declared.Place.{Place}
@@ -26,19 +26,20 @@ use Rattle.model.specs.Refusals.{verdictOf, given, isDone, done, refusal, image
 use Rattle.model.specs.Summary.{stateEntries, summaryAnswer, summaryOn, noSummary}
 use Rattle.model.specs.WriteList.{Record, Group, recordSize, superblockGroup, sectorWrite, stored, closed, listLength}
 use Rattle.model.specs.Recovery.{isData, isMetadata, goodEntry, replayedSector, replayed, badJournal, recoveryGroups, recoveryVerdict, recoveryListed, recoveryAnswer}
-use Rattle.model.specs.Cut.{Cut, kept, landedOf, landed}
+use Rattle.model.specs.Cut.{Cut, landedOf, landed}
 use Rattle.laws.proofs.Booleans.{and-left, and-right, and-yes, or-left, range-yes}
-use Rattle.laws.proofs.Disk.{length-view, same-view}
+use Rattle.laws.proofs.Disk.{length-view}
 use Rattle.laws.proofs.Search.{every-yes, every-at, some-no, some-ext, first-ext, first-none, none-at, flat-ext}
 use Rattle.laws.proofs.Seeking.{first-there, some-first}
 use Rattle.laws.proofs.Refusals.{image-passed}
 use Rattle.safety.specs.Room.{geometryOn}
 use Rattle.safety.specs.AnyJournal.{InMetadata, GoodEntries, recoveryNumber, recoveredBy, Replayed, CutRecoveries, none, oneMore, AnyJournal}
 use Rattle.safety.proofs.Searches.{place-found, not-no, not-yes}
-use Rattle.safety.proofs.Apply.{over, apply, hits, over-append, over-here, over-miss, over-skip, over-none, apply-append, apply-agree, apply-miss, All, all-append, all-map, all-kept}
-use Rattle.safety.proofs.Apply.{all-miss, kept-miss, kept-one, InImage, stored-view, stored-closed, length-stored}
+use Rattle.safety.proofs.Apply.{over, apply, hits, over-append, over-here, over-miss, over-skip, over-none, apply-append, All, all-append, all-map}
+use Rattle.safety.proofs.Apply.{all-miss, InImage, stored-view, stored-closed, length-stored}
 use Rattle.safety.proofs.Superblock.{length-withJournalLength, journalLength-with, state-clean, Volume, volume-with, volume-long, volume-bounds, volume-accepted, Recovers}
 use Rattle.safety.proofs.Superblock.{recovers-by, recovers-clean, when-done, when-none, byRoom, answers}
+use Rattle.safety.proofs.Landing.{Begun, Ended, both-end, cut-begun}
 use Rattle.safety.proofs.Bounds.{bounded-by}
 use Rattle.safety.proofs.Plan.{metadata-lt, metadata-no, metadata-directory, metadata-table}
 use Rattle.safety.proofs.Changing.{earlier-done, later-done}
@@ -53,46 +54,6 @@ few-sectors g h =
     let most = leb 255 (g .files) && leb (g .files) 1024 && leb 2 (g .extents) && leb (g .extents) 65535 in
     let b = bounded-by (record { files = g .files; extents = g .extents; «extent_sectors» = 128 }) (and-yes most (leb 128 128) (and-left most (leb 128 (extentSectors g)) h) refl) (omega arith) in
     (b .files-high, b .extents-high)
-
--- ---- a group that lands in parts, and the record behind it
-
--- an image that differs from img only where the group writes
-record Begun (img : List ℕ) (C : Group) (out : List ℕ) : Type 0 where
-  long : length out ≡ length img
-  shows : (j : ℕ) → hits C j ≡ false → view out j ≡ view img j
-
-module _ (img : List ℕ) (C : Group) (last : Record) (inC : All (InImage (length img)) C) (inLast : InImage (length img) last) where
-  abbrev ending : List ℕ
-  ending = stored (C ++ (last ∷ [])) img
-
-  all-in : All (InImage (length img)) (C ++ (last ∷ []))
-  all-in = all-append (InImage (length img)) C (last ∷ []) inC (inLast, tt)
-
-  ends : (out : List ℕ) → Begun img C out → stored (C ++ (last ∷ [])) out ≡ ending
-  ends out b =
-      same-view _ _ (length-stored (C ++ (last ∷ [])) out ∙ b .long ∙ sym (length-stored (C ++ (last ∷ [])) img))
-      (stored-view (C ++ (last ∷ [])) out (length img) (b .long) all-in ∙ apply-append C (last ∷ []) (view out)
-      ∙ ap (apply (last ∷ [])) (apply-agree C (view out) (view img) (b .shows))
-      ∙ sym (stored-view (C ++ (last ∷ [])) img (length img) refl all-in ∙ apply-append C (last ∷ []) (view img)))
-
-  part : (ws : Group) (out : List ℕ) → All (InImage (length img)) ws → ((j : ℕ) → hits C j ≡ false → hits ws j ≡ false) → Begun img C out → Begun img C (stored ws out)
-  part ws out h miss b = record {
-    long = length-stored ws out ∙ b .long;
-    shows = λ j e. ap (λ (d : Disk). d j) (stored-view ws out (length img) (b .long) h) ∙ apply-miss ws (view out) j (miss j e) ∙ b .shows j e;
-  }
-
-  -- cut anywhere it is begun still, or at its end
-  cut-begun : (k : ℕ) (m : List Bool) (out : List ℕ) → Begun img C out
-      → Begun img C (stored (landedOf k m (C ∷ (last ∷ []) ∷ [])) out) ⊎ (stored (landedOf k m (C ∷ (last ∷ []) ∷ [])) out ≡ ending)
-  unfolding landedOf
-  cut-begun zero m out b = inl (part (kept m C) out (all-kept (InImage (length img)) m C inC) (λ j e. kept-miss m C j e) b)
-  cut-begun (suc zero) m out b =
-      subst (λ (x : Group). Begun img C (stored (C ++ x) out) ⊎ (stored (C ++ x) out ≡ ending)) (sym (kept-one m last)) (go (getD m 0 false))
-    where
-      go : (t : Bool) → Begun img C (stored (C ++ cond t (last ∷ []) []) out) ⊎ (stored (C ++ cond t (last ∷ []) []) out ≡ ending)
-      go true = inr (ends out b)
-      go false = inl (rw append-nil (part C out inC (λ j e. e) b))
-  cut-begun (suc (suc k)) m out b = inr (ends out b)
 
 -- ---- lists made sector by sector
 
@@ -319,7 +280,7 @@ module _ (img : List ℕ) (n room : ℕ) (st : stateOn (view img) ≡ Waiting n)
   last-in = in-image 0 _ (omega arith) (length-withJournalLength 0 (view img superblockAt) ∙ length-view img superblockAt)
 
   -- recovery of an image that group C began to change has the same groups to list
-  begun-recovers : (out : List ℕ) → Begun img C out → Recovers (length out) (view out) (C ∷ (last ∷ []) ∷ [])
+  begun-recovers : (out : List ℕ) → Begun (length img) C (view img) out → Recovers (length out) (view out) (C ∷ (last ∷ []) ∷ [])
   begun-recovers out b =
       let z = zero-stays g d n good few (view out) (b .shows) in
       subst (Recovers (length out) (view out))
@@ -328,7 +289,7 @@ module _ (img : List ℕ) (n room : ℕ) (st : stateOn (view img) ≡ Waiting n)
       (subst (λ (l : ℕ). Volume g l (view out superblockAt)) (sym (b .long)) (subst (Volume g (length img)) (sym z) volume))
       (ap (λ (s : List ℕ). stateOf (journalLength s)) z ∙ st))
 
-  first-begun : Begun img C img
+  first-begun : Begun (length img) C (view img) img
   first-begun = record { long = refl; shows = λ j e. refl }
 
   whole-is : recoveredBy room img ≡ stored (C ++ (last ∷ [])) img
@@ -336,14 +297,18 @@ module _ (img : List ℕ) (n room : ℕ) (st : stateOn (view img) ≡ Waiting n)
       ap (λ (gs : List Group). stored (closed gs) img) (when-done (length img) (view img) _ (begun-recovers img first-begun) room accepted)
       ∙ stored-closed (C ∷ (last ∷ []) ∷ []) img
 
+  ended : Ended (length img) C last (view img) (stored (C ++ (last ∷ [])) img)
+  ended = record {
+    long = length-stored (C ++ (last ∷ [])) img;
+    shows = stored-view (C ++ (last ∷ [])) img (length img) refl (all-append (InImage (length img)) C (last ∷ []) C-in (last-in, tt)) ∙ apply-append C (last ∷ []) (view img);
+  }
+
   -- ---- what it leaves
 
   whole-shows : (j : ℕ) → view (recoveredBy room img) j ≡ over (last ∷ []) j (over C j (view img j))
   unfolding apply
   whole-shows j =
-      ap (λ (x : List ℕ). view x j) whole-is
-      ∙ ap (λ (e : Disk). e j) (stored-view (C ++ (last ∷ [])) img (length img) refl (all-append (InImage (length img)) C (last ∷ []) C-in (last-in, tt)))
-      ∙ over-append C (last ∷ []) j (view img j)
+      ap (λ (x : List ℕ). view x j) whole-is ∙ ap (λ (e : Disk). e j) (ended .shows)
 
   not-last : (j : ℕ) → j ≢ superblockAt → view (recoveredBy room img) j ≡ over C j (view img j)
   not-last j ne = whole-shows j ∙ over-skip last [] j _ ne ∙ over-none j _
@@ -382,7 +347,7 @@ module _ (img : List ℕ) (n room : ℕ) (st : stateOn (view img) ≡ Waiting n)
   -- ---- cut as often as one likes
 
   abbrev Midway : List ℕ → Type 0
-  Midway out = Begun img C out ⊎ (out ≡ recoveredBy room img)
+  Midway out = Begun (length img) C (view img) out ⊎ (out ≡ recoveredBy room img)
 
   clean-recovers : (out : List ℕ) → out ≡ recoveredBy room img → Recovers (length out) (view out) []
   clean-recovers out e = subst (λ (x : List ℕ). Recovers (length x) (view x) []) (sym e) (recovers-clean g _ _ whole-volume whole-clean)
@@ -394,7 +359,7 @@ module _ (img : List ℕ) (n room : ℕ) (st : stateOn (view img) ≡ Waiting n)
       go : (t : Bool) → Midway (stored (landed x (cond t (recoveryGroups (view out)) [])) out)
       go true =
           subst (λ (gs : List Group). Midway (stored (landed x gs) out)) (sym (begun-recovers out b .groups))
-          (⊎-elim inl (λ e. inr (e ∙ sym whole-is)) (cut-begun img C last C-in last-in (x .before) (x .mask) out b))
+          (⊎-elim inl (λ e. inr (e ∙ sym whole-is)) (cut-begun (length img) C last d C-in last-in _ ended (x .before) (x .mask) out b))
       go false = inl b
   one-cut out r x (inr e) = subst (λ (gs : List Group). Midway (stored (landed x gs) out)) (sym (when-none (length out) (view out) (clean-recovers out e) r)) (inr e)
 
@@ -417,7 +382,7 @@ module _ (img : List ℕ) (n room : ℕ) (st : stateOn (view img) ≡ Waiting n)
     unfolding recoveryAnswer stored
     ends-alike (inl b) r h =
         ap (λ (gs : List Group). stored (closed gs) out) (when-done (length out) (view out) _ (begun-recovers out b) r (eq-eqb _ 0 h))
-        ∙ stored-closed (C ∷ (last ∷ []) ∷ []) out ∙ ends img C last C-in last-in out b ∙ sym whole-is
+        ∙ stored-closed (C ∷ (last ∷ []) ∷ []) out ∙ both-end (length img) C last d C-in last-in _ ended out b ∙ sym whole-is
     ends-alike (inr e) r h = ap (λ (gs : List Group). stored (closed gs) out) (when-none (length out) (view out) (clean-recovers out e) r) ∙ e
 
   -- the bytes of its list, carried out whole or cut

@@ -2,11 +2,11 @@
 -- one likes; then one completed. Assumes nothing.
 use Prim.Native.Nat.{ℕ, zero, suc, _+_, _*_, _≤_, _<_}
 use mathlib.Core.Path.{_≡_, refl, sym, ap, _∙_, subst}
-use mathlib.Core.Logic.{_≢_}
+use mathlib.Core.Logic.{_≢_, ⊎-elim}
 use mathlib.Core.Bool.{Bool, true, false, cond, true≢false, false≢true}
 use mathlib.Core.List.{List, [], _∷_, _++_, append-nil}
 use native.Mathlib.Omega.{arith}
-use lib.ListN.{length, getD}
+use lib.ListN.{length}
 use Rattle.model.specs.declared.Geometry.{Geometry}
 use Rattle.model.specs.declared.State.the-variants.{Clean}
 use Rattle.model.specs.Geometry.{superblockAt, extentSectors, tableSectors, reserveExtents, journalAt, dataAt, reserveAt, volumeSectors}
@@ -17,11 +17,15 @@ use Rattle.model.specs.Journal.{journalSectors, journalSector}
 use Rattle.model.specs.Refusals.{isDone}
 use Rattle.model.specs.Recovery.{recoveryVerdict, recoveryListed}
 use Rattle.model.specs.Cut.{Cut, kept, landedOf, landed, markedBy, startMark}
-use Rattle.laws.proofs.Disk.{length-view, same-view}
-use Rattle.safety.proofs.Apply.{over, apply, hits, apply-nil, apply-append, apply-agree, apply-miss, All, all-append, all-tab0, all-at, all-kept, kept-miss, kept-one, joined, stored-append, stored-closed, length-stored, InImage, stored-view}
+use Rattle.laws.proofs.Disk.{length-view}
+use Rattle.safety.proofs.Apply.{over, apply, hits, apply-nil, apply-append, apply-miss, All, all-append, all-tab0, all-at, all-kept, kept-miss, kept-one, joined, stored-append}
+use Rattle.safety.proofs.Apply.{stored-closed, length-stored, InImage, stored-view}
+use Rattle.safety.proofs.Landing.{Begun, Ended, both-end, cut-begun}
 use Rattle.safety.proofs.Journal.{length-entriesIn}
-use Rattle.safety.proofs.Superblock.{length-withJournalLength, journalLength-with, state-clean, Volume, volume-with, volume-long, Recovers, when-done, when-some, when-none, recovers-clean}
-use Rattle.safety.proofs.Plan.{UsableGeometry, WellFormed, Metadata, UsableSector, Whole, metadata-lt, volume-is, A, A-is, copyWrites, journalWrites, copyContents, journalContents, journal-few, A-zero, mark, clear, committed, final, Pending, recovers-pending}
+use Rattle.safety.proofs.Superblock.{length-withJournalLength, journalLength-with, state-clean, Volume, volume-with, volume-long, Recovers, when-done, when-some, when-none}
+use Rattle.safety.proofs.Superblock.{recovers-clean}
+use Rattle.safety.proofs.Plan.{UsableGeometry, WellFormed, Metadata, UsableSector, Whole, metadata-lt, volume-is, A, A-is, copyWrites, journalWrites, copyContents, journalContents}
+use Rattle.safety.proofs.Plan.{journal-few, A-zero, mark, clear, committed, final, Pending, recovers-pending}
 
 -- an image on which a plan is carried out: its superblock says clean
 pub record Ready (g : Geometry) (img : List ℕ) : Type 0 where
@@ -46,9 +50,8 @@ module _ (g : Geometry) (img0 : List ℕ) (p : Plan) where
   uncut = stored (closed (groupsOf g (view img0) p)) img0
 
   -- an image that is the committed one but for the targets
-  pub record Waits (img : List ℕ) : Type 0 where
-    pub long : length img ≡ length img0
-    pub shows : Pending g (view img0) p (view img)
+  abbrev pub Waits : List ℕ → Type 0
+  Waits img = Begun (length img0) (p .targets) (committed g (view img0) p) img
 
   pub data Interrupted (img : List ℕ) : Type 0 where
     waits : Waits img → Interrupted img
@@ -112,9 +115,6 @@ module _ (g : Geometry) (img0 : List ℕ) (p : Plan) (geo : UsableGeometry g) (o
   part-in-image zero m = all-kept (InImage n) m (A g p) A-in-image
   part-in-image (suc k) m = A-in-image
 
-  replay-in-image : All (InImage n) (joined (C ∷ (cl ∷ []) ∷ []))
-  replay-in-image = all-append (InImage n) C _ C-in-image (super-in-image 0, tt)
-
   -- ---- disks
 
   behind : (x : Group) → apply (A g p ++ ((mk ∷ []) ++ x)) d0 ≡ apply x (committed g d0 p)
@@ -131,46 +131,26 @@ module _ (g : Geometry) (img0 : List ℕ) (p : Plan) (geo : UsableGeometry g) (o
   pub length-uncut : length (uncut g img0 p) ≡ n
   length-uncut = length-stored (closed (groups g img0 p)) img0
 
-  finish : (d : Disk) → Pending g d0 p d → apply (C ++ (cl ∷ [])) d ≡ final g d0 p
-  unfolding final Pending
-  finish d h = apply-append C (cl ∷ []) d ∙ ap (apply (cl ∷ [])) (apply-agree C d (committed g d0 p) h)
+  ended : Ended n C cl (committed g d0 p) (uncut g img0 p)
+  unfolding final
+  ended = record { long = length-uncut; shows = uncut-shows }
 
-  still : (m : List Bool) (d : Disk) → Pending g d0 p d → Pending g d0 p (apply (kept m C) d)
-  unfolding Pending
-  still m d h j e = apply-miss (kept m C) d j (kept-miss m C j e) ∙ h j e
-
-  still-all : (d : Disk) → Pending g d0 p d → Pending g d0 p (apply C d)
-  unfolding Pending
-  still-all d h j e = apply-miss C d j e ∙ h j e
-
-  begun : Pending g d0 p (committed g d0 p)
-  unfolding Pending
-  begun j e = refl
-
-  -- ---- images: what lands on one that waits, or on the first
-
-  shows : (ws : Group) (img : List ℕ) → length img ≡ n → All (InImage n) ws → (d : Disk) → apply ws (view img) ≡ d → Pending g d0 p d → Waits g img0 p (stored ws img)
-  shows ws img e l d f h =
-      record { long = length-stored ws img ∙ e; shows = subst (Pending g d0 p) (sym (stored-view ws img n e l ∙ f)) h }
-
-  ends : (ws : Group) (img : List ℕ) → length img ≡ n → All (InImage n) ws → apply ws (view img) ≡ final g d0 p → stored ws img ≡ uncut g img0 p
-  ends ws img e l f =
-      same-view (stored ws img) (uncut g img0 p) (length-stored ws img ∙ e ∙ sym length-uncut) (stored-view ws img n e l ∙ f ∙ sym uncut-shows)
+  -- group A and the start mark landed
+  marked : Waits g img0 p (stored (A g p ++ (mk ∷ [])) img0)
+  marked =
+      let in-all = all-append (InImage n) (A g p) (mk ∷ []) A-in-image (super-in-image (length C), tt) in
+      record {
+        long = length-stored (A g p ++ (mk ∷ [])) img0;
+        shows = λ j e. ap (λ (d : Disk). d j) (stored-view (A g p ++ (mk ∷ [])) img0 n refl in-all ∙ behind [] ∙ apply-nil (committed g d0 p));
+      }
 
   -- a completed recovery of an image that waits
   pub completes : (img : List ℕ) → Waits g img0 p img → stored (joined (C ∷ (cl ∷ []) ∷ [])) img ≡ uncut g img0 p
-  completes img w = ends (C ++ (cl ∷ [])) img (w .long) replay-in-image (finish (view img) (w .shows))
+  completes img w = both-end n C cl (committed g d0 p) C-in-image (super-in-image 0) (uncut g img0 p) ended img w
 
   -- a cut one
   pub recovery-cuts : (k : ℕ) (m : List Bool) (img : List ℕ) → Waits g img0 p img → Interrupted g img0 p (stored (landedOf k m (C ∷ (cl ∷ []) ∷ [])) img)
-  unfolding landedOf
-  recovery-cuts zero m img w = waits (shows (kept m C) img (w .long) (all-kept (InImage n) m C C-in-image) _ refl (still m (view img) (w .shows)))
-  recovery-cuts (suc zero) m img w = subst (λ (x : Group). Interrupted g img0 p (stored (C ++ x) img)) (sym (kept-one m cl)) (by (getD m 0 false))
-    where
-      by : (b : Bool) → Interrupted g img0 p (stored (C ++ cond b (cl ∷ []) []) img)
-      by true = finished (completes img w)
-      by false = waits (rw append-nil (shows C img (w .long) C-in-image _ refl (still-all (view img) (w .shows))))
-  recovery-cuts (suc (suc k)) m img w = finished (completes img w)
+  recovery-cuts k m img w = ⊎-elim waits finished (cut-begun n C cl (committed g d0 p) C-in-image (super-in-image 0) (uncut g img0 p) ended k m img w)
 
   -- the call's own cut, the start mark landed
   pub cut-marked : (k : ℕ) (m : List Bool) → markedBy k m ≡ true → Interrupted g img0 p (stored (landedOf k m (groups g img0 p)) img0)
@@ -178,15 +158,12 @@ module _ (g : Geometry) (img0 : List ℕ) (p : Plan) (geo : UsableGeometry g) (o
   cut-marked zero m e = absurd (false≢true e)
   cut-marked (suc zero) m e =
       let f : kept m (mk ∷ []) ≡ mk ∷ [] = kept-one m mk ∙ ap (λ (b : Bool). cond b (mk ∷ []) []) e in
-      waits (rw f
-      (shows (A g p ++ (mk ∷ [])) img0 refl (all-append (InImage n) (A g p) (mk ∷ []) A-in-image (super-in-image (length C), tt)) _
-      (behind [] ∙ apply-nil (committed g d0 p)) begun))
+      waits (rw f marked)
   cut-marked (suc (suc k)) m e =
-      let w : Waits g img0 p (stored (A g p ++ (mk ∷ [])) img0) =
-      shows (A g p ++ (mk ∷ [])) img0 refl (all-append (InImage n) (A g p) (mk ∷ []) A-in-image (super-in-image (length C), tt)) _
-      (behind [] ∙ apply-nil (committed g d0 p)) begun in
-      subst (Interrupted g img0 p) (sym (stored-append (A g p) ((mk ∷ []) ++ landedOf k m (C ∷ (cl ∷ []) ∷ [])) img0 ∙ stored-append (mk ∷ []) (landedOf k m (C ∷ (cl ∷ []) ∷ [])) (stored (A g p) img0) ∙ ap (stored (landedOf k m (C ∷ (cl ∷ []) ∷ []))) (sym (stored-append (A g p) (mk ∷ []) img0))))
-      (recovery-cuts k m (stored (A g p ++ (mk ∷ [])) img0) w)
+      let rest = landedOf k m (C ∷ (cl ∷ []) ∷ []) in
+      subst (Interrupted g img0 p)
+      (sym (stored-append (A g p) ((mk ∷ []) ++ rest) img0 ∙ stored-append (mk ∷ []) rest (stored (A g p) img0)
+      ∙ ap (stored rest) (sym (stored-append (A g p) (mk ∷ []) img0)))) (recovery-cuts k m (stored (A g p ++ (mk ∷ [])) img0) marked)
 
   -- and not landed: nothing but a part of group A
   pub cut-unmarked : (k : ℕ) (m : List Bool) → markedBy k m ≡ false → landedOf k m (groups g img0 p) ≡ partOf k m (A g p)
@@ -225,6 +202,7 @@ module _ (g : Geometry) (img0 : List ℕ) (p : Plan) (geo : UsableGeometry g) (o
   }
 
   pub waits-recovers : (img : List ℕ) → Waits g img0 p img → Recovers (length img) (view img) (C ∷ (cl ∷ []) ∷ [])
+  unfolding Pending
   waits-recovers img w =
       subst (λ (l : ℕ). Recovers l (view img) (C ∷ (cl ∷ []) ∷ [])) (sym (w .long))
       (recovers-pending g p geo ok d0 (view img) (w .shows) n (ready .volume) (length-view img0 superblockAt))

@@ -20,7 +20,7 @@ use Rattle.model.specs.Bytes.{beAt}
 use Rattle.model.specs.Search.{first, some, every, count, flat, isAt, indexOf}
 use Rattle.model.specs.Geometry.{superblockAt, extentSectors, journalAt, tableAt, dataAt, volumeSectors, inBounds}
 use Rattle.model.specs.Disk.{Disk, view}
-use Rattle.model.specs.Superblock.{stateOn, stateOf, journalLength, withJournalLength}
+use Rattle.model.specs.Superblock.{geometryIn, stateOn, stateOf, journalLength, withJournalLength}
 use Rattle.model.specs.Journal.{sourceAt, targetAt}
 use Rattle.model.specs.Refusals.{verdictOf, given, isDone, done, refusal, imageVerdict, stateNumber}
 use Rattle.model.specs.Summary.{stateEntries, summaryAnswer, summaryOn, noSummary}
@@ -33,7 +33,7 @@ use Rattle.laws.proofs.Search.{every-yes, every-at, some-no, some-ext, first-ex
 use Rattle.laws.proofs.Seeking.{first-there, some-first}
 use Rattle.laws.proofs.Refusals.{image-passed}
 use Rattle.safety.specs.Room.{geometryOn}
-use Rattle.safety.specs.AnyJournal.{InMetadata, GoodEntries, recoveryNumber, recoveredBy, Replayed, CutRecoveries, none, oneMore, AnyJournal}
+use Rattle.safety.specs.AnyJournal.{InMetadata, GoodEntries, recoveryNumber, recoveredBy, Replayed, StillWaits, CutRecoveries, none, oneMore, AnyJournal}
 use Rattle.safety.proofs.Searches.{place-found, not-no, not-yes}
 use Rattle.safety.proofs.Apply.{over, apply, hits, over-append, over-here, over-miss, over-skip, over-none, apply-append, All, all-append, all-map}
 use Rattle.safety.proofs.Apply.{all-miss, InImage, stored-view, stored-closed, length-stored}
@@ -368,6 +368,17 @@ module _ (img : List ℕ) (n room : ℕ) (st : stateOn (view img) ≡ Waiting n)
   midway (oneMore {out} c r x) = one-cut out r x (midway c)
 
   module _ (out : List ℕ) where
+    still : Midway out → StillWaits n img out ⊎ (out ≡ recoveredBy room img)
+    still (inl b) =
+        let z = zero-stays g d n good few (view out) (b .shows) in
+        inl (record {
+          state = ap (λ (s : List ℕ). stateOf (journalLength s)) z ∙ st;
+          geometry = ap geometryIn z;
+          sources = source-same g d n good few (view out) (b .shows);
+          targets = target-same g d n good few (view out) (b .shows);
+        })
+    still (inr e) = inr e
+
     answers-again : Midway out → recoveryNumber room out ≡ 0
     answers-again (inl b) =
         answers (length out) (view out) _ (begun-recovers out b) room
@@ -474,4 +485,9 @@ waiting-answers img n room st = (there, back)
 -- RECOVERY OF ANY GOOD JOURNAL
 pub any-journal : AnyJournal
 unfolding AnyJournal
-any-journal img n room st ok = (replays img n room st ok, λ cut c. (answers-again img n room st ok cut (midway img n room st ok c), ends-alike img n room st ok cut (midway img n room st ok c)))
+any-journal img n room st ok = (
+  replays img n room st ok,
+  λ cut c.
+      let w = midway img n room st ok c in
+      (still img n room st ok cut w, answers-again img n room st ok cut w, ends-alike img n room st ok cut w),
+)

@@ -177,7 +177,7 @@ kept-miss (b ∷ m) (w ∷ ws) j h = keep-head (eqb j (w .sector)) b w ws (kept 
 
 -- ---- consecutive sectors, written in order
 
-tab-next {ℓ} : {A : Type ℓ} (f : ℕ → A) (n : ℕ) → tab f 0 (suc n) ≡ tab f 0 n ++ (f n ∷ [])
+pub tab-next {ℓ} : {A : Type ℓ} (f : ℕ → A) (n : ℕ) → tab f 0 (suc n) ≡ tab f 0 n ++ (f n ∷ [])
 unfolding tab
 tab-next f n = rw zero-add
 

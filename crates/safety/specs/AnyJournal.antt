@@ -50,11 +50,20 @@ pub data CutRecoveries (img : List ℕ) : List ℕ → Type 0 where
   oneMore : {out : List ℕ} → CutRecoveries img out → (room : ℕ) (x : Cut)
       → CutRecoveries img (stored (landed x (recoveryListed (length out) (view out) room)) out)
 
--- on a volume that waits with n entries, where recovery answers 0: carried out whole, it replays them; cut as often as one likes, it
--- answers 0 again of a list of that length, and whenever it answers 0, carried out whole, it gives the same image
+-- a volume that waits with the same n entries
+pub record StillWaits (n : ℕ) (img cut : List ℕ) : Type 0 where
+  pub state : stateOn (view cut) ≡ Waiting n
+  pub geometry : geometryOn cut ≡ geometryOn img
+  pub sources : (k : ℕ) → k < n → sourceAt (geometryOn img) (view cut) k ≡ sourceAt (geometryOn img) (view img) k
+  pub targets : (k : ℕ) → k < n → targetAt (geometryOn img) (view cut) k ≡ targetAt (geometryOn img) (view img) k
+
+-- on a volume that waits with n entries, where recovery answers 0: carried out whole, it replays them; cut as often as one likes, the
+-- volume still waits with the same entries, or all of it landed; recovery answers 0 again of a list of that length; and whenever it
+-- answers 0, carried out whole, it gives the same image
 unfoldable pub AnyJournal : Type 0
 AnyJournal =
     (img : List ℕ) (n room : ℕ) → stateOn (view img) ≡ Waiting n → recoveryNumber room img ≡ 0
     → Replayed n img (recoveredBy room img)
     × ((cut : List ℕ) → CutRecoveries img cut
-    → (recoveryNumber room cut ≡ 0) × ((r : ℕ) → recoveryNumber r cut ≡ 0 → recoveredBy r cut ≡ recoveredBy room img))
+    → (StillWaits n img cut ⊎ (cut ≡ recoveredBy room img)) × (recoveryNumber room cut ≡ 0)
+    × ((r : ℕ) → recoveryNumber r cut ≡ 0 → recoveredBy r cut ≡ recoveredBy room img))

@@ -374,8 +374,8 @@ module _ (img : List ℕ) (n room : ℕ) (st : stateOn (view img) ≡ Waiting n)
         inl (record {
           state = ap (λ (s : List ℕ). stateOf (journalLength s)) z ∙ st;
           geometry = ap geometryIn z;
-          sources = source-same g d n good few (view out) (b .shows);
-          targets = target-same g d n good few (view out) (b .shows);
+          sources = λ k l. ap (λ (x : Geometry). sourceAt x (view out) k) (ap geometryIn z) ∙ source-same g d n good few (view out) (b .shows) k l;
+          targets = λ k l. ap (λ (x : Geometry). targetAt x (view out) k) (ap geometryIn z) ∙ target-same g d n good few (view out) (b .shows) k l;
         })
     still (inr e) = inr e
 

@@ -17,16 +17,25 @@ use Rattle.model.specs.Recovery.{recoveryListed, recoveryAnswer}
 use Rattle.model.specs.Cut.{Cut, landed}
 use Rattle.safety.specs.Room.{geometryOn}
 
--- in root, directory or table
+-- the source and the target of entry k of an image's journal
+abbrev pub sourceOn : List ℕ → ℕ → SectorNumber
+sourceOn img k = sourceAt (geometryOn img) (view img) k
+
+abbrev pub targetOn : List ℕ → ℕ → SectorNumber
+targetOn img k = targetAt (geometryOn img) (view img) k
+
+-- in the data area; in root, directory or table
+abbrev pub InData : Geometry → SectorNumber → Type 0
+InData g s = (dataAt g ≤ s) × (s < volumeSectors g)
+
 abbrev pub InMetadata : Geometry → SectorNumber → Type 0
 InMetadata g t = ((rootAt ≤ t) × (t < journalAt g)) ⊎ ((tableAt g ≤ t) × (t < dataAt g))
 
 -- n entries of a journal that recovery takes
 pub record GoodEntries (n : ℕ) (img : List ℕ) : Type 0 where
-  pub sources : (k : ℕ) → k < n
-      → (dataAt (geometryOn img) ≤ sourceAt (geometryOn img) (view img) k) × (sourceAt (geometryOn img) (view img) k < volumeSectors (geometryOn img))
-  pub targets : (k : ℕ) → k < n → InMetadata (geometryOn img) (targetAt (geometryOn img) (view img) k)
-  pub once : (j k : ℕ) → j < n → k < n → targetAt (geometryOn img) (view img) j ≡ targetAt (geometryOn img) (view img) k → j ≡ k
+  pub sources : (k : ℕ) → k < n → InData (geometryOn img) (sourceOn img k)
+  pub targets : (k : ℕ) → k < n → InMetadata (geometryOn img) (targetOn img k)
+  pub once : (j k : ℕ) → j < n → k < n → targetOn img j ≡ targetOn img k → j ≡ k
 
 -- what a recovery answers of an image, lent a list of this length; and the image on which its list landed whole
 abbrev pub recoveryNumber : ℕ → List ℕ → ℕ
@@ -39,9 +48,9 @@ recoveredBy room img = stored (closed (recoveryListed (length img) (view img) ro
 -- is a clean volume of the same geometry
 pub record Replayed (n : ℕ) (img out : List ℕ) : Type 0 where
   pub same-length : length out ≡ length img
-  pub targets : (k : ℕ) → k < n → view out (targetAt (geometryOn img) (view img) k) ≡ view img (sourceAt (geometryOn img) (view img) k)
+  pub targets : (k : ℕ) → k < n → view out (targetOn img k) ≡ view img (sourceOn img k)
   pub superblock : view out superblockAt ≡ withJournalLength 0 (view img superblockAt)
-  pub others : (j : ℕ) → j ≢ superblockAt → ((k : ℕ) → k < n → targetAt (geometryOn img) (view img) k ≢ j) → view out j ≡ view img j
+  pub others : (j : ℕ) → j ≢ superblockAt → ((k : ℕ) → k < n → targetOn img k ≢ j) → view out j ≡ view img j
   pub clean : summaryAnswer (length out) (view out) ≡ record { number = 0; summary = record { geometry = geometryOn img; state = Clean } }
 
 -- recoveries one after the other, each with a list of any length and cut anywhere
@@ -54,8 +63,8 @@ pub data CutRecoveries (img : List ℕ) : List ℕ → Type 0 where
 pub record StillWaits (n : ℕ) (img cut : List ℕ) : Type 0 where
   pub state : stateOn (view cut) ≡ Waiting n
   pub geometry : geometryOn cut ≡ geometryOn img
-  pub sources : (k : ℕ) → k < n → sourceAt (geometryOn img) (view cut) k ≡ sourceAt (geometryOn img) (view img) k
-  pub targets : (k : ℕ) → k < n → targetAt (geometryOn img) (view cut) k ≡ targetAt (geometryOn img) (view img) k
+  pub sources : (k : ℕ) → k < n → sourceOn cut k ≡ sourceOn img k
+  pub targets : (k : ℕ) → k < n → targetOn cut k ≡ targetOn img k
 
 -- on a volume that waits with n entries, where recovery answers 0: carried out whole, it replays them; cut as often as one likes, the
 -- volume still waits with the same entries, or all of it landed; recovery answers 0 again of a list of that length; and whenever it

@@ -19,9 +19,13 @@ IsBarrier list p = recordIn list p .sector ≡ barrierNumber
 abbrev pub IsWrite : List ℕ → ℕ → Type 0
 IsWrite list p = recordIn list p .sector ≢ barrierNumber
 
+-- not "image empty or not whole sectors"
+abbrev pub WholeSectors : List ℕ → Type 0
+WholeSectors img = (0 < length img) × (length img % 512 ≡ 0)
+
 -- an image of whole sectors, and whole records for sectors in it, and barriers of zero bytes
 pub record Acceptable (img list : List ℕ) : Type 0 where
-  pub image : (0 < length img) × (length img % 512 ≡ 0)
+  pub image : WholeSectors img
   pub records : length list % recordSize ≡ 0
   pub inside : (p : ℕ) → p < recordsOf list → IsWrite list p → recordIn list p .sector < length img / 512
   pub barriers : (p : ℕ) → p < recordsOf list → IsBarrier list p → (b : ℕ) → b < 512 → getD (recordIn list p .contents) b 0 ≡ 0

@@ -22,8 +22,7 @@ use Rattle.safety.proofs.Apply.{over, apply, hits, apply-nil, apply-app
 use Rattle.safety.proofs.Apply.{stored-closed, length-stored, InImage, stored-view}
 use Rattle.safety.proofs.Landing.{Begun, Ended, both-end, cut-begun}
 use Rattle.safety.proofs.Journal.{length-entriesIn}
-use Rattle.safety.proofs.Superblock.{length-withJournalLength, journalLength-with, state-clean, Volume, volume-with, volume-long, Recovers, when-done, when-some, when-none}
-use Rattle.safety.proofs.Superblock.{recovers-clean}
+use Rattle.safety.proofs.Superblock.{length-withJournalLength, journalLength-with, state-clean, Volume, volume-with, volume-long, Recovers, when-done, when-some, when-none, recovers-clean}
 use Rattle.safety.proofs.Plan.{UsableGeometry, WellFormed, Metadata, UsableSector, Whole, metadata-lt, volume-is, A, A-is, copyWrites, journalWrites, copyContents, journalContents}
 use Rattle.safety.proofs.Plan.{journal-few, A-zero, mark, clear, committed, final, Pending, recovers-pending}
 

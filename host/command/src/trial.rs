@@ -14,10 +14,11 @@ use goofs::image::{Entry, Image, Root};
 use crate::arguments::Arguments;
 use crate::card;
 use crate::changing::{time, NewFile};
-use crate::failure::{of_call, of_card, of_file, Failure};
+use crate::failure::{of_call, of_card, of_file, quoted, Failure};
 use crate::output::{print, save_image};
 use crate::progress::Progress;
-use crate::writing::{put_changes, resize_changes, size, Source};
+use crate::text;
+use crate::writing::{one_write, read_all, resize_changes, size, Source};
 
 /// Groups of up to this many writes are cut in every way.
 const SMALL_GROUP: usize = 8;
@@ -27,58 +28,60 @@ const DRAWN_SUBSETS: usize = 32;
 const RECOVERY_CUTS: usize = 64;
 
 pub fn run(arguments: &Arguments) -> Result<(), Failure> {
-    let places = arguments.places(3, 5)?;
+    let names: &[&str] = match arguments.places_or_more(&["CARD", "CHANGE"])?[1].as_bytes() {
+        b"put" => &["FILE"],
+        b"create" | b"rm" => &["NAME"],
+        b"resize" => &["NAME", "SIZE"],
+        b"write" => &["NAME", "OFFSET", "FILE"],
+        other => {
+            return Err(Failure::Usage(format!(
+                "trial knows put, create, rm, resize and write, not {}",
+                text::word(other)
+            )))
+        }
+    };
+    let places = arguments.places(&[&["CARD", "CHANGE"], names].concat())?;
     let (new_file, time) = (NewFile::options(arguments)?, time(arguments)?);
     let seed = arguments.number("seed", 10, u64::MAX)?.unwrap_or(1);
     let leave = arguments.word("leave");
     let (card, kind, rest) = (&places[0], places[1].as_bytes(), &places[2..]);
-    let counts = match kind {
-        b"put" => 1..=2,
-        b"create" | b"rm" => 1..=1,
-        b"resize" => 2..=2,
-        b"write" => 3..=3,
-        _ => {
-            return Err(Failure::Usage(format!(
-                "trial knows put, create, rm, resize and write, not {}",
-                places[1].to_string_lossy()
-            )))
-        }
-    };
-    if !counts.contains(&rest.len()) {
-        return Err(Failure::Usage(
-            "the change has too few or too many arguments".to_string(),
-        ));
+    if kind != b"put" && arguments.word("as").is_some() {
+        return Err(Failure::Usage("--as is for put".to_string()));
     }
-    let source = match kind {
-        b"put" => Source::read(rest)?,
-        b"write" => Source::named(&rest[0], &rest[2])?,
-        _ => Source::default(),
-    };
     // A trial may be long, so this is found out before it.
     if let Some(file) = leave.filter(|file| fs::symlink_metadata(file).is_ok()) {
         return Err(of_file(file)(io::ErrorKind::AlreadyExists.into()));
     }
 
-    let mut image = card::read(card)?;
-    let name = match kind {
-        b"put" => source.name.as_bytes(),
+    let mut image = card::read(card, arguments.wait()?)?;
+    let sources = match kind {
+        b"put" => Source::all(rest, arguments.word("as"))?,
+        _ => Vec::new(),
+    };
+    let puts = read_all(card, &image, &sources, &new_file, time)?;
+    let contents = match kind {
+        b"write" => one_write(&rest[2])?,
+        _ => Vec::new(),
+    };
+    let name = match &sources[..] {
+        [source] => source.name,
         _ => rest[0].as_bytes(),
     };
     let changes = match kind {
-        b"create" => new_file
-            .change(&image, name, time)
-            .map(|change| vec![change]),
-        b"rm" => Ok(vec![Change::Delete { name, time }]),
-        b"put" => put_changes(&image, &source, &new_file, time),
-        b"resize" => resize_changes(&image, name, size(&rest[1])?, time),
-        _ => Ok(vec![Change::Write {
+        b"create" => {
+            let create = new_file.change(&image, &[], name, time);
+            vec![create.map_err(of_call(card, name, new_file.id))?]
+        }
+        b"rm" => vec![Change::Delete { name, time }],
+        b"put" => puts.iter().flat_map(|put| put.changes(time)).collect(),
+        b"resize" => resize_changes(card, &image, name, size(&rest[1])?, time)?,
+        _ => vec![Change::Write {
             name,
             offset: size(&rest[1])?,
-            data: &source.contents,
+            data: &contents,
             time,
-        }]),
-    }
-    .map_err(of_call(card, name, new_file.id))?;
+        }],
+    };
     // A refusal of any change comes before the first line of the table.
     let mut tried = Progress::new("changes tried", changes.len() as u64);
     image
@@ -121,7 +124,7 @@ pub fn run(arguments: &Arguments) -> Result<(), Failure> {
         _ => Err(Failure::Other(format!(
             "{}: {} ends are neither as before nor as after; the first: {}.\n\
              Next: please report this with the card's image; it should not happen.",
-            card.to_string_lossy(),
+            quoted(card),
             all.different,
             all.first_difference.unwrap_or_default()
         ))),
@@ -161,10 +164,10 @@ fn closing(tally: &Tally) -> String {
 
 fn words(change: &Change) -> String {
     match change {
-        Change::Create { name, .. } => format!("create {}", card::shown(name)),
-        Change::Delete { name, .. } => format!("rm {}", card::shown(name)),
-        Change::Resize { name, size, .. } => format!("resize {} {size}", card::shown(name)),
-        Change::Write { name, offset, .. } => format!("write {} at {offset}", card::shown(name)),
+        Change::Create { name, .. } => format!("create {}", text::word(name)),
+        Change::Delete { name, .. } => format!("rm {}", text::word(name)),
+        Change::Resize { name, size, .. } => format!("resize {} {size}", text::word(name)),
+        Change::Write { name, offset, .. } => format!("write {} at {offset}", text::word(name)),
     }
 }
 

@@ -1,123 +1,219 @@
 //! The commands that write to a file on the volume, put and resize: which changes they come to.
 
 use std::ffi::{OsStr, OsString};
-use std::fs;
-use std::io::{self, Read};
+use std::fs::File;
+use std::io::{self, ErrorKind, Read};
 use std::os::unix::ffi::OsStrExt;
 use std::path::Path;
 
 use goofs::change::Change;
-use goofs::error::Refusal;
+use goofs::error::{Error, Refusal};
 use goofs::image::{Image, LONGEST_TRANSFER};
 
 use crate::arguments::{self, Arguments};
 use crate::card;
 use crate::changing::{apply, time, NewFile};
-use crate::failure::{of_call, of_card, of_file, Failure};
+use crate::failure::{free_extents, no_room, of_call, of_card, of_file, quoted, Failure};
+use crate::text;
 
 /// A size, offset or the like among the places.
 pub fn size(word: &OsStr) -> Result<u64, Failure> {
     arguments::number(word, 10, u64::MAX).map_err(Failure::Usage)
 }
 
-/// A file's bytes and the name that it gets on the card.
-#[derive(Default)]
-pub struct Source {
-    pub name: OsString,
-    pub contents: Vec<u8>,
+/// A file beside the card and the name that it gets there.
+pub struct Source<'s> {
+    file: &'s OsStr,
+    pub name: &'s [u8],
 }
 
-impl Source {
-    /// From the places FILE and, perhaps, NAME.
-    pub fn read(places: &[OsString]) -> Result<Source, Failure> {
-        let file = &places[0];
-        let name = match places.get(1) {
-            Some(name) => name.clone(),
-            None => Path::new(file)
-                .file_name()
-                .filter(|_| file != "-")
-                .ok_or_else(|| Failure::Usage("NAME is needed here".to_string()))?
-                .to_owned(),
-        };
-        Source::named(&name, file)
+impl Source<'_> {
+    /// Of the FILEs, which keep their names, or of one with another name.
+    pub fn all<'s>(
+        files: &'s [OsString],
+        other_name: Option<&'s OsStr>,
+    ) -> Result<Vec<Source<'s>>, Failure> {
+        let usage = |text: String| Err(Failure::Usage(text));
+        if let (Some(_), 2..) = (other_name, files.len()) {
+            return usage(format!(
+                "--as gives one name, and there are {} FILEs",
+                files.len()
+            ));
+        }
+        let mut sources: Vec<Source> = Vec::new();
+        for file in files {
+            let own_name = Path::new(file).file_name().filter(|_| file != "-");
+            let Some(name) = other_name.or(own_name) else {
+                return usage(format!(
+                    "{} has no name for the card; give one with --as NAME",
+                    quoted(file)
+                ));
+            };
+            let name = name.as_bytes();
+            if let Some(same) = sources.iter().find(|source| source.name == name) {
+                return usage(format!(
+                    "{} and {} would have the same name on the card",
+                    quoted(same.file),
+                    quoted(file)
+                ));
+            }
+            sources.push(Source { file, name });
+        }
+        Ok(sources)
     }
 
-    pub fn named(name: &OsStr, file: &OsStr) -> Result<Source, Failure> {
-        Ok(Source {
-            name: name.to_owned(),
-            contents: contents(file)?,
+    /// The file's bytes, but no more than these; none if it has more. `-` is the standard input.
+    fn read(&self, most: u64) -> Result<Option<Vec<u8>>, Failure> {
+        if self.file == "-" {
+            return first_bytes(io::stdin().lock(), most)
+                .map_err(of_file(OsStr::new("standard input")));
+        }
+        let open = || {
+            let file = File::open(self.file)?;
+            match file.metadata()?.len() > most {
+                true => Ok(None),
+                false => first_bytes(file, most),
+            }
+        };
+        open().map_err(|error: io::Error| match error.kind() {
+            ErrorKind::NotFound => Failure::Other(format!(
+                "{}: {error}. Nothing was changed.\nNext: see that the name of this file is right; \
+                 another name on the card is given with --as NAME.",
+                quoted(self.file)
+            )),
+            _ => of_file(self.file)(error),
         })
     }
 }
 
-/// A file's bytes; `-` is the standard input.
-fn contents(file: &OsStr) -> Result<Vec<u8>, Failure> {
-    if file == "-" {
-        let mut contents = Vec::new();
-        io::stdin()
-            .read_to_end(&mut contents)
-            .map_err(of_file(OsStr::new("standard input")))?;
-        return Ok(contents);
-    }
-    fs::read(file).map_err(of_file(file))
+fn first_bytes(source: impl Read, most: u64) -> io::Result<Option<Vec<u8>>> {
+    let mut bytes = Vec::new();
+    source
+        .take(most.saturating_add(1))
+        .read_to_end(&mut bytes)?;
+    Ok((bytes.len() as u64 <= most).then_some(bytes))
 }
 
-/// Creates the file if it isn't there, writes the contents in pieces, and cuts off what is longer.
-pub fn put_changes<'c>(
+/// The bytes of one write. If there are more than a write may have, the volume code refuses them for
+/// their number alone.
+pub fn one_write(file: &OsStr) -> Result<Vec<u8>, Failure> {
+    let contents = Source { file, name: b"" }.read(LONGEST_TRANSFER as u64)?;
+    Ok(contents.unwrap_or_else(|| vec![0; LONGEST_TRANSFER + 1]))
+}
+
+/// A file to be put: what is needed to say which changes that takes.
+pub struct Put<'p> {
+    name: &'p [u8],
+    contents: Vec<u8>,
+    /// The change that creates it, if it isn't there.
+    create: Option<Change<'p>>,
+    old_size: u64,
+}
+
+/// Reads the files, none further than there is room for it on the card.
+pub fn read_all<'p>(
+    card: &OsStr,
     image: &Image,
-    source: &'c Source,
+    sources: &[Source<'p>],
     new_file: &NewFile,
     time: u32,
-) -> Result<Vec<Change<'c>>, Refusal> {
-    let (name, contents) = (source.name.as_bytes(), &source.contents);
-    let mut changes = Vec::new();
-    let old_size = match image.find(name) {
-        Ok(entry) => entry.size,
-        Err(Refusal::NotThere) => {
-            changes.push(new_file.change(image, name, time)?);
-            0
+) -> Result<Vec<Put<'p>>, Failure> {
+    let extent_bytes = image.summary().extent_bytes();
+    let mut free = free_extents(image);
+    let mut new_ids = Vec::new();
+    let mut puts = Vec::new();
+    for source in sources {
+        let name = source.name;
+        let failure = of_call(card, name, new_file.id);
+        let (create, old_size) = match image.find(name) {
+            Ok(_) if new_file.is_given() => return Err(already_there(card, name)),
+            Ok(entry) => (None, entry.size),
+            Err(Refusal::NotThere) => {
+                let create = new_file.change(image, &new_ids, name, time);
+                (Some(create.map_err(failure)?), 0)
+            }
+            Err(refusal) => return Err(failure(refusal)),
+        };
+        if let Some(Change::Create { id, .. }) = create {
+            new_ids.push(id);
         }
-        Err(refusal) => return Err(refusal),
-    };
-    for (i, data) in contents.chunks(LONGEST_TRANSFER).enumerate() {
-        changes.push(Change::Write {
+        let available = free + old_size.div_ceil(extent_bytes);
+        let Some(contents) = source.read(available * extent_bytes)? else {
+            return Err(no_room(card, name, image));
+        };
+        free = available - (contents.len() as u64).div_ceil(extent_bytes);
+        puts.push(Put {
             name,
-            offset: (i * LONGEST_TRANSFER) as u64,
-            data,
-            time,
+            contents,
+            create,
+            old_size,
         });
     }
-    let size = contents.len() as u64;
-    if size < old_size {
-        changes.push(Change::Resize { name, size, time });
+    Ok(puts)
+}
+
+/// Id and mode are set when a file is created, and there is no call that changes them.
+fn already_there(card: &OsStr, name: &[u8]) -> Failure {
+    let (card, name) = (quoted(card), text::word(name));
+    Failure::Other(format!(
+        "{card}: {name} is there already, and --id and --mode are for a new file. Nothing was changed.\n\
+         Next: leave them out to write over the file, or remove it first: goofs rm {card} {name}."
+    ))
+}
+
+impl Put<'_> {
+    /// Creates the file if it isn't there, writes the contents in pieces, and cuts off what is longer.
+    pub fn changes(&self, time: u32) -> Vec<Change<'_>> {
+        let name = self.name;
+        let mut changes = Vec::from_iter(self.create);
+        for (i, data) in self.contents.chunks(LONGEST_TRANSFER).enumerate() {
+            changes.push(Change::Write {
+                name,
+                offset: (i * LONGEST_TRANSFER) as u64,
+                data,
+                time,
+            });
+        }
+        let size = self.contents.len() as u64;
+        if size < self.old_size {
+            changes.push(Change::Resize { name, size, time });
+        }
+        changes
     }
-    Ok(changes)
 }
 
 pub fn put(arguments: &Arguments) -> Result<(), Failure> {
-    let places = arguments.places(2, 3)?;
+    let places = arguments.places_or_more(&["CARD", "FILE"])?;
     let (new_file, time) = (NewFile::options(arguments)?, time(arguments)?);
-    let card = &places[0];
-    let source = Source::read(&places[1..])?;
-    let mut volume = card::volume(card)?;
+    let (card, files) = (&places[0], &places[1..]);
+    if let (Some(id), 2..) = (new_file.id, files.len()) {
+        return Err(Failure::Usage(format!(
+            "--id {id} is for one file, and there are {} FILEs",
+            files.len()
+        )));
+    }
+    let sources = Source::all(files, arguments.word("as"))?;
+    let mut volume = card::volume(card, arguments.wait()?)?;
     let image = volume.image().map_err(of_card(card))?;
-    let failure = of_call(card, source.name.as_bytes(), new_file.id);
-    let changes = put_changes(image, &source, &new_file, time).map_err(failure)?;
-    apply(&mut volume, &changes).map_err(of_call(card, source.name.as_bytes(), new_file.id))
+    let puts = read_all(card, image, &sources, &new_file, time)?;
+    let changes: Vec<Change> = puts.iter().flat_map(|put| put.changes(time)).collect();
+    apply(&mut volume, &changes).map_err(of_card::<Error>(card))
 }
 
 /// One change, or several where the file grows by more than one may.
 pub fn resize_changes<'c>(
+    card: &OsStr,
     image: &Image,
     name: &'c [u8],
     size: u64,
     time: u32,
-) -> Result<Vec<Change<'c>>, Refusal> {
-    let mut reached = image.find(name)?.size;
-    // A size that no file can have is refused before its many steps are counted up.
-    let summary = image.summary();
-    if size > reached && size > summary.usable_extents() * summary.extent_bytes() {
-        return Err(Refusal::NoRoom);
+) -> Result<Vec<Change<'c>>, Failure> {
+    let mut reached = image.find(name).map_err(of_call(card, name, None))?.size;
+    // A size for which there is no room is refused before its many steps are counted up.
+    let extent_bytes = image.summary().extent_bytes();
+    let available = free_extents(image) + reached.div_ceil(extent_bytes);
+    if size > available * extent_bytes {
+        return Err(no_room(card, name, image));
     }
     let mut changes = Vec::new();
     loop {
@@ -134,11 +230,11 @@ pub fn resize_changes<'c>(
 }
 
 pub fn resize(arguments: &Arguments) -> Result<(), Failure> {
-    let places = arguments.places(3, 3)?;
+    let places = arguments.places(&["CARD", "NAME", "SIZE"])?;
     let time = time(arguments)?;
     let (card, name, size) = (&places[0], places[1].as_bytes(), size(&places[2])?);
-    let mut volume = card::volume(card)?;
+    let mut volume = card::volume(card, arguments.wait()?)?;
     let image = volume.image().map_err(of_card(card))?;
-    let changes = resize_changes(image, name, size, time).map_err(of_call(card, name, None))?;
+    let changes = resize_changes(card, image, name, size, time)?;
     apply(&mut volume, &changes).map_err(of_call(card, name, None))
 }

@@ -38,7 +38,7 @@ fn format_makes_an_empty_volume() {
     assert_eq!(good("check", &card, &[]), "sound, 0 files\n");
     let info = good("info", &card, &[]);
     assert!(
-        info.contains("id 1, mode 755, version 0, changed 1000"),
+        info.contains("id 1, mode 755, version 0, changed 1970-01-01 00:16:40 UTC"),
         "{info}"
     );
 
@@ -58,7 +58,7 @@ fn format_makes_an_empty_volume() {
     let info = good("info", &other, &[]);
     assert!(info.contains("files at most    300"), "{info}");
     assert!(
-        info.contains("id 77, mode 700, version 0, changed 9"),
+        info.contains("id 77, mode 700, version 0, changed 1970-01-01 00:00:09 UTC"),
         "{info}"
     );
 }
@@ -108,11 +108,15 @@ fn files_are_removed() {
     good("rm", &card, &["f", "--time", "11"]);
     let ls = good("ls", &card, &[]);
     assert!(ls.ends_with("  g\n") && ls.lines().count() == 1, "{ls}");
-    assert!(good("info", &card, &[]).contains("changed 11"));
+    assert!(good("info", &card, &[]).contains("changed 1970-01-01 00:00:11 UTC"));
 
     let holder = File::open(&card).unwrap();
     holder.lock_shared().unwrap();
-    for (command, rest) in [("rm", &["g"][..]), ("recover", &[]), ("format", &["--yes"])] {
+    for (command, rest) in [
+        ("rm", &["g", "--wait=0"][..]),
+        ("recover", &["--wait=0"]),
+        ("format", &["--yes", "--wait=0"]),
+    ] {
         let err = bad(command, &card, rest, 1);
         assert!(err.contains("another program has it open"), "{err}");
     }

@@ -74,7 +74,7 @@ fn output_that_can_not_be_written() {
         );
     }
     assert_eq!(into(full(), "ls", Path::new("--help"), &[]).status, 1);
-    // After a change it is told that the change is done.
+    // After a change, the error says that the change is done.
     let said = into(full(), "recover", &card, &[]);
     assert!(
         said.status == 1 && said.err.contains("done, but"),
@@ -107,7 +107,7 @@ fn files_that_can_not_be_written_by_get() {
     let card = with_file(&folder);
     // No more than a few blocks of a file can be written. A new one goes away again.
     let new = folder.file("new");
-    let said = with_limit("-f 10", "get", &card, &["f", new.to_str().unwrap()]);
+    let said = with_limit("-f 10", "get", &card, &["f", "--as", new.to_str().unwrap()]);
     assert_eq!(said.status, 1);
     assert!(
         said.err.contains("Nothing was changed on the card"),
@@ -116,34 +116,36 @@ fn files_that_can_not_be_written_by_get() {
     );
     assert!(!new.exists());
     let old = folder.write("old", b"old");
-    let said = with_limit("-f 10", "get", &card, &["f", old.to_str().unwrap()]);
+    let said = with_limit("-f 10", "get", &card, &["f", "--as", old.to_str().unwrap()]);
     assert_eq!(said.status, 1);
-    assert!(
-        said.err.contains("This file is incomplete now"),
-        "{}",
-        said.err
-    );
+    assert_eq!(fs::read(&old).unwrap(), b"old");
+    let mut names: Vec<_> = fs::read_dir(folder.file("."))
+        .unwrap()
+        .map(|entry| entry.unwrap().file_name())
+        .collect();
+    names.sort();
+    assert_eq!(names, ["card", "f", "old"], "nothing else is left");
     // An image that is left is removed again, too.
     let left = folder.file("left");
     let words = ["rm", "f", "--leave", left.to_str().unwrap()];
     let said = with_limit("-f 10", "trial", &card, &words);
     assert_eq!(said.status, 1);
     assert!(!left.exists());
-    let err = bad("get", &card, &["f", "/no/such/folder/f"], 1);
+    let err = bad("get", &card, &["f", "--as=/no/such/folder/f"], 1);
     assert!(
         err.contains("/no/such/folder/f") && err.contains("Next: "),
         "{err}"
     );
-    let err = bad("get", &card, &["f", "/dev/full"], 1);
+    let err = bad("get", &card, &["f", "--as=/dev/full"], 1);
     assert!(err.contains("No space left"), "{err}");
     // A link to a file that isn't there yet.
     let (link, behind) = (folder.file("link"), folder.file("behind"));
     std::os::unix::fs::symlink(&behind, &link).unwrap();
-    good("get", &card, &["f", link.to_str().unwrap()]);
+    good("get", &card, &["f", "--as", link.to_str().unwrap()]);
     assert_eq!(fs::read(&behind).unwrap(), [b'x'; 100_000]);
     // What is no file has nothing to be synced.
-    good("get", &card, &["f", "/dev/null"]);
-    good("get", &card, &["f", old.to_str().unwrap()]);
+    good("get", &card, &["f", "--as=/dev/null"]);
+    good("get", &card, &["f", "--as", old.to_str().unwrap()]);
     assert_eq!(fs::read(&old).unwrap(), [b'x'; 100_000]);
 }
 
@@ -189,8 +191,20 @@ fn errors_say_what_to_do_next() {
         ("recover", &damaged, &[], "refused (6)", "goofs format"),
         ("recover", &bad_journal, &[], "refused (6)", "goofs format"),
         ("rm", &unsound, &["f"], "fault 21", "goofs format '"),
-        ("put", &card, &[source, &long], "477 bytes", "1 to 476"),
-        ("put", &card, &[source, ""], "name is empty", "1 to 476"),
+        (
+            "put",
+            &card,
+            &[source, "--as", &long],
+            "477 bytes",
+            "1 to 476",
+        ),
+        (
+            "put",
+            &card,
+            &[source, "--as="],
+            "name is empty",
+            "1 to 476",
+        ),
         ("put", &card, &[source, "--id=0"], "refused (8)", "--id"),
         ("get", &card, &["g"], "refused (9)", "goofs ls"),
         (
@@ -276,10 +290,10 @@ fn errors_say_what_to_do_next() {
                 said.err
             }
         };
-        let (told, advice) = err.split_once("Next: ").expect("there is an advice");
-        assert!(told.contains(what), "{command} {rest:?}: {err}");
+        let (happened, advice) = err.split_once("Next: ").expect("there is an advice");
+        assert!(happened.contains(what), "{command} {rest:?}: {err}");
         assert!(
-            told.contains("Nothing was changed"),
+            happened.contains("Nothing was changed"),
             "{command} {rest:?}: {err}"
         );
         assert!(advice.contains(next), "{command} {rest:?}: {err}");
@@ -347,7 +361,7 @@ fn options_are_those_of_the_command() {
             "--time is given twice",
         ),
         ("format", &["--yes=no"], "--yes takes no value"),
-        ("rm", &[], "an argument is missing"),
+        ("rm", &[], "NAME is missing"),
     ];
     for (command, rest, what) in words {
         let err = bad(command, &card, rest, 2);
@@ -367,7 +381,7 @@ fn a_put_from_the_standard_input() {
         Command::new(env!("CARGO_BIN_EXE_goofs"))
             .arg("put")
             .arg(&card)
-            .args(["-", "f"])
+            .args(["-", "--as=f"])
             .stdin(Stdio::piped()),
     );
     child
@@ -378,9 +392,9 @@ fn a_put_from_the_standard_input() {
         .unwrap();
     assert!(child.wait().unwrap().success());
     let copy = folder.file("copy");
-    good("get", &card, &["f", copy.to_str().unwrap()]);
+    good("get", &card, &["f", "--as", copy.to_str().unwrap()]);
     assert_eq!(fs::read(copy).unwrap(), [7; 150_000]);
     assert!(File::open(&card).unwrap().try_lock().is_ok());
     let err = bad("put", &card, &["-"], 2);
-    assert!(err.contains("NAME is needed"), "{err}");
+    assert!(err.contains("--as NAME"), "{err}");
 }

@@ -65,8 +65,8 @@ fn all_commands(gib: u64, extent_bytes: u64) {
     let file = file.to_str().unwrap();
     let copy = folder.file("copy");
     for name in ["a", "b"] {
-        good("put", &card, &[file, name]);
-        good("get", &card, &[name, copy.to_str().unwrap()]);
+        good("put", &card, &[file, "--as", name]);
+        good("get", &card, &[name, "--as", copy.to_str().unwrap()]);
         assert!(fs::read(&copy).unwrap() == contents);
     }
     good("resize", &card, &["b", "300000"]);

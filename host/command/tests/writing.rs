@@ -18,7 +18,7 @@ fn pattern(length: usize, first: usize) -> Vec<u8> {
 
 fn put(folder: &Folder, card: &Path, name: &str, contents: &[u8]) {
     let file = folder.write("source", contents);
-    good("put", card, &[file.to_str().unwrap(), name]);
+    good("put", card, &[file.to_str().unwrap(), "--as", name]);
 }
 
 fn get(card: &Path, name: &str) -> Vec<u8> {
@@ -46,7 +46,7 @@ fn files_come_back() {
     assert_eq!(ls.lines().count(), 3, "{ls}");
     good("rm", &card, &["two pieces"]);
     assert_eq!(good("check", &card, &[]), "sound, 2 files\n");
-    assert!(good("info", &card, &[]).contains("extents free     2 (131072 bytes)"));
+    assert!(good("info", &card, &[]).contains("extents free     2 (131072 bytes)\n"));
 }
 
 #[test]
@@ -75,14 +75,14 @@ fn names_are_bytes() {
     let card = formatted(&folder);
     let file = folder.write("source", b"x");
     let name = OsStr::from_bytes(b"\xff\tname");
-    let put = OsStr::new("put");
-    let said = goofs(&[put, card.as_os_str(), file.as_os_str(), name]);
+    let [put, with] = ["put", "--as"].map(OsStr::new);
+    let said = goofs(&[put, card.as_os_str(), file.as_os_str(), with, name]);
     assert_eq!(said.status, 0, "{}", said.err);
-    assert!(good("ls", &card, &[]).ends_with("  \\xff\\x09name\n"));
+    assert!(good("ls", &card, &[]).ends_with("  $'\\377\\011name'\n"));
     let said = goofs(&[OsStr::new("get"), card.as_os_str(), name]);
     assert_eq!(said.out, b"x");
     // After `--` a name may start with dashes.
-    good("put", &card, &["--", file.to_str().unwrap(), "--yes"]);
+    good("put", &card, &["--as=--yes", file.to_str().unwrap()]);
     good("rm", &card, &["--", "--yes"]);
 }
 
@@ -94,12 +94,12 @@ fn refusals_change_nothing() {
     let big = folder.write("big", &pattern(196_609, 1));
     let big = big.to_str().unwrap();
     // The first pieces would fit: the refusal must come before they are written.
-    assert!(bad("put", &card, &[big, "new"], 1).contains("refused (13)"));
-    assert!(bad("put", &card, &[big, "f"], 1).contains("refused (13)"));
-    assert!(bad("put", &card, &[big, &"n".repeat(477)], 1).contains("refused (8)"));
-    assert!(bad("put", &card, &[big, "new", "--id", "0"], 1).contains("refused (8)"));
-    assert!(bad("put", &card, &[big, "new", "--id", "2"], 1).contains("refused (10)"));
-    assert!(bad("put", &card, &["/no/such/file", "new"], 1).contains("/no/such/file"));
+    assert!(bad("put", &card, &[big, "--as=new"], 1).contains("refused (13)"));
+    assert!(bad("put", &card, &[big, "--as=f"], 1).contains("refused (13)"));
+    assert!(bad("put", &card, &[big, "--as", &"n".repeat(477)], 1).contains("refused (8)"));
+    assert!(bad("put", &card, &[big, "--as=new", "--id", "0"], 1).contains("refused (8)"));
+    assert!(bad("put", &card, &[big, "--as=new", "--id", "2"], 1).contains("refused (10)"));
+    assert!(bad("put", &card, &["/no/such/file", "--as=new"], 1).contains("/no/such/file"));
 }
 
 /// The data sectors land, the copies of the entry fail: the change is not done.
@@ -109,7 +109,7 @@ fn a_failing_medium_leaves_a_sound_volume() {
     let card = formatted(&folder);
     put(&folder, &card, "f", &pattern(1_000, 1));
     let file = folder.write("source", &pattern(1_500, 5));
-    let said = on_failing_medium(300, "put", &card, &[file.to_str().unwrap(), "f"]);
+    let said = on_failing_medium(300, "put", &card, &[file.to_str().unwrap(), "--as=f"]);
     assert_eq!(said.status, 1);
     // Three data sectors, one copy, one journal sector, two marks and one target.
     assert!(
@@ -135,7 +135,7 @@ fn trials_of_put_resize_and_write() {
         &["resize", "f", "3"],
         &["resize", "f", "70000"],
         &["write", "f", "1500", file],
-        &["put", file, "g"],
+        &["put", file, "--as=g"],
     ] {
         let [_, cuts, recoveries, before, part, after, different] = numbers_of_trial(&card, change);
         assert!(
@@ -145,6 +145,6 @@ fn trials_of_put_resize_and_write() {
         assert_eq!((part, different), (0, 0), "{change:?}");
     }
     // Bytes in the place of old ones land at once.
-    let over = numbers_of_trial(&card, &["put", file, "f"]);
+    let over = numbers_of_trial(&card, &["put", file, "--as=f"]);
     assert!(over[4] > 0 && over[6] == 0, "{over:?}");
 }

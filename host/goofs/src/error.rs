@@ -84,7 +84,7 @@ impl fmt::Display for Refusal {
             Refusal::AlreadyThere => "the name or the id is already in use",
             Refusal::DirectoryFull => "the directory has no free entry",
             Refusal::PastTheEnd => "the offset is greater than the file's size",
-            Refusal::NoRoom => "one more extent is needed and none is free",
+            Refusal::NoRoom => "more extents are needed than are free",
             Refusal::BufferTooShort => "the lent buffer is too short for the answer",
         })
     }

@@ -147,7 +147,8 @@ writes: groups of up to 8 writes with every subset landed, larger ones after eac
 single write, and with 32 subsets drawn at random. After each cut comes a recovery that is cut in the
 same ways (in 64 of them, drawn, if there are more), and another that is cut at random; then one is
 completed. After that the volume must be sound, and the root and every file as before the change or
-as after it. All files are read again each time, so a trial takes long on a card with many bytes.
+as after it. Compared are the metadata and the sectors that the change writes; nothing else is written
+in a trial, so that it takes no longer on a card with many bytes.
   --seed S      what is drawn at random depends on this number alone; else 1
   --every       cut recoveries in all the ways, also where there are more than 64
   --leave FILE  leave the volume, as it is when the power goes right after the last change's start

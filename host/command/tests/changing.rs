@@ -158,7 +158,7 @@ fn recovery_after_a_cut_by_hand() {
 
 /// The copies of a change stand behind sector 674 of the sample, so its first write fails.
 #[test]
-fn a_failing_medium_is_told() {
+fn a_failing_medium_is_reported() {
     let folder = Folder::new("failing");
     let card = formatted(&folder);
     create(&card, b"f", 2);

@@ -338,6 +338,28 @@ fn a_format_that_would_lose_something() {
     let other = folder.write("other", &bytes);
     assert!(bad("format", &other, &[], 1).contains("other data"));
     good("format", &other, &["--yes"]);
+    // Bytes far behind the metadata are lost as well, and so are those of a part of a sector.
+    for at in [400 * 512, 1_313 * 512 - 1] {
+        let mut bytes = vec![0; 1_313 * 512];
+        bytes[at] = 1;
+        let behind = folder.write("behind", &bytes);
+        let err = bad("format", &behind, &[], 1);
+        assert!(
+            err.contains(&format!("other data, from byte {at}")),
+            "{err}"
+        );
+        good("format", &behind, &["--yes"]);
+    }
+    let mut bytes = vec![0; 700];
+    bytes[699] = 1;
+    let part = folder.write("part", &bytes);
+    assert!(bad("format", &part, &["--sectors=1313"], 1).contains("other data"));
+    // What lies behind the volume is not lost.
+    let mut bytes = vec![0; 2_000 * 512];
+    bytes[1_313 * 512] = 1;
+    let past = folder.write("past", &bytes);
+    good("format", &past, &["--sectors=1313"]);
+    assert_eq!(fs::read(&past).unwrap()[1_313 * 512], 1);
     // Not whole sectors: what was formatted could not be read.
     let odd = folder.write("odd", &[0; 1_313 * 512 + 100]);
     assert!(bad("format", &odd, &[], 1).contains("refused (1)"));
@@ -350,7 +372,7 @@ fn a_format_that_would_lose_something() {
 fn options_are_those_of_the_command() {
     let folder = Folder::new("options");
     let card = formatted(&folder);
-    let words: [(&str, &[&str], &str); 7] = [
+    let words: [(&str, &[&str], &str); 17] = [
         ("ls", &["--long"], "there is no option --long here"),
         ("ls", &["--yes"], "there is no option --yes here"),
         ("rm", &["f", "--id", "3"], "there is no option --id here"),
@@ -361,7 +383,27 @@ fn options_are_those_of_the_command() {
             "--time is given twice",
         ),
         ("format", &["--yes=no"], "--yes takes no value"),
+        // One dash, as other programs take it: not a name, and not passed over.
+        (
+            "format",
+            &["-y"],
+            "no option -y here; if it is a name, give it behind --",
+        ),
+        (
+            "rm",
+            &["-f"],
+            "no option -f here; if it is a name, give it behind --",
+        ),
+        ("put", &["f", "--as", "--time", "5"], "--as needs a value"),
+        ("ls", &["--wait=x"], "--wait: x is not a whole number"),
+        // What is missing, by its name.
         ("rm", &[], "NAME is missing"),
+        ("get", &[], "NAME is missing"),
+        ("put", &[], "FILE is missing"),
+        ("resize", &["f"], "SIZE is missing"),
+        ("trial", &[], "CHANGE is missing"),
+        ("trial", &["rm"], "NAME is missing"),
+        ("trial", &["write", "f"], "OFFSET is missing"),
     ];
     for (command, rest, what) in words {
         let err = bad(command, &card, rest, 2);
@@ -370,6 +412,11 @@ fn options_are_those_of_the_command() {
         assert!(err.contains(&format!("\ngoofs {command} CARD")), "{err}");
     }
     assert_eq!(goofs(&["ls", "--help", "--long"]).status, 2);
+    let said = goofs(&["ls"]);
+    assert!(said.err.contains("CARD is missing"), "{}", said.err);
+    // Behind `--` such a word is a name.
+    let err = bad("rm", &card, &["--", "-f"], 1);
+    assert!(err.contains("the name was -f"), "{err}");
 }
 
 /// The command is fed more than a pipe holds.

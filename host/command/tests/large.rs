@@ -112,6 +112,41 @@ fn all_commands(gib: u64, extent_bytes: u64) {
     assert_eq!(good("check", &card, &[]), "sound, 2 files\n");
 }
 
+/// A card of 4 GiB that one file fills. A trial takes little memory beside the map of the card, and
+/// not the time that reading the file would take.
+#[test]
+fn a_trial_on_a_full_card() {
+    let folder = Folder::new("full-card");
+    let card = folder.file("card");
+    good("format", &card, &["--sectors=8389408", "--time=1"]);
+    let source = folder.write("f", &[1; 3_000]);
+    let source = source.to_str().unwrap();
+    good("put", &card, &[source]);
+    let file = OpenOptions::new().write(true).open(&card).unwrap();
+    let extents: u16 = 65_530;
+    let size = u64::from(extents) * 65_536;
+    file.write_all_at(&size.to_be_bytes(), 2 * 512 + 2).unwrap();
+    let table: Vec<u8> = (0..extents)
+        .flat_map(|offset| [[0, 0], offset.to_be_bytes()].concat())
+        .collect();
+    file.write_all_at(&table, (34 + 255) * 512).unwrap();
+    drop(file);
+    assert_eq!(good("check", &card, &[]), "sound, 1 files\n");
+
+    let smaller = (size - 65_536).to_string();
+    for change in [
+        &["write", "f", "1000", source][..],
+        &["resize", "f", &smaller],
+        &["create", "g"],
+    ] {
+        // The map needs 4,194,704 KiB of addresses.
+        let words = ["trial", card.to_str().unwrap()];
+        let said = with_limit("-v 4700000", words[0], Path::new(words[1]), change);
+        assert_eq!(said.status, 0, "{change:?}: {}", said.err);
+        assert!(said.text().contains("recoveries cut in "), "{change:?}");
+    }
+}
+
 #[test]
 fn a_volume_of_6_gib() {
     all_commands(6, 1 << 17);

@@ -75,8 +75,13 @@ pub fn format(arguments: &Arguments) -> Result<(), Failure> {
     // Only an empty file whose lock is held here goes away again if the format fails: anything else
     // is another program's.
     let is_made_here = is_new && disk.length() == 0;
-    let formatted = format_disk(arguments, card, &mut disk, sectors, &mut request)
-        .and_then(|()| sync_folder(Path::new(card)).map_err(of_file(card)));
+    let formatted =
+        format_disk(arguments, card, &mut disk, sectors, &mut request).and_then(
+            |()| match is_new {
+                true => sync_folder(Path::new(card)).map_err(of_file(card)),
+                false => Ok(()),
+            },
+        );
     if formatted.is_err() && is_made_here {
         // Best effort: the failure is reported anyway.
         let _ = fs::remove_file(card);

@@ -130,27 +130,47 @@ pub fn of_call<'c, E: Into<Error>>(
     }
 }
 
-/// How many extents no file has.
-pub fn free_extents(image: &Image) -> u64 {
-    let usable = image.summary().usable_extents();
-    usable.saturating_sub(image.used_extents())
+/// What a file costs, and how much there is for it.
+#[derive(Clone, Copy)]
+pub struct Space {
+    pub extent_bytes: u64,
+    /// Extents that no file has.
+    pub free: u64,
 }
 
-/// What a file costs, and how much there is for it.
-pub fn room(image: &Image) -> String {
-    format!(
-        "each file takes whole extents of {} bytes; {} free",
-        image.summary().extent_bytes(),
-        free_extents(image)
-    )
+impl Space {
+    pub fn of(image: &Image) -> Space {
+        let summary = image.summary();
+        Space {
+            extent_bytes: summary.extent_bytes(),
+            free: summary
+                .usable_extents()
+                .saturating_sub(image.used_extents()),
+        }
+    }
+
+    /// The extents of a file of this size.
+    pub fn extents(self, size: u64) -> u64 {
+        size.div_ceil(self.extent_bytes)
+    }
+}
+
+impl fmt::Display for Space {
+    fn fmt(&self, f: &mut fmt::Formatter) -> fmt::Result {
+        write!(
+            f,
+            "each file takes whole extents of {} bytes; {} free",
+            self.extent_bytes, self.free
+        )
+    }
 }
 
 /// Makes the failure of a file that needs more extents than there are.
-pub fn no_room(card: &OsStr, name: &[u8], image: &Image) -> Failure {
+pub fn no_room(card: &OsStr, name: &[u8], space: Space) -> Failure {
     Failure::Card {
         card: card.to_owned(),
         error: Refusal::NoRoom.into(),
-        detail: Some(Detail::new(format!("{}: {}", word(name), room(image)))),
+        detail: Some(Detail::new(format!("{}: {space}", word(name)))),
     }
 }
 
@@ -179,9 +199,12 @@ pub fn of_file(file: &OsStr) -> impl Fn(io::Error) -> Failure + '_ {
     }
 }
 
-/// A path as a word for the shell.
+/// A path as a word for the shell, which no command takes for an option.
 pub fn quoted(path: &OsStr) -> String {
-    word(path.as_bytes())
+    match path.as_bytes() {
+        bytes @ [b'-', _, ..] => word(&[b"./", bytes].concat()),
+        bytes => word(bytes),
+    }
 }
 
 /// What a person can do after a refusal.

@@ -1,5 +1,11 @@
 //! The help texts. The lines of each before the first empty one are its usage.
 
+/// The end of each of them.
+pub const WAIT: &str = "
+While another program has CARD open, a command waits for it:
+  --wait S     for S seconds, 0 to 86400; else 5
+";
+
 pub const OVERVIEW: &str = "\
 goofs - files on a volume that survives a cut of the power
 
@@ -25,8 +31,7 @@ To begin, in an image file of 4 MiB:
 After a cut of the power: goofs recover CARD, then goofs check CARD.
 
 `goofs COMMAND --help` tells more, `goofs --version` the version. Names that start with a dash go
-behind `--`. While another program has the card open, each command waits for it: for 5 seconds, or
---wait S for S of them (0 to 86400).
+behind `--`.
 The exit status is 0 only on success, 1 if it failed, 2 if the command was not understood.
 An error says what happened and what to do next. A number in it, as in `refused (5)`, is that of the
 rules of the volume. A refused command has changed nothing.
@@ -66,8 +71,8 @@ Copies files from the card: one to the standard output, or several into a folder
   --as FILE   to this file; a FILE that exists is replaced. If FILE is a folder, each file goes into it
               under the name that it has on the card; `-` is the standard output
 
-The bytes are written beside FILE, and take its name when all of them are on its disk. Until then a
-FILE that exists stays as it was. No other file is written: a FILE is named by --as only, so that
+The bytes are written beside FILE (to .goofs-NUMBER-0, which a kill may leave behind), and take its
+name when all of them are on its disk. Until then a FILE that exists stays as it was. No other file is written: a FILE is named by --as only, so that
 `goofs get CARD *.cal` never writes over one of several files.
 ";
 
@@ -88,8 +93,8 @@ a cut of the power and `goofs recover` it is done or not done. What is added to 
 its change and not before. But bytes that replace old bytes go to their place at once: after a cut,
 each sector of them is the old or the new one. Where that matters, put under a new name and remove the
 old file after it.
-All changes are tried in memory first, those of all FILEs: if one is refused, for want of room too,
-nothing is changed. A FILE is read into memory, and no further than there is room for it on the card.
+All changes of all FILEs are tried in memory first: if one is refused, for want of room too, nothing is
+changed. A FILE is read into memory, and no further than there is room for it on the card.
 ";
 
 pub const RM: &str = "\

@@ -99,13 +99,18 @@ fn named(name: &OsStr) -> Result<&'static Command, Failure> {
     })
 }
 
+/// Prints a help text.
+fn show(text: &str) -> Result<(), Failure> {
+    output::print(&[text, help::WAIT].concat())
+}
+
 fn run(given: Vec<OsString>) -> Result<(), Failure> {
     let Some((name, rest)) = given.split_first() else {
         return Err(Failure::Usage(format!("no command\n\n{}", help::OVERVIEW)));
     };
     match (name.as_bytes(), rest) {
-        (b"--help" | b"-h" | b"help", []) => return output::print(help::OVERVIEW),
-        (b"--help" | b"-h" | b"help", [about, ..]) => return output::print(named(about)?.help),
+        (b"--help" | b"-h" | b"help", []) => return show(help::OVERVIEW),
+        (b"--help" | b"-h" | b"help", [about, ..]) => return show(named(about)?.help),
         (b"--version" | b"-V", _) => {
             return output::print(concat!("goofs ", env!("CARGO_PKG_VERSION"), "\n"))
         }
@@ -114,7 +119,7 @@ fn run(given: Vec<OsString>) -> Result<(), Failure> {
     let command = named(name)?;
     Arguments::parse(rest, command.known)
         .and_then(|arguments| match arguments.flag("help") {
-            true => output::print(command.help),
+            true => show(command.help),
             false => (command.run)(&arguments),
         })
         .map_err(|failure| failure.with_usage(command.name, command.help))

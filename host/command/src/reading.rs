@@ -12,7 +12,7 @@ use goofs::image::State;
 
 use crate::arguments::Arguments;
 use crate::card;
-use crate::failure::{free_extents, of_call, of_card, of_file, quoted, room, Failure};
+use crate::failure::{of_call, of_card, of_file, quoted, Failure, Space};
 use crate::output::{print, print_bytes, save};
 use crate::text;
 
@@ -88,16 +88,14 @@ pub fn info(arguments: &Arguments) -> Result<(), Failure> {
                 text::time(root.change_time)
             ),
         );
-        let free = free_extents(&image);
-        line(
-            "extents used",
-            (summary.usable_extents() - free).to_string(),
-        );
+        let space = Space::of(&image);
+        let used = summary.usable_extents() - space.free;
+        line("extents used", used.to_string());
         line(
             "extents free",
-            format!("{free} ({} bytes)", free * summary.extent_bytes()),
+            format!("{} ({} bytes)", space.free, space.free * space.extent_bytes),
         );
-        line("room", room(&image));
+        line("room", space.to_string());
     }
     print(&text)
 }

@@ -14,11 +14,11 @@ use goofs::image::Image;
 use crate::arguments::Arguments;
 use crate::card;
 use crate::changing::{time, NewFile};
-use crate::failure::{of_call, of_card, of_file, quoted, Failure};
+use crate::failure::{of_call, of_card, of_file, quoted, Failure, Space};
 use crate::output::{print, save_image};
 use crate::progress::Progress;
 use crate::text;
-use crate::writing::{one_write, read_all, resize_changes, size, Source};
+use crate::writing::{look_up, one_write, put_changes, read_all, resize_changes, size, Source};
 
 /// Groups of up to this many writes are cut in every way.
 const SMALL_GROUP: usize = 8;
@@ -58,10 +58,13 @@ pub fn run(arguments: &Arguments) -> Result<(), Failure> {
         b"put" => Source::all(rest, arguments.word("as"))?,
         _ => Vec::new(),
     };
-    let puts = read_all(card, &image, &sources, &new_file, time)?;
+    let (puts, space) = (
+        look_up(card, &image, &sources, &new_file, time)?,
+        Space::of(&image),
+    );
     let contents = match kind {
-        b"write" => one_write(&rest[2])?,
-        _ => Vec::new(),
+        b"write" => vec![one_write(&rest[2])?],
+        _ => read_all(card, space, &puts)?,
     };
     let name = match &sources[..] {
         [source] => source.name,
@@ -73,12 +76,12 @@ pub fn run(arguments: &Arguments) -> Result<(), Failure> {
             vec![create.map_err(of_call(card, name, new_file.id))?]
         }
         b"rm" => vec![Change::Delete { name, time }],
-        b"put" => puts.iter().flat_map(|put| put.changes(time)).collect(),
+        b"put" => put_changes(card, space, &puts, &contents, time)?,
         b"resize" => resize_changes(card, &image, name, size(&rest[1])?, time)?,
         _ => vec![Change::Write {
             name,
             offset: size(&rest[1])?,
-            data: &contents,
+            data: &contents[0],
             time,
         }],
     };

@@ -13,7 +13,7 @@ use goofs::image::{Image, LONGEST_TRANSFER};
 use crate::arguments::{self, Arguments};
 use crate::card;
 use crate::changing::{apply, time, NewFile};
-use crate::failure::{free_extents, no_room, of_call, of_card, of_file, quoted, Failure};
+use crate::failure::{no_room, of_call, of_card, of_file, quoted, Failure, Space};
 use crate::text;
 
 /// A size, offset or the like among the places.
@@ -101,25 +101,22 @@ pub fn one_write(file: &OsStr) -> Result<Vec<u8>, Failure> {
     Ok(contents.unwrap_or_else(|| vec![0; LONGEST_TRANSFER + 1]))
 }
 
-/// A file to be put: what is needed to say which changes that takes.
+/// A file to be put, and how it stands on the volume.
 pub struct Put<'p> {
-    name: &'p [u8],
-    contents: Vec<u8>,
+    source: &'p Source<'p>,
     /// The change that creates it, if it isn't there.
     create: Option<Change<'p>>,
     old_size: u64,
 }
 
-/// Reads the files, none further than there is room for it on the card.
-pub fn read_all<'p>(
+/// Looks the files up on the volume.
+pub fn look_up<'p>(
     card: &OsStr,
     image: &Image,
-    sources: &[Source<'p>],
+    sources: &'p [Source],
     new_file: &NewFile,
     time: u32,
 ) -> Result<Vec<Put<'p>>, Failure> {
-    let extent_bytes = image.summary().extent_bytes();
-    let mut free = free_extents(image);
     let mut new_ids = Vec::new();
     let mut puts = Vec::new();
     for source in sources {
@@ -137,14 +134,8 @@ pub fn read_all<'p>(
         if let Some(Change::Create { id, .. }) = create {
             new_ids.push(id);
         }
-        let available = free + old_size.div_ceil(extent_bytes);
-        let Some(contents) = source.read(available * extent_bytes)? else {
-            return Err(no_room(card, name, image));
-        };
-        free = available - (contents.len() as u64).div_ceil(extent_bytes);
         puts.push(Put {
-            name,
-            contents,
+            source,
             create,
             old_size,
         });
@@ -152,21 +143,50 @@ pub fn read_all<'p>(
     Ok(puts)
 }
 
+/// Reads the files, none further than there is room for it.
+pub fn read_all(card: &OsStr, space: Space, puts: &[Put]) -> Result<Vec<Vec<u8>>, Failure> {
+    let contents = puts.iter().map(|put| {
+        let most = (space.free + space.extents(put.old_size)) * space.extent_bytes;
+        let contents = put.source.read(most)?;
+        contents.ok_or_else(|| no_room(card, put.source.name, space))
+    });
+    contents.collect()
+}
+
+/// The changes of all files, one file after the other.
+pub fn put_changes<'c>(
+    card: &OsStr,
+    space: Space,
+    puts: &'c [Put],
+    contents: &'c [Vec<u8>],
+    time: u32,
+) -> Result<Vec<Change<'c>>, Failure> {
+    let mut free = space.free;
+    let mut changes = Vec::new();
+    for (put, contents) in puts.iter().zip(contents) {
+        free = (free + space.extents(put.old_size))
+            .checked_sub(space.extents(contents.len() as u64))
+            .ok_or_else(|| no_room(card, put.source.name, space))?;
+        changes.extend(put.changes(contents, time));
+    }
+    Ok(changes)
+}
+
 /// Id and mode are set when a file is created, and there is no call that changes them.
 fn already_there(card: &OsStr, name: &[u8]) -> Failure {
     let (card, name) = (quoted(card), text::word(name));
     Failure::Other(format!(
         "{card}: {name} is there already, and --id and --mode are for a new file. Nothing was changed.\n\
-         Next: leave them out to write over the file, or remove it first: goofs rm {card} {name}."
+         Next: leave them out to write over the file, or remove it first: goofs rm {card} -- {name}."
     ))
 }
 
 impl Put<'_> {
     /// Creates the file if it isn't there, writes the contents in pieces, and cuts off what is longer.
-    pub fn changes(&self, time: u32) -> Vec<Change<'_>> {
-        let name = self.name;
+    fn changes<'c>(&'c self, contents: &'c [u8], time: u32) -> Vec<Change<'c>> {
+        let name = self.source.name;
         let mut changes = Vec::from_iter(self.create);
-        for (i, data) in self.contents.chunks(LONGEST_TRANSFER).enumerate() {
+        for (i, data) in contents.chunks(LONGEST_TRANSFER).enumerate() {
             changes.push(Change::Write {
                 name,
                 offset: (i * LONGEST_TRANSFER) as u64,
@@ -174,7 +194,7 @@ impl Put<'_> {
                 time,
             });
         }
-        let size = self.contents.len() as u64;
+        let size = contents.len() as u64;
         if size < self.old_size {
             changes.push(Change::Resize { name, size, time });
         }
@@ -193,10 +213,20 @@ pub fn put(arguments: &Arguments) -> Result<(), Failure> {
         )));
     }
     let sources = Source::all(files, arguments.word("as"))?;
+    // The lock is given back before the files are read: a pipe may be slow, and what comes out of it
+    // may come from this card.
+    let image = card::read(card, arguments.wait()?)?;
+    let (puts, space) = (
+        look_up(card, &image, &sources, &new_file, time)?,
+        Space::of(&image),
+    );
+    drop(image);
+    let contents = read_all(card, space, &puts)?;
+
     let mut volume = card::volume(card, arguments.wait()?)?;
     let image = volume.image().map_err(of_card(card))?;
-    let puts = read_all(card, image, &sources, &new_file, time)?;
-    let changes: Vec<Change> = puts.iter().flat_map(|put| put.changes(time)).collect();
+    let puts = look_up(card, image, &sources, &new_file, time)?;
+    let changes = put_changes(card, Space::of(image), &puts, &contents, time)?;
     apply(&mut volume, &changes).map_err(of_card::<Error>(card))
 }
 
@@ -210,10 +240,9 @@ pub fn resize_changes<'c>(
 ) -> Result<Vec<Change<'c>>, Failure> {
     let mut reached = image.find(name).map_err(of_call(card, name, None))?.size;
     // A size for which there is no room is refused before its many steps are counted up.
-    let extent_bytes = image.summary().extent_bytes();
-    let available = free_extents(image) + reached.div_ceil(extent_bytes);
-    if size > available * extent_bytes {
-        return Err(no_room(card, name, image));
+    let space = Space::of(image);
+    if space.extents(size) > space.free + space.extents(reached) {
+        return Err(no_room(card, name, space));
     }
     let mut changes = Vec::new();
     loop {

@@ -1,4 +1,4 @@
-//! The command killed at random moments, a thousand times on one card: after a recovery the oracle
+//! The command killed at random moments, a thousand times: after each kill and a recovery the oracle
 //! must find every file as the rules say. What is done is drawn from a seed, which is printed and can
 //! be given again with KILL_SEED; the moments of the kills depend on the machine as well.
 
@@ -19,6 +19,8 @@ use oracle::{FormatRequest, Ledger, Request};
 use shared::{good, start, Folder};
 
 const KILLS: u64 = 1_000;
+/// They are shared out among so many cards, as most of the time is spent at barriers.
+const CARDS: u64 = 4;
 const SIGKILL: i32 = 9;
 const SECTOR: usize = 512;
 /// The most bytes that one change adds or writes.
@@ -51,7 +53,7 @@ fn seed() -> u64 {
 
 impl Run {
     fn new(seed: u64) -> Run {
-        let folder = Folder::new("kills");
+        let folder = Folder::new(&format!("kills-{seed}"));
         let card = folder.file("card");
         // 16 extents, one of them reserved.
         let format = FormatRequest {
@@ -240,23 +242,31 @@ fn landed(ledger: &Ledger, call: &Request, image: &[u8]) -> Option<CutReport> {
     })
 }
 
-#[test]
-fn a_thousand_kills() {
-    let seed = seed();
-    println!("KILL_SEED={seed}");
+/// How often a kill came so late that recovery had something to do, between two calls of a command,
+/// and within a write that put bytes in the place of old ones.
+#[derive(Clone, Copy, Debug, Default)]
+struct Counts {
+    recovered: u64,
+    between: u64,
+    within: u64,
+}
+
+/// So many kills on one card.
+fn kills(seed: u64, most: u64) -> Counts {
     let mut run = Run::new(seed);
-    let (mut kills, mut recovered, mut in_between, mut in_part) = (0, 0, 0, 0);
+    let mut counts = Counts::default();
+    let mut kills = 0;
     // The time of a command without a kill, by the number of its calls.
     let (mut first, mut each) = (Duration::ZERO, Duration::ZERO);
     for round in 0_u64.. {
         let work = run.work();
+        let words = &work.words;
         let calls = work.calls.len() as u32;
         // Now and then one goes through, so that there is something to change, and its time is taken.
-        let is_spared = round.is_multiple_of(16);
-        let was_killed = if is_spared {
+        let was_killed = if round.is_multiple_of(16) {
             let begun = Instant::now();
-            let words: Vec<&str> = work.words[1..].iter().map(String::as_str).collect();
-            good(&work.words[0], &run.card, &words);
+            let rest: Vec<&str> = words[1..].iter().map(String::as_str).collect();
+            good(&words[0], &run.card, &rest);
             match calls {
                 0 | 1 => first = begun.elapsed(),
                 _ => each = begun.elapsed() / calls,
@@ -265,40 +275,55 @@ fn a_thousand_kills() {
         } else {
             let longest = (first + each * calls).max(Duration::from_millis(2));
             let moment = run.draw.below(longest.as_nanos() as u64);
-            killed_after(Duration::from_nanos(moment), &run.card, &work.words)
+            killed_after(Duration::from_nanos(moment), &run.card, words)
         };
         kills += u64::from(was_killed);
-        let said = good("recover", &run.card, &[]);
-        let was_cut = said.starts_with("recovered");
-        assert!(was_killed || !was_cut, "seed {seed}: {:?}", work.words);
-        recovered += u64::from(was_cut);
+        let was_cut = good("recover", &run.card, &[]).starts_with("recovered");
+        assert!(was_killed || !was_cut, "KILL_SEED={seed}: {words:?}");
 
         let image = fs::read(&run.card).unwrap();
-        assert_eq!(
-            oracle::check(&image).code,
-            0,
-            "seed {seed}: {:?}",
-            work.words
-        );
-        let (done, ledger) = found(&run.ledger, &work.calls, &image).unwrap_or_else(|difference| {
-            panic!("seed {seed}, round {round}, {:?}: {difference}", work.words)
-        });
-        assert!(was_killed || done == work.calls.len(), "seed {seed}");
-        in_between += u64::from(done > 0 && done < work.calls.len());
+        let check = oracle::check(&image);
+        assert_eq!(check.code, 0, "KILL_SEED={seed}: {words:?}: {check:?}");
+        let (done, ledger) = found(&run.ledger, &work.calls, &image)
+            .unwrap_or_else(|difference| panic!("KILL_SEED={seed}: {words:?}: {difference}"));
+        let is_whole = done == work.calls.len();
+        assert!(was_killed || is_whole, "KILL_SEED={seed}: {words:?}");
         let mut whole = run.ledger.clone();
         for call in &work.calls[..done] {
             whole.call(call, LIST);
         }
-        in_part += u64::from(whole != ledger);
+        counts.recovered += u64::from(was_cut);
+        counts.between += u64::from(done > 0 && !is_whole);
+        counts.within += u64::from(whole != ledger);
         run.ledger = ledger;
-        if kills == KILLS {
+        if kills == most {
             break;
         }
     }
-    println!("{recovered} recovered, {in_between} between two calls, {in_part} within a write");
+    counts
+}
+
+#[test]
+fn a_thousand_kills() {
+    let seed = seed();
+    println!("KILL_SEED={seed}");
+    let counts = thread::scope(|scope| {
+        let cards = [(); CARDS as usize];
+        let mut next = seed;
+        let runs = cards.map(|()| {
+            let seed = next;
+            next = next.wrapping_add(1);
+            scope.spawn(move || kills(seed, KILLS / CARDS))
+        });
+        runs.map(|run| run.join().expect("the files are as the rules say"))
+    });
+    let sum = |count: fn(&Counts) -> u64| counts.iter().map(count).sum::<u64>();
+    let (recovered, between) = (sum(|c| c.recovered), sum(|c| c.between));
+    let within = sum(|c| c.within);
+    println!("{recovered} recovered, {between} between two calls, {within} within a write");
     // Else the moments were too early or too late to show anything.
     assert!(
-        recovered > 0 && in_between > 0 && in_part > 0,
-        "seed {seed}: {recovered} recovered, {in_between} between two calls, {in_part} within a write"
+        recovered > 0 && between > 0 && within > 0,
+        "KILL_SEED={seed}: {counts:?}"
     );
 }

@@ -9,7 +9,7 @@ use std::sync::atomic::{AtomicBool, Ordering};
 use std::thread;
 use std::time::{Duration, Instant};
 
-use shared::{bad, formatted, good, on, start, Folder, Said};
+use shared::{bad, formatted, good, on, run, start, Folder, Said};
 
 fn begin(command: &str, card: &Path, rest: &[&str]) -> Child {
     start(
@@ -62,6 +62,21 @@ fn commands_wait_for_each_other() {
     let begun = Instant::now();
     bad("put", &card, &[source, "--wait=0"], 1);
     assert!(begun.elapsed() < Duration::from_secs(1));
+}
+
+/// A put that reads what a get of the same card writes: it takes the lock when it has all of it.
+#[test]
+fn a_pipe_from_the_card_to_itself() {
+    let folder = Folder::new("pipe");
+    let card = formatted(&folder);
+    let source = folder.write("f", &[b'x'; 60_000]);
+    good("put", &card, &[source.to_str().unwrap()]);
+    let script = r#"(sleep 0.2; "$1" get "$2" f --wait 1) | "$1" put "$2" - --as g"#;
+    let said = run(Command::new("sh")
+        .args(["-c", script, "sh", env!("CARGO_BIN_EXE_goofs")])
+        .arg(&card));
+    assert_eq!((said.status, &*said.err), (0, ""));
+    assert_eq!(good("get", &card, &["g"]).len(), 60_000);
 }
 
 /// A card that is replaced while a command waits for it: the change goes to the new one.

@@ -72,8 +72,8 @@ pub fn format(arguments: &Arguments) -> Result<(), Failure> {
         }
     }
     let mut disk = card::exclusive(card, wait)?;
-    // Only an empty file whose lock is held here goes away again if the format fails: anything else
-    // is another program's.
+    // Only an empty file whose lock is held here is removed if the format fails: anything else is
+    // another program's.
     let is_made_here = is_new && disk.length() == 0;
     let formatted =
         format_disk(arguments, card, &mut disk, sectors, &mut request).and_then(

@@ -78,7 +78,7 @@ impl Failure {
             Failure::Usage(text) => {
                 let usage = help.split("\n\n").next().unwrap_or_default();
                 Failure::Usage(format!(
-                    "{text}. Nothing was changed.\n\n{usage}\n\nNext: goofs {command} --help tells more."
+                    "{text}. Nothing was changed.\n\n{usage}\n\nNext: goofs {command} --help shows more."
                 ))
             }
             other => other,

@@ -9,16 +9,16 @@ While another program has CARD open, a command waits for it:
 pub const OVERVIEW: &str = "\
 goofs - files on a volume that survives a cut of the power
 
-  goofs info CARD                    geometry, areas, state, free room
-  goofs check CARD                   whether the volume is sound
-  goofs ls CARD                      the files
-  goofs get CARD NAME.. [--as FILE]  copy files from the card
-  goofs put CARD FILE.. [--as NAME]  copy files to the card
-  goofs rm CARD NAME                 remove a file
-  goofs resize CARD NAME SIZE        give a file another size
-  goofs recover CARD                 finish a change that was cut
-  goofs format CARD [--sectors N]    make an empty volume
-  goofs trial CARD CHANGE ...        try a change with cuts of the power, in memory
+  goofs info CARD                     geometry, areas, state, free room
+  goofs check CARD                    whether the volume is sound
+  goofs ls CARD                       the files
+  goofs get CARD NAME... [--as FILE]  copy files from the card
+  goofs put CARD FILE... [--as NAME]  copy files to the card
+  goofs rm CARD NAME                  remove a file
+  goofs resize CARD NAME SIZE         give a file another size
+  goofs recover CARD                  finish a change that was cut
+  goofs format CARD [--sectors N]     make an empty volume
+  goofs trial CARD CHANGE ...         try a change with cuts of the power, in memory
 
 CARD is an image file or a block device, such as /dev/sdb; lsblk shows which devices there are.
 To begin, in an image file of 4 MiB:
@@ -30,7 +30,7 @@ To begin, in an image file of 4 MiB:
 
 After a cut of the power: goofs recover CARD, then goofs check CARD.
 
-`goofs COMMAND --help` tells more, `goofs --version` the version. Names that start with a dash go
+`goofs COMMAND --help` shows more, `goofs --version` the version. Names that start with a dash go
 behind `--`.
 The exit status is 0 only on success, 1 if it failed, 2 if the command was not understood.
 An error says what happened and what to do next. A number in it, as in `refused (5)`, is that of the
@@ -65,19 +65,19 @@ quotes where it needs them, and as $'...' where it has bytes that a terminal doe
 ";
 
 pub const GET: &str = "\
-goofs get CARD NAME.. [--as FILE]
+goofs get CARD NAME... [--as FILE]
 
 Copies files from the card: one to the standard output, or several into a folder.
   --as FILE   to this file; a FILE that exists is replaced. If FILE is a folder, each file goes into it
               under the name that it has on the card; `-` is the standard output
 
 The bytes are written beside FILE (to .goofs-NUMBER-0, which a kill may leave behind), and take its
-name when all of them are on its disk. Until then a FILE that exists stays as it was. No other file is written: a FILE is named by --as only, so that
-`goofs get CARD *.cal` never writes over one of several files.
+name when all of them are on its disk. Until then a FILE that exists stays as it was. A FILE is named
+by --as only, so that `goofs get CARD *.cal` never writes over one of the files that the shell found.
 ";
 
 pub const PUT: &str = "\
-goofs put CARD FILE.. [--as NAME] [--id ID] [--mode M] [--time T]
+goofs put CARD FILE... [--as NAME] [--id ID] [--mode M] [--time T]
 
 Copies files to the card, each under the last part of its own name. A file of that name on the card is
 written over. A name has 1 to 476 bytes.

@@ -116,8 +116,8 @@ fn like(file: &File, old: &Metadata) -> io::Result<()> {
     }
 }
 
-/// Writes an image to a file that must be new. Runs of zeros become holes. If it fails, the file goes
-/// away again.
+/// Writes an image to a file that must be new. Runs of zeros become holes. If it fails, the file is
+/// removed.
 pub fn save_image(
     path: &OsStr,
     image: &[u8],

@@ -38,7 +38,7 @@ impl Progress {
     }
 }
 
-/// The line goes away when the work is over, also by an error.
+/// The line is cleared when the work is over, also by an error.
 impl Drop for Progress {
     fn drop(&mut self) {
         if self.written {

@@ -92,7 +92,7 @@ fn output_that_can_not_be_written() {
 /// A full standard error takes away the words, but not the status.
 #[test]
 fn errors_that_can_not_be_written() {
-    let folder = Folder::new("mute");
+    let folder = Folder::new("full-error");
     for (words, status) in [(&["ls", "nothing"][..], 1), (&["nonsense"], 2)] {
         let mut command = Command::new(env!("CARGO_BIN_EXE_goofs"));
         command.args(words).current_dir(folder.file("."));
@@ -105,7 +105,7 @@ fn errors_that_can_not_be_written() {
 fn files_that_can_not_be_written_by_get() {
     let folder = Folder::new("unwritten");
     let card = with_file(&folder);
-    // No more than a few blocks of a file can be written. A new one goes away again.
+    // No more than a few blocks of a file can be written. A new one is removed again.
     let new = folder.file("new");
     let said = with_limit("-f 10", "get", &card, &["f", "--as", new.to_str().unwrap()]);
     assert_eq!(said.status, 1);

@@ -187,7 +187,7 @@ fn killed_after(moment: Duration, card: &Path, words: &[String]) -> bool {
 }
 
 /// The ledger after the first calls, and after a cut one behind them if that is what the image shows,
-/// with the number of whole calls. The error tells the last difference.
+/// with the number of whole calls. The error is the last difference.
 fn found(ledger: &Ledger, calls: &[Request], image: &[u8]) -> Result<(usize, Ledger), String> {
     let mut ledger = ledger.clone();
     let mut last = String::new();

@@ -33,26 +33,25 @@ pub fn print_error(text: &str) {
 /// Writes the contents to a file. They are written beside it first and take its name when they are
 /// on the medium: until then, what stood there stays.
 pub fn save(path: &OsStr, contents: &[u8]) -> Result<(), Failure> {
-    let file = linked(path).map_err(of_file(path))?;
-    match fs::metadata(&file) {
-        Ok(old) if old.is_file() => replace(&file, Some(&old), contents).map_err(of_file(path)),
-        Err(error) if error.kind() == ErrorKind::NotFound => {
-            replace(&file, None, contents).map_err(of_file(path))
-        }
-        Err(error) => Err(of_file(path)(error)),
-        // A terminal, a pipe or a device.
-        Ok(_) => {
-            let mut file = OpenOptions::new()
-                .write(true)
-                .open(&file)
-                .map_err(of_file(path))?;
-            file.write_all(contents)
-                .map_err(|error| Failure::Incomplete {
-                    file: path.to_owned(),
-                    error,
-                })
-        }
+    let old = match fs::metadata(path) {
+        Err(error) if error.kind() == ErrorKind::NotFound => None,
+        old => Some(old.map_err(of_file(path))?),
+    };
+    if old.as_ref().is_none_or(Metadata::is_file) {
+        return linked(path)
+            .and_then(|file| replace(&file, old.as_ref(), contents))
+            .map_err(of_file(path));
     }
+    // A terminal, a pipe or a device.
+    let mut file = OpenOptions::new()
+        .write(true)
+        .open(path)
+        .map_err(of_file(path))?;
+    file.write_all(contents)
+        .map_err(|error| Failure::Incomplete {
+            file: path.to_owned(),
+            error,
+        })
 }
 
 /// The file itself if this is a link, also a link to a file that isn't there yet.

@@ -195,7 +195,9 @@ fn may_be_written(card: &OsStr, file: &OsStr) -> Result<(), Failure> {
     }
     match found {
         Ok(metadata) if metadata.is_dir() => Err(of_file(file)(ErrorKind::IsADirectory.into())),
-        Err(_) if file.as_bytes().ends_with(b"/") => Err(of_file(file)(ErrorKind::NotFound.into())),
+        Err(_) if file.is_empty() || file.as_bytes().ends_with(b"/") => {
+            Err(of_file(file)(ErrorKind::NotFound.into()))
+        }
         _ => Ok(()),
     }
 }

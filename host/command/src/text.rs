@@ -71,7 +71,7 @@ pub fn time(seconds: u32) -> String {
 
 /// Seconds since 1970 end in 2106, so that the year 2100 is the only exception.
 fn days_of_year(year: u32) -> u32 {
-    match year % 4 == 0 && year != 2100 {
+    match year.is_multiple_of(4) && year != 2100 {
         true => 366,
         false => 365,
     }

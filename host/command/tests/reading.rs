@@ -179,7 +179,13 @@ fn get_writes_only_to_what_is_named() {
     let into = into.to_str().unwrap();
     bad("get", &card, &["dark frame", "light", "--as", into], 1);
     assert_eq!(fs::read_dir(into).unwrap().count(), 0);
-    assert_eq!(good("get", &card, &["dark frame", "--as", "-"]), "counts");
+    bad("get", &card, &["dark frame", "--as", ""], 1);
+    for output in ["-", "/dev/stdout", "/proc/self/fd/1"] {
+        assert_eq!(
+            good("get", &card, &["dark frame", "--as", output]),
+            "counts"
+        );
+    }
 }
 
 /// A file in the place of an old one keeps who may use it; a folder takes files by their names.

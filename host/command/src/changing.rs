@@ -183,7 +183,8 @@ fn held(disk: &Disk, request: &Format, card: &OsStr) -> Result<Option<String>, F
     let mut progress = Progress::new("bytes looked at (--yes leaves this out)", length);
     let zeros = vec![0; length.min(PIECE) as usize];
     let mut piece = zeros.clone();
-    for start in (0..length).step_by(PIECE as usize) {
+    let mut start = 0;
+    while start < length {
         let piece = &mut piece[..(length - start).min(PIECE) as usize];
         disk.read(start / SECTOR as u64, piece)
             .map_err(|error| of_card(card)(Error::Unreadable(error)))?;
@@ -194,7 +195,10 @@ fn held(disk: &Disk, request: &Format, card: &OsStr) -> Result<Option<String>, F
             let at = piece.iter().take_while(|byte| **byte == 0).count();
             return Ok(Some(format!("other data, from byte {}", start + at as u64)));
         }
-        progress.at(start + piece.len() as u64);
+        start += piece.len() as u64;
+        // Holes of an image file are passed over.
+        start = start.max(disk.next_data(start) / SECTOR as u64 * SECTOR as u64);
+        progress.at(start);
     }
     Ok(None)
 }

@@ -316,6 +316,7 @@ impl fmt::Display for Failure {
                         "see who may write to it and to its folder: ls -l shows that"
                     }
                     ErrorKind::AlreadyExists => "name a file that does not exist yet",
+                    ErrorKind::IsADirectory => "name a file, not a folder",
                     ErrorKind::StorageFull => "make room on its disk, or name a file on another one",
                     _ => "see that this is the right file, and that its disk takes it",
                 }

@@ -5,6 +5,7 @@ mod shared;
 use std::fs::{self, File, OpenOptions};
 use std::os::unix::fs::{FileExt, MetadataExt};
 use std::path::Path;
+use std::time::{Duration, Instant};
 
 use goofs::change::Change;
 use goofs::device::Disk;
@@ -145,6 +146,24 @@ fn a_trial_on_a_full_card() {
         assert_eq!(said.status, 0, "{change:?}: {}", said.err);
         assert!(said.text().contains("recoveries cut in "), "{change:?}");
     }
+}
+
+/// An image file that is all holes has nothing to lose, and is not read to its end to know that. One
+/// byte far behind the metadata is found.
+#[test]
+fn a_format_of_a_sparse_image() {
+    let folder = Folder::new("sparse");
+    let card = folder.file("card");
+    let file = File::create(&card).unwrap();
+    file.set_len(400 << 30).unwrap();
+    file.write_all_at(&[1], 300 << 30).unwrap();
+    let begun = Instant::now();
+    let said = on("format", &card, &[]);
+    let place = format!("other data, from byte {}", 300_u64 << 30);
+    assert!(said.status == 1 && said.err.contains(&place), "{said:?}");
+    good("format", &card, &["--sectors=600000000"]);
+    // Reading 300 GiB of zeros takes far longer.
+    assert!(begun.elapsed() < Duration::from_secs(15));
 }
 
 #[test]

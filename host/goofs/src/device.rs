@@ -5,6 +5,7 @@ use std::fs::{File, TryLockError};
 use std::io::{self, Seek, SeekFrom};
 use std::os::unix::fs::FileExt;
 
+use crate::holes::next_data;
 use crate::map::Map;
 
 /// Bytes of a sector.
@@ -113,6 +114,14 @@ impl Disk {
             self.length = length;
         }
         Ok(())
+    }
+}
+
+impl Disk {
+    /// The first byte from this one on that may not be zero, or the length if there is none.
+    pub fn next_data(&self, from: u64) -> u64 {
+        let found = next_data(&self.file, from).unwrap_or(self.length);
+        found.min(self.length)
     }
 }
 

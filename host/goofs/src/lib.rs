@@ -17,6 +17,8 @@ mod ffi;
 pub mod change;
 pub mod device;
 pub mod error;
+#[allow(unsafe_code)]
+mod holes;
 pub mod image;
 #[allow(unsafe_code)]
 pub mod map;

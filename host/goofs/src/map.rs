@@ -1,5 +1,5 @@
 //! A private, copy-on-write map of a file into memory, and how a program ends whose map can't be
-//! read. All unsafe code of this library but the calls themselves stands here.
+//! read. All unsafe code of this library but the calls themselves and `holes` stands here.
 //!
 //! Why it is sound:
 //! - A map owns its addresses: the system chose them, nothing else refers to them, and they are

@@ -75,13 +75,10 @@ pub fn format(arguments: &Arguments) -> Result<(), Failure> {
     // Only an empty file whose lock is held here is removed if the format fails: anything else is
     // another program's.
     let is_made_here = is_new && disk.length() == 0;
-    let formatted =
-        format_disk(arguments, card, &mut disk, sectors, &mut request).and_then(
-            |()| match is_new {
-                true => sync_folder(Path::new(card)).map_err(of_file(card)),
-                false => Ok(()),
-            },
-        );
+    let mut formatted = format_disk(arguments, card, &mut disk, sectors, &mut request);
+    if formatted.is_ok() && is_new {
+        formatted = sync_folder(Path::new(card)).map_err(of_file(card));
+    }
     if formatted.is_err() && is_made_here {
         // Best effort: the failure is reported anyway.
         let _ = fs::remove_file(card);
@@ -168,7 +165,7 @@ fn format_disk(
     volume::format(disk, request, &mut |done| progress.at(done)).map_err(|error| match error {
         // There is nothing to recover in a format.
         Error::Interrupted(_) => Failure::Other(format!(
-            "{}: {error}.\nNext: when the medium can be written again, format again with --yes.",
+            "{}: {error}.\nNext: when the medium can be written again, give the command again, with --yes.",
             quoted(card)
         )),
         other => of_card(card)(other),

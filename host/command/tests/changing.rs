@@ -177,7 +177,11 @@ fn a_failing_medium_is_reported() {
     // A format fails behind the superblock that says that it is unfinished.
     let said = on_failing_medium(100, "format", &card, &["--yes"]);
     assert_eq!(said.status, 1);
-    assert!(said.err.contains("format again with --yes"), "{}", said.err);
+    assert!(
+        said.err.contains("give the command again, with --yes"),
+        "{}",
+        said.err
+    );
     assert!(bad("ls", &card, &[], 1).contains("refused (4)"));
     // A file that was made for a format does not stay behind.
     let new = folder.file("new");

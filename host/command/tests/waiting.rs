@@ -125,6 +125,7 @@ fn a_format_without_the_lock_removes_nothing() {
             (other.join().unwrap(), said)
         });
         assert!(card.exists(), "{said:?}");
+        drop(holder);
         match said.status {
             0 => assert_eq!(good("check", &card, &[]), "sound, 0 files\n"),
             _ => {
@@ -133,7 +134,6 @@ fn a_format_without_the_lock_removes_nothing() {
                 lost += 1;
             }
         }
-        drop(holder);
         fs::remove_file(&card).unwrap();
         if lost == 3 {
             return;

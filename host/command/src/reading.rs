@@ -127,6 +127,7 @@ pub fn ls(arguments: &Arguments) -> Result<(), Failure> {
             text::word(&entry.name)
         );
     }
+    drop(image);
     print(&lines)
 }
 
@@ -158,13 +159,21 @@ pub fn get(arguments: &Arguments) -> Result<(), Failure> {
         let name = name.as_bytes();
         image.find(name).map_err(of_call(card, name, None))?;
     }
-    for (name, target) in names.iter().zip(&targets) {
-        let name = name.as_bytes();
-        let contents = image.contents(name).map_err(of_call(card, name, None))?;
-        match target {
-            Some(file) => save(file, &contents)?,
-            None => print_bytes(&contents)?,
-        }
+    let contents = |name: &OsStr| {
+        let failure = of_call(card, name.as_bytes(), None);
+        image.contents(name.as_bytes()).map_err(failure)
+    };
+    if let [name] = names {
+        let contents = contents(name)?;
+        // The lock is given back first: who reads the output may take any time.
+        drop(image);
+        return match &targets[0] {
+            Some(file) => save(file, &contents),
+            None => print_bytes(&contents),
+        };
+    }
+    for (name, target) in names.iter().zip(targets.iter().flatten()) {
+        save(target, &contents(name)?)?;
     }
     Ok(())
 }
@@ -177,7 +186,7 @@ fn in_folder(folder: &OsStr, name: &OsStr) -> Result<OsString, Failure> {
     if first != Some(Component::Normal(name)) || parts.next().is_some() {
         return Err(Failure::Usage(format!(
             "{} can't be the name of a file in a folder; give it alone, with --as FILE",
-            quoted(name)
+            text::word(name.as_bytes())
         )));
     }
     Ok(Path::new(folder).join(name).into())

@@ -3,6 +3,7 @@
 mod shared;
 
 use std::fs::{self, File, TryLockError};
+use std::io::Read;
 use std::path::Path;
 use std::process::{Child, Command, Stdio};
 use std::sync::atomic::{AtomicBool, Ordering};
@@ -78,6 +79,24 @@ fn a_pipe_from_the_card_to_itself() {
         .arg(&card));
     assert_eq!((said.status, &*said.err), (0, ""));
     assert_eq!(good("get", &card, &["g"]).len(), 60_000);
+}
+
+/// A get whose output is read slowly has read the card already, and does not hold others up.
+#[test]
+fn output_that_is_read_slowly() {
+    let folder = Folder::new("slow");
+    let card = formatted(&folder);
+    // More than a pipe takes.
+    let source = folder.write("f", &[b'x'; 190_000]);
+    good("put", &card, &[source.to_str().unwrap()]);
+    let mut child = begin("get", &card, &["f"]);
+    let mut output = child.stdout.take().unwrap();
+    let mut bytes = vec![0; 1];
+    output.read_exact(&mut bytes).unwrap();
+    good("rm", &card, &["f", "--wait=0"]);
+    output.read_to_end(&mut bytes).unwrap();
+    assert_eq!(bytes, [b'x'; 190_000]);
+    assert_eq!(end(child).status, 0);
 }
 
 /// A card that is replaced while a command waits for it: the change goes to the new one.

@@ -149,9 +149,20 @@ impl Space {
         }
     }
 
-    /// The extents of a file of this size.
-    pub fn extents(self, size: u64) -> u64 {
+    fn extents(self, size: u64) -> u64 {
         size.div_ceil(self.extent_bytes)
+    }
+
+    /// The most bytes that a file of this size can come to have.
+    pub fn most(self, size: u64) -> u64 {
+        (self.free + self.extents(size)) * self.extent_bytes
+    }
+
+    /// What is left when a file has the new size instead of the old one, if there is so much.
+    pub fn after(self, old_size: u64, new_size: u64) -> Option<Space> {
+        let available = self.free + self.extents(old_size);
+        let free = available.checked_sub(self.extents(new_size))?;
+        Some(Space { free, ..self })
     }
 }
 

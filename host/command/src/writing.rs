@@ -62,42 +62,46 @@ impl Source<'_> {
         Ok(sources)
     }
 
-    /// The file's bytes, but no more than these; none if it has more. `-` is the standard input.
     fn read(&self, most: u64) -> Result<Option<Vec<u8>>, Failure> {
-        if self.file == "-" {
-            return first_bytes(io::stdin().lock(), most)
-                .map_err(of_file(OsStr::new("standard input")));
-        }
-        let open = || {
-            let file = File::open(self.file)?;
-            match file.metadata()?.len() > most {
-                true => Ok(None),
-                false => first_bytes(file, most),
-            }
-        };
-        open().map_err(|error: io::Error| match error.kind() {
+        contents(self.file, most).map_err(|error| match error.kind() {
             ErrorKind::NotFound => Failure::Other(format!(
                 "{}: {error}. Nothing was changed.\nNext: see that the name of this file is right; \
                  another name on the card is given with --as NAME.",
                 quoted(self.file)
             )),
-            _ => of_file(self.file)(error),
+            _ => of_source(self.file)(error),
         })
     }
 }
 
-fn first_bytes(source: impl Read, most: u64) -> io::Result<Option<Vec<u8>>> {
+/// A file's bytes, but no more than these; none if it has more. `-` is the standard input.
+fn contents(file: &OsStr, most: u64) -> io::Result<Option<Vec<u8>>> {
     let mut bytes = Vec::new();
-    source
-        .take(most.saturating_add(1))
-        .read_to_end(&mut bytes)?;
+    let longest = most.saturating_add(1);
+    if file == "-" {
+        io::stdin().lock().take(longest).read_to_end(&mut bytes)?;
+    } else {
+        let file = File::open(file)?;
+        // Only a regular file has a length; it need not be read to know that it is too long.
+        if file.metadata()?.len() > most {
+            return Ok(None);
+        }
+        file.take(longest).read_to_end(&mut bytes)?;
+    }
     Ok((bytes.len() as u64 <= most).then_some(bytes))
+}
+
+fn of_source(file: &OsStr) -> impl Fn(io::Error) -> Failure + '_ {
+    of_file(match file == "-" {
+        true => OsStr::new("standard input"),
+        false => file,
+    })
 }
 
 /// The bytes of one write. If there are more than a write may have, the volume code refuses them for
 /// their number alone.
 pub fn one_write(file: &OsStr) -> Result<Vec<u8>, Failure> {
-    let contents = Source { file, name: b"" }.read(LONGEST_TRANSFER as u64)?;
+    let contents = contents(file, LONGEST_TRANSFER as u64).map_err(of_source(file))?;
     Ok(contents.unwrap_or_else(|| vec![0; LONGEST_TRANSFER + 1]))
 }
 
@@ -143,12 +147,16 @@ pub fn look_up<'p>(
     Ok(puts)
 }
 
-/// Reads the files, none further than there is room for it.
+/// Reads the files, none further than there is room for it beside those before it.
 pub fn read_all(card: &OsStr, space: Space, puts: &[Put]) -> Result<Vec<Vec<u8>>, Failure> {
+    let mut left = space;
     let contents = puts.iter().map(|put| {
-        let most = (space.free + space.extents(put.old_size)) * space.extent_bytes;
-        let contents = put.source.read(most)?;
-        contents.ok_or_else(|| no_room(card, put.source.name, space))
+        let read = put.source.read(left.most(put.old_size))?;
+        let fitting = read.and_then(|bytes| {
+            left = left.after(put.old_size, bytes.len() as u64)?;
+            Some(bytes)
+        });
+        fitting.ok_or_else(|| no_room(card, put.source.name, space))
     });
     contents.collect()
 }
@@ -161,11 +169,11 @@ pub fn put_changes<'c>(
     contents: &'c [Vec<u8>],
     time: u32,
 ) -> Result<Vec<Change<'c>>, Failure> {
-    let mut free = space.free;
+    let mut left = space;
     let mut changes = Vec::new();
     for (put, contents) in puts.iter().zip(contents) {
-        free = (free + space.extents(put.old_size))
-            .checked_sub(space.extents(contents.len() as u64))
+        left = left
+            .after(put.old_size, contents.len() as u64)
             .ok_or_else(|| no_room(card, put.source.name, space))?;
         changes.extend(put.changes(contents, time));
     }
@@ -241,7 +249,7 @@ pub fn resize_changes<'c>(
     let mut reached = image.find(name).map_err(of_call(card, name, None))?.size;
     // A size for which there is no room is refused before its many steps are counted up.
     let space = Space::of(image);
-    if space.extents(size) > space.free + space.extents(reached) {
+    if space.after(reached, size).is_none() {
         return Err(no_room(card, name, space));
     }
     let mut changes = Vec::new();

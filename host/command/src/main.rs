@@ -11,6 +11,7 @@ mod help;
 mod output;
 mod progress;
 mod reading;
+mod space;
 mod text;
 mod trial;
 mod writing;

@@ -12,8 +12,9 @@ use goofs::image::State;
 
 use crate::arguments::Arguments;
 use crate::card;
-use crate::failure::{of_call, of_card, of_file, quoted, Failure, Space};
+use crate::failure::{of_call, of_card, of_file, quoted, Failure};
 use crate::output::{print, print_bytes, save};
+use crate::space::Space;
 use crate::text;
 
 pub fn info(arguments: &Arguments) -> Result<(), Failure> {

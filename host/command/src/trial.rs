@@ -14,9 +14,10 @@ use goofs::image::Image;
 use crate::arguments::Arguments;
 use crate::card;
 use crate::changing::{time, NewFile};
-use crate::failure::{of_call, of_card, of_file, quoted, Failure, Space};
+use crate::failure::{of_call, of_card, of_file, quoted, Failure};
 use crate::output::{print, save_image};
 use crate::progress::Progress;
+use crate::space::Space;
 use crate::text;
 use crate::writing::{look_up, one_write, put_changes, read_all, resize_changes, size, Source};
 

@@ -13,7 +13,8 @@ use goofs::image::{Image, LONGEST_TRANSFER};
 use crate::arguments::{self, Arguments};
 use crate::card;
 use crate::changing::{apply, time, NewFile};
-use crate::failure::{no_room, of_call, of_card, of_file, quoted, Failure, Space};
+use crate::failure::{no_room, of_call, of_card, of_file, quoted, Failure};
+use crate::space::Space;
 use crate::text;
 
 /// A size, offset or the like among the places.

@@ -220,7 +220,7 @@ impl NewFile {
     ) -> Result<Change<'c>, Refusal> {
         let id = match self.id {
             Some(id) => id,
-            None => unused_id(image)?,
+            None => image.unused_id()?,
         };
         Ok(Change::Create {
             name,
@@ -229,18 +229,6 @@ impl NewFile {
             time,
         })
     }
-}
-
-/// The number after the greatest id in use, or the lowest that no one has.
-fn unused_id(image: &Image) -> Result<u64, Refusal> {
-    let mut ids: Vec<u64> = image.entries()?.iter().map(|entry| entry.id).collect();
-    ids.push(image.root().id);
-    ids.sort_unstable();
-    let greatest = ids.last().copied().unwrap_or(0);
-    Ok(greatest
-        .checked_add(1)
-        .or_else(|| (1..u64::MAX).find(|id| ids.binary_search(id).is_err()))
-        .expect("at most 1,025 ids are in use"))
 }
 
 pub fn rm(arguments: &Arguments) -> Result<(), Failure> {

@@ -3,7 +3,7 @@
 
 use std::io;
 
-use crate::change::{step, Change, Format, List, Step};
+use crate::change::{step, Change, Format, List, Step, FORMAT_BARRIERS};
 use crate::device::{Device, SECTOR};
 use crate::error::{Error, Interrupted};
 use crate::image::Image;
@@ -131,9 +131,6 @@ impl Sent {
         })
     }
 }
-
-/// The barriers of every format.
-const FORMAT_BARRIERS: u64 = 3;
 
 /// Formats a device. Until the last record has landed, the volume on it is unfinished.
 /// `progress` hears how many records are done.

@@ -3,6 +3,7 @@
 use std::ffi::OsStr;
 use std::fs::{self, OpenOptions};
 use std::io::ErrorKind;
+use std::ops::ControlFlow;
 use std::os::unix::ffi::OsStrExt;
 use std::time::{SystemTime, UNIX_EPOCH};
 
@@ -10,6 +11,7 @@ use goofs::change::{Change, Format};
 use goofs::device::{Device, Disk, SECTOR};
 use goofs::error::{Error, Refusal};
 use goofs::image::Image;
+use goofs::system::{self, Held};
 use goofs::volume::{self, Stage, Volume};
 
 use crate::arguments::Arguments;
@@ -41,6 +43,7 @@ fn mode(arguments: &Arguments, default: u32) -> Result<u32, Failure> {
 pub fn format(arguments: &Arguments) -> Result<(), Failure> {
     let card = &arguments.places(1, 1)?[0];
     let sectors = arguments.number("sectors", 10, u64::MAX)?;
+    let sparse = arguments.flag("sparse");
     let mut request = Format {
         sectors: 0,
         files: arguments.number("files", 10, u64::MAX)?.unwrap_or(255),
@@ -71,7 +74,7 @@ pub fn format(arguments: &Arguments) -> Result<(), Failure> {
             .map_err(of_file(card))?;
         let formatted = Disk::exclusive(file)
             .map_err(of_opening(card))
-            .and_then(|disk| format_disk(card, disk, &request))
+            .and_then(|disk| format_disk(card, disk, &request, sparse))
             .and_then(|()| sync_entry(card).map_err(of_file(card)));
         if formatted.is_err() {
             // Best effort: the file held nothing before, and the failure is told anyway.
@@ -89,7 +92,7 @@ pub fn format(arguments: &Arguments) -> Result<(), Failure> {
                 card.to_string_lossy()
             )));
         }
-        format_disk(card, disk, &request)?;
+        format_disk(card, disk, &request, sparse)?;
     }
     let geometry = request.geometry().map_err(of_format(card, &request))?;
     print_done(
@@ -140,13 +143,24 @@ fn whole_sectors(disk: &Disk, request: &Format) -> Result<(), Refusal> {
     }
 }
 
-fn format_disk(card: &OsStr, mut disk: Disk, request: &Format) -> Result<(), Failure> {
+fn format_disk(
+    card: &OsStr,
+    mut disk: Disk,
+    request: &Format,
+    sparse: bool,
+) -> Result<(), Failure> {
     let length = request
         .sectors
         .checked_mul(SECTOR as u64)
         .ok_or_else(|| of_format(card, request)(Refusal::BadArgument))?;
     let records = request.records().map_err(of_format(card, request))?;
-    disk.lengthen(length).map_err(of_file(card))?;
+    // Without blocks of its own, an image fails when its disk is full, in the middle of a change.
+    match sparse {
+        true => disk.lengthen(length),
+        false => disk.allocate(length),
+    }
+    .map_err(of_file(card))?;
+    let _held = Held::new();
     let mut progress = Progress::new("records", records);
     volume::format(&mut disk, request, &mut |done| progress.at(done)).map_err(|error| match error {
         // There is nothing to recover in a format.
@@ -181,9 +195,17 @@ pub fn apply(volume: &mut Volume<Disk>, changes: &[Change]) -> Result<(), Error>
     let all = changes.len() as u64;
     let mut tried = Progress::new("changes tried", all);
     let mut done = Progress::new("changes done", all);
-    volume.apply(changes, &mut |stage, count| match stage {
-        Stage::Tried => tried.at(count as u64),
-        Stage::Done => done.at(count as u64),
+    // A change that was begun is finished before the program ends.
+    let _held = Held::new();
+    volume.apply_telling(changes, &mut |stage, count| {
+        match stage {
+            Stage::Tried => tried.at(count as u64),
+            Stage::Done => done.at(count as u64),
+        }
+        match system::asked_to_end() {
+            true => ControlFlow::Break(()),
+            false => ControlFlow::Continue(()),
+        }
     })
 }
 
@@ -242,6 +264,7 @@ pub fn rm(arguments: &Arguments) -> Result<(), Failure> {
 pub fn recover(arguments: &Arguments) -> Result<(), Failure> {
     let card = &arguments.places(1, 1)?[0];
     let mut volume = card::volume(card)?;
+    let _held = Held::new();
     let was_cut = volume.recover().map_err(of_card::<Error>(card))?;
     print_done(
         card,

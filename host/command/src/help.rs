@@ -105,7 +105,7 @@ again. On a clean volume there is nothing to do, and nothing is changed.
 ";
 
 pub const FORMAT: &str = "\
-goofs format CARD [--sectors N] [--files F] [--id ID] [--mode M] [--time T] [--yes]
+goofs format CARD [--sectors N] [--files F] [--id ID] [--mode M] [--time T] [--sparse] [--yes]
 
 Makes an empty volume. A CARD that isn't there is made, as an image file; then --sectors is needed.
   --sectors N  the sectors of 512 bytes, 2048 for each MiB; at least 1057 for 255 files; else all of
@@ -114,6 +114,8 @@ Makes an empty volume. A CARD that isn't there is made, as an image file; then -
   --id ID      the root's id; else 1
   --mode M     the root's mode, octal; else 755
   --time T     the root's time, in seconds since 1970; else now
+  --sparse     leave an image file without blocks of its own on the disk until they are written to;
+               when the disk is full, changes then fail. Else the blocks are taken at once
   --yes        needed where CARD holds a volume or other data: they are lost
 
 A format that is cut leaves an unfinished volume: format again. A block device that is mounted is

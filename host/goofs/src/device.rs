@@ -36,6 +36,33 @@ pub trait Device {
     }
 }
 
+/// A lent device: what is opened on it gives it back, also where the opening fails.
+impl<D: Device> Device for &mut D {
+    fn length(&self) -> u64 {
+        D::length(self)
+    }
+
+    fn read(&self, first: u64, into: &mut [u8]) -> io::Result<()> {
+        D::read(self, first, into)
+    }
+
+    fn write(&mut self, first: u64, contents: &[u8]) -> io::Result<()> {
+        D::write(self, first, contents)
+    }
+
+    fn barrier(&mut self) -> io::Result<()> {
+        D::barrier(self)
+    }
+
+    fn forget(&mut self) {
+        D::forget(self)
+    }
+
+    fn map(&self, length: u64) -> Option<Map> {
+        D::map(self, length)
+    }
+}
+
 /// An image in memory.
 #[derive(Clone, Debug, Default)]
 pub struct Memory {

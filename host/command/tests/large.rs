@@ -45,7 +45,7 @@ fn all_commands(gib: u64, extent_bytes: u64) {
     let folder = Folder::new(&format!("{gib}-gib"));
     let card = folder.file("card");
     let sectors = (gib << 21).to_string();
-    let said = good("format", &card, &["--sectors", &sectors]);
+    let said = good("format", &card, &["--sectors", &sectors, "--sparse"]);
     let room: u64 = said
         .split_whitespace()
         .filter_map(|word| word.parse().ok())

@@ -55,6 +55,8 @@ struct Card {
     pages: BTreeMap<u64, [u8; SECTOR]>,
     /// Those of them that the system has still to write.
     unwritten: BTreeSet<u64>,
+    /// Sectors of a page: with one of them all that are shown of it are written.
+    page: u64,
     forgets: Forgets,
     fault: Option<Fault>,
     steps: u64,
@@ -72,6 +74,7 @@ impl Card {
             medium: BTreeMap::new(),
             pages: BTreeMap::new(),
             unwritten: BTreeSet::new(),
+            page: 1,
             forgets: Forgets::All,
             fault: None,
             steps: 0,
@@ -158,7 +161,9 @@ impl Device for Card {
         let count = contents.len() / SECTOR / if fails { 2 } else { 1 };
         for (sector, contents) in (first..).zip(contents.chunks_exact(SECTOR)).take(count) {
             self.pages.insert(sector, contents.try_into().unwrap());
-            self.unwritten.insert(sector);
+            let page = sector / self.page * self.page;
+            let shown = self.pages.range(page..page + self.page);
+            self.unwritten.extend(shown.map(|(sector, _)| sector));
         }
         match self.fails(false) {
             true => Err(io::Error::other("the write failed")),
@@ -421,6 +426,7 @@ fn a_fault_then_the_advice_then_a_cut() {
                 let what = format!("{name}, step {at} fails, {fate:?}, forgets {forgets:?}");
                 let mut failed = card.clone().set(Some(Fault { at, fate }));
                 failed.forgets = forgets;
+                failed.page = if at % 2 == 0 { 1 } else { 8 };
                 let outcome = run(&mut failed, &command);
                 reached = outcome.is_err();
                 if !reached {

@@ -83,6 +83,7 @@ fn main() -> ExitCode {
         let given: Vec<OsString> = env::args_os().skip(1).collect();
         run(given)
     });
+    system::leave_signals_to_others();
     let outcome = match working.map(|thread| thread.join()) {
         Ok(Ok(outcome)) => outcome,
         Ok(Err(panic)) => resume_unwind(panic),

@@ -6,6 +6,7 @@ use std::ffi::c_int;
 use std::fs::File;
 use std::io;
 use std::os::fd::AsRawFd;
+use std::ptr::null_mut;
 use std::sync::atomic::{AtomicI32, Ordering};
 
 pub(crate) const KNOWN: bool = cfg!(all(
@@ -32,7 +33,13 @@ extern "C" {
     fn posix_fallocate(file: c_int, offset: i64, length: i64) -> c_int;
     pub(crate) fn signal(number: c_int, handler: usize) -> usize;
     fn raise(number: c_int) -> c_int;
+    fn pthread_sigmask(how: c_int, set: *const SignalSet, before: *mut SignalSet) -> c_int;
 }
+
+/// A bit for each signal, as the C libraries have it.
+type SignalSet = [u64; 16];
+const SIG_BLOCK: c_int = 0;
+const SIG_UNBLOCK: c_int = 1;
 
 /// Asks the system to forget the pages of this file that it has no more to write, so that they are
 /// read from the medium again. It need not do so.
@@ -115,6 +122,23 @@ impl Drop for Held {
     }
 }
 
+fn mask(how: c_int) {
+    let mut set: SignalSet = [0; 16];
+    for number in ENDING {
+        set[0] |= 1 << (number - 1);
+    }
+    if KNOWN {
+        // It can't fail with these arguments.
+        unsafe { pthread_sigmask(how, &set, null_mut()) };
+    }
+}
+
+/// From now on the signals that ask the program to end come to the other threads, so that one who
+/// works hears of a signal at once. For a thread that only waits for them.
+pub fn leave_signals_to_others() {
+    mask(SIG_BLOCK);
+}
+
 /// Whether a signal that was held asked the program to end.
 pub fn asked_to_end() -> bool {
     CAME.load(Ordering::SeqCst) != 0
@@ -122,6 +146,7 @@ pub fn asked_to_end() -> bool {
 
 /// Ends the program by the signal that was held, as it would have ended it; if none came, goes on.
 pub fn end_as_asked() {
+    mask(SIG_UNBLOCK);
     let number = CAME.swap(0, Ordering::SeqCst);
     if number != 0 {
         unsafe {

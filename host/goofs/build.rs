@@ -24,6 +24,7 @@ fn main() {
         );
         exit(1);
     }
+    println!("cargo:rustc-env=GOOFS_LIBRARY={}", folder.display());
     println!("cargo:rustc-link-search=native={}", folder.display());
     println!("cargo:rustc-link-lib=static=goofs");
 }

@@ -327,6 +327,106 @@ mod tests {
         }
     }
 
+    /// A medium that counts the writes and barriers that come to it.
+    struct Counting {
+        medium: Memory,
+        writes: usize,
+        barriers: usize,
+    }
+
+    impl Device for Counting {
+        fn length(&self) -> u64 {
+            self.medium.length()
+        }
+
+        fn read(&self, first: u64, into: &mut [u8]) -> io::Result<()> {
+            self.medium.read(first, into)
+        }
+
+        fn write(&mut self, first: u64, contents: &[u8]) -> io::Result<()> {
+            self.writes += 1;
+            self.medium.write(first, contents)
+        }
+
+        fn barrier(&mut self) -> io::Result<()> {
+            self.barriers += 1;
+            Ok(())
+        }
+    }
+
+    /// 65,536 bytes into a new file are 135 sectors: 128 of data, two copies, the journal, the start
+    /// mark, entry and table, the end mark. Barriers stay; sectors that follow one another go together.
+    #[test]
+    fn runs_of_sectors_go_out_in_one_write() {
+        let mut counting = Counting {
+            medium: formatted(),
+            writes: 0,
+            barriers: 0,
+        };
+        let mut volume = Volume::open(&mut counting).unwrap();
+        let create = Change::Create {
+            name: b"f",
+            id: 1,
+            mode: 0,
+            time: 2,
+        };
+        volume.apply(&[create]).unwrap();
+        drop(volume);
+        // The superblock at the opening; copies, journal, start mark, root with entry, end mark.
+        assert_eq!((counting.writes, counting.barriers), (1 + 5, 1 + 4));
+        let mut volume = Volume::open(&mut counting).unwrap();
+        let write = Change::Write {
+            name: b"f",
+            offset: 0,
+            data: &[7; 65_536],
+            time: 3,
+        };
+        volume.apply(&[write]).unwrap();
+        let held = volume.image().unwrap().bytes().to_vec();
+        drop(volume);
+        assert_eq!((counting.writes, counting.barriers), (6 + 1 + 7, 5 + 1 + 4));
+        assert!(counting.medium.bytes[..held.len()] == held);
+    }
+
+    /// The caller may stop between two changes; what was done is done.
+    #[test]
+    fn changes_are_stopped() {
+        let create = |name| Change::Create {
+            name,
+            id: u64::from(name[0]),
+            mode: 0,
+            time: 2,
+        };
+        let changes = [create(b"a"), create(b"b"), create(b"c")];
+        for (stage, stop, left) in [
+            (Stage::Tried, 2, 0),
+            (Stage::Done, 1, 1),
+            (Stage::Done, 2, 2),
+        ] {
+            let mut volume = Volume::open(formatted()).unwrap();
+            let outcome = volume.apply_telling(&changes, &mut |at, count| match (at, count)
+                == (stage, stop)
+            {
+                true => ControlFlow::Break(()),
+                false => ControlFlow::Continue(()),
+            });
+            assert!(
+                matches!(outcome, Err(Error::Stopped { changes_done }) if changes_done == left)
+            );
+            let files = volume.image().unwrap().entries().unwrap().len();
+            assert_eq!(files, left);
+            let again = Volume::open(volume.into_device()).unwrap();
+            assert_eq!(again.image().unwrap().entries().unwrap().len(), left);
+        }
+        // After the last there is nothing to stop.
+        let mut volume = Volume::open(formatted()).unwrap();
+        let outcome = volume.apply_telling(&changes, &mut |at, count| match (at, count) {
+            (Stage::Done, 3) => ControlFlow::Break(()),
+            _ => ControlFlow::Continue(()),
+        });
+        assert!(outcome.is_ok());
+    }
+
     /// The image in memory stays what the device holds, and a refused batch writes nothing.
     #[test]
     fn image_and_device_in_step() {

@@ -584,7 +584,6 @@ static void macros(void)
     NUMBER(GOOFS_STATE_WAITING, 1);
     NUMBER(GOOFS_STATE_DAMAGED, 2);
     NUMBER(GOOFS_STATE_UNFINISHED, 3);
-    NUMBER(GOOFS_RECORD, 520);
     NUMBER(GOOFS_CREATE_LIST, 5720);    /* 2 copies, journal, start mark, 2 targets, end mark, 4 barriers: 11 records */
     NUMBER(GOOFS_DELETE_LIST, 546520);  /* 514 copies, 17 journal sectors, 2 marks, 514 targets, 4 barriers: 1,051 */
     NUMBER(GOOFS_RESIZE_LIST, 545480);  /* 513 copies, 17 journal sectors, 2 marks, 513 targets, 4 barriers: 1,049 */

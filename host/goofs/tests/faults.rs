@@ -8,7 +8,7 @@ use std::io;
 use std::ops::Range;
 use std::rc::Rc;
 
-use goofs::change::{Change, Format};
+use goofs::change::{Change, Format, RECORD};
 use goofs::device::{Device, SECTOR};
 use goofs::error::Error;
 use goofs::image::State;
@@ -195,7 +195,7 @@ impl Device for Card {
 }
 
 /// Longer than any list.
-const BUFFER: usize = 2_000 * 520;
+const BUFFER: usize = 2_000 * RECORD;
 
 fn change(request: &Request) -> Change<'_> {
     match request {
@@ -464,6 +464,50 @@ fn a_fault_then_the_advice_then_a_cut() {
     // At least the two steps of the opening and eight of a change, in each way.
     assert!(faults > commands().len() * 10 * WAYS.len(), "{faults}");
     assert!(cuts > 10 * faults, "{cuts}");
+}
+
+/// The recovery after a fault fails in turn, at each of its writes and barriers and at those of its
+/// opening; then it is given again.
+#[test]
+fn a_fault_then_a_recovery_that_fails() {
+    let (card, ledger) = sample();
+    let others = next_changes();
+    let mut faults = 0;
+    for (name, command) in commands() {
+        'fault: for at in 0.. {
+            for (fate, forgets) in [
+                (Fate::AllLost, Forgets::None),
+                (Fate::AllLost, Forgets::All),
+                (Fate::Drawn(at), Forgets::Drawn),
+            ] {
+                let mut failed = card.clone().set(Some(Fault { at, fate }));
+                failed.forgets = forgets;
+                if run(&mut failed, &command).is_ok() {
+                    break 'fault;
+                }
+                for second in 0.. {
+                    let what =
+                        format!("{name}, steps {at} and {second} fail, {fate:?}, {forgets:?}");
+                    let mut again = failed.clone().set(Some(Fault { at: second, fate }));
+                    let outcome = Volume::open(&mut again).and_then(|mut volume| volume.recover());
+                    if outcome.is_ok() {
+                        break;
+                    }
+                    faults += 1;
+                    let mut again = again.set(None);
+                    let seen = recovered(&mut again, ends(&ledger, &command), &what);
+                    let before: Vec<End> = ends(&ledger, &command)
+                        .into_iter()
+                        .filter(|end| end.done == seen[0].done)
+                        .collect();
+                    let next = &others[faults % others.len()];
+                    cut_at_each_step(&again, &before, next, &what);
+                }
+            }
+        }
+    }
+    // At least the two steps of an opening after each of ten steps.
+    assert!(faults > commands().len() * 10 * 3 * 2, "{faults}");
 }
 
 /// The changes are cut at each step. Gives how many cuts there were.

@@ -3,6 +3,7 @@
 use std::ffi::OsStr;
 use std::fs::{self, File};
 use std::io::ErrorKind;
+use std::ops::ControlFlow;
 use std::os::unix::ffi::OsStrExt;
 use std::path::Path;
 use std::time::{SystemTime, UNIX_EPOCH};
@@ -11,6 +12,7 @@ use goofs::change::{Change, Format};
 use goofs::device::{Device, Disk, SECTOR};
 use goofs::error::{Error, Refusal};
 use goofs::image::Image;
+use goofs::system::{self, Held};
 use goofs::volume::{self, Stage, Volume};
 
 use crate::arguments::Arguments;
@@ -160,7 +162,13 @@ fn format_disk(
         .checked_mul(SECTOR as u64)
         .ok_or_else(|| of_format(card, request)(Refusal::BadArgument))?;
     let records = request.records().map_err(of_format(card, request))?;
-    disk.lengthen(length).map_err(of_file(card))?;
+    // Without blocks of its own, an image fails when its disk is full, in the middle of a change.
+    match arguments.flag("sparse") {
+        true => disk.lengthen(length),
+        false => disk.allocate(length),
+    }
+    .map_err(of_file(card))?;
+    let _held = Held::new();
     let mut progress = Progress::new("records", records);
     volume::format(disk, request, &mut |done| progress.at(done)).map_err(|error| match error {
         // There is nothing to recover in a format.
@@ -205,9 +213,17 @@ pub fn apply(volume: &mut Volume<Disk>, changes: &[Change]) -> Result<(), Error>
     let all = changes.len() as u64;
     let mut tried = Progress::new("changes tried", all);
     let mut done = Progress::new("changes done", all);
-    volume.apply(changes, &mut |stage, count| match stage {
-        Stage::Tried => tried.at(count as u64),
-        Stage::Done => done.at(count as u64),
+    // A change that was begun is finished before the program ends.
+    let _held = Held::new();
+    volume.apply_telling(changes, &mut |stage, count| {
+        match stage {
+            Stage::Tried => tried.at(count as u64),
+            Stage::Done => done.at(count as u64),
+        }
+        match system::asked_to_end() {
+            true => ControlFlow::Break(()),
+            false => ControlFlow::Continue(()),
+        }
     })
 }
 
@@ -250,7 +266,7 @@ impl NewFile {
     ) -> Result<Change<'c>, Refusal> {
         let id = match self.id {
             Some(id) => id,
-            None => unused_id(image, new_ids)?,
+            None => image.unused_id(new_ids)?,
         };
         let create = Change::Create {
             name,
@@ -264,19 +280,6 @@ impl NewFile {
     }
 }
 
-/// The number after the greatest id in use, or the lowest that no one has.
-fn unused_id(image: &Image, new_ids: &[u64]) -> Result<u64, Refusal> {
-    let mut ids: Vec<u64> = image.entries()?.iter().map(|entry| entry.id).collect();
-    ids.extend(new_ids);
-    ids.push(image.root().id);
-    ids.sort_unstable();
-    let greatest = ids.last().copied().unwrap_or(0);
-    Ok(greatest
-        .checked_add(1)
-        .or_else(|| (1..u64::MAX).find(|id| ids.binary_search(id).is_err()))
-        .expect("far fewer ids are in use than there are"))
-}
-
 pub fn rm(arguments: &Arguments) -> Result<(), Failure> {
     let places = arguments.places(&["CARD", "NAME"])?;
     let time = time(arguments)?;
@@ -288,6 +291,7 @@ pub fn rm(arguments: &Arguments) -> Result<(), Failure> {
 pub fn recover(arguments: &Arguments) -> Result<(), Failure> {
     let card = &arguments.places(&["CARD"])?[0];
     let mut volume = card::volume(card, arguments.wait()?)?;
+    let _held = Held::new();
     let was_cut = volume.recover().map_err(of_card::<Error>(card))?;
     // Recovery itself does not judge the volume.
     let judged = volume.image().map_err(of_card(card))?.check();

@@ -16,8 +16,10 @@ use crate::text::word;
 /// memory, before the first of its writes is sent to the medium, so that no change is left half done.
 pub const UNREADABLE: &str = "\
 goofs: the medium could not be read: a sector is unreadable, or the card was taken out, or its file
-was made shorter. No change was left half done; of several, as in a put, the first may be done.
-Next: see that the card is in its place, look at it with goofs check, and give the command again.
+was made shorter, or has holes and its disk is full. No change was left half done; of several, as in a
+put, the first may be done.
+Next: see that the card is in its place, and that the disk of an image file has room (df shows that);
+look at the card with goofs check, and give the command again.
 ";
 
 #[derive(Debug)]
@@ -319,6 +321,18 @@ impl fmt::Display for Failure {
                         let next = next.unwrap_or_else(|| after_refusal(*refusal, &card));
                         write!(f, ". Nothing was changed.\nNext: {next}.")
                     }
+                    Error::Unsettled(_) => write!(
+                        f,
+                        "{card}: {error}. Nothing was changed.\n\
+                         Next: see that the card is in the reader, can be written, and that the disk of an \
+                         image file has room; then give the command again. If it fails again, copy what \
+                         can be read (goofs get) and take another card."
+                    ),
+                    Error::Stopped { .. } => write!(
+                        f,
+                        "{card}: {error}. The volume is clean.\n\
+                         Next: see what is done: goofs ls {card}; and give the command again to do the rest."
+                    ),
                     Error::Interrupted(_) => write!(
                         f,
                         "{card}: {error}.\nNext: when the medium can be written again, \
@@ -399,11 +413,13 @@ mod tests {
                 "--sectors 2,",
             ),
             (Error::Unreadable(cause()), "reader"),
+            (Error::Unsettled(cause()), "give the command again"),
+            (Error::Stopped { changes_done: 0 }, "goofs ls 'a card'"),
             (
                 Error::Interrupted(Interrupted {
                     writes: 7,
                     landed: 3,
-                    taken: 1,
+                    sent: 1,
                     changes_done: 0,
                     cause: cause(),
                 }),
@@ -411,14 +427,14 @@ mod tests {
             ),
         ];
         for (error, next) in errors {
-            // A change that was interrupted may have changed something.
-            let is_interrupted = matches!(error, Error::Interrupted(_));
+            // A change that was interrupted may have changed something, and so may those before a stop.
+            let may_change = matches!(error, Error::Interrupted(_) | Error::Stopped { .. });
             let text = of_card(OsStr::new("a card"))(error).to_string();
             let (happened, advice) = text.split_once("\nNext: ").expect("there is an advice");
             assert!(happened.starts_with("'a card': "), "{text}");
             assert_eq!(
                 happened.contains("Nothing was changed"),
-                !is_interrupted,
+                !may_change,
                 "{text}"
             );
             assert!(advice.contains(next), "{text}");

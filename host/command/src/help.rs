@@ -123,7 +123,7 @@ after it, the fault is printed and the exit status is 1.
 ";
 
 pub const FORMAT: &str = "\
-goofs format CARD [--sectors N] [--files F] [--id ID] [--mode M] [--time T] [--yes]
+goofs format CARD [--sectors N] [--files F] [--id ID] [--mode M] [--time T] [--sparse] [--yes]
 
 Makes an empty volume. A CARD that isn't there is made, as an image file; then --sectors is needed.
   --sectors N  the sectors of 512 bytes, 2048 for each MiB; at least 1057 for 255 files; else all of
@@ -132,6 +132,8 @@ Makes an empty volume. A CARD that isn't there is made, as an image file; then -
   --id ID      the root's id; else 1
   --mode M     the root's mode, octal; else 755
   --time T     the root's time, in seconds since 1970; else now
+  --sparse     leave an image file without blocks of its own on the disk until they are written to;
+               when the disk is full, changes then fail. Else the blocks are taken at once
   --yes        needed where CARD holds a volume or other data: they are lost. Without it, the whole
                place of the volume is read first, to see that it holds nothing but zeros
 

@@ -19,7 +19,11 @@ mod writing;
 use std::env;
 use std::ffi::{OsStr, OsString};
 use std::os::unix::ffi::OsStrExt;
+use std::panic::resume_unwind;
 use std::process::ExitCode;
+use std::thread;
+
+use goofs::system;
 
 use arguments::{Arguments, Known};
 use failure::Failure;
@@ -65,7 +69,7 @@ const COMMANDS: [Command; 10] = [
         "format",
         help::FORMAT,
         &["sectors", "files", "id", "mode", "time"],
-        &["yes"],
+        &["sparse", "yes"],
         changing::format,
     ),
     command(
@@ -77,15 +81,35 @@ const COMMANDS: [Command; 10] = [
     ),
 ];
 
+/// A call of the volume code takes some hundred KiB of stack, and the stack that the program is started
+/// with may be smaller.
+const STACK: usize = 8 << 20;
+
 fn main() -> ExitCode {
     goofs::map::end_if_unreadable(failure::UNREADABLE);
-    let given: Vec<OsString> = env::args_os().skip(1).collect();
-    match run(given) {
+    system::report_long_files();
+    let working = thread::Builder::new().stack_size(STACK).spawn(|| {
+        let given: Vec<OsString> = env::args_os().skip(1).collect();
+        run(given)
+    });
+    system::leave_signals_to_others();
+    let outcome = match working.map(|thread| thread.join()) {
+        Ok(Ok(outcome)) => outcome,
+        Ok(Err(panic)) => resume_unwind(panic),
+        Err(error) => Err(Failure::Other(format!(
+            "there is no memory to work with: {error}. Nothing was changed.\n\
+             Next: see whether the memory is limited here (ulimit -v)."
+        ))),
+    };
+    if let Err(failure) = &outcome {
+        output::print_error(&format!("goofs: {failure}\n"));
+    } else if system::asked_to_end() {
+        output::print_error("goofs: asked to end; the command was finished first.\n");
+    }
+    system::end_as_asked();
+    match outcome {
         Ok(()) => ExitCode::SUCCESS,
-        Err(failure) => {
-            output::print_error(&format!("goofs: {failure}\n"));
-            ExitCode::from(failure.status())
-        }
+        Err(failure) => ExitCode::from(failure.status()),
     }
 }
 

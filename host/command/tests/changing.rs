@@ -4,11 +4,14 @@
 mod shared;
 
 use std::fs::{self, File};
+use std::os::unix::fs::MetadataExt;
 use std::path::Path;
 
 use goofs::change::Change;
 use goofs::image::Image;
-use shared::{bad, formatted, good, numbers_of_trial, on_failing_medium, trial, Folder};
+use shared::{
+    bad, formatted, good, numbers_of_trial, on_failing_medium, trial, with_limit, Folder,
+};
 
 /// Puts an empty file on the card with the library, as put does for an empty file.
 fn create(card: &Path, name: &[u8], id: u64) {
@@ -188,6 +191,32 @@ fn a_failing_medium_is_reported() {
     let said = on_failing_medium(100, "format", &new, &["--sectors", "1313"]);
     assert_eq!(said.status, 1);
     assert!(!new.exists());
+}
+
+/// An image file has its blocks from the start, so that its disk can't run full in a change. What it
+/// was asked to leave out stays out.
+#[test]
+fn format_takes_the_blocks_of_an_image() {
+    let folder = Folder::new("blocks");
+    let allocated = |card: &Path| fs::metadata(card).unwrap().blocks() * 512;
+    let length = 8_192 * 512;
+    let new = folder.file("new");
+    good("format", &new, &["--sectors", "8192"]);
+    assert!(allocated(&new) >= length);
+    // A file that is there and has holes.
+    let there = folder.file("there");
+    File::create(&there).unwrap().set_len(length).unwrap();
+    good("format", &there, &[]);
+    assert!(allocated(&there) >= length);
+    let sparse = folder.file("sparse");
+    good("format", &sparse, &["--sectors", "8192", "--sparse"]);
+    assert!(allocated(&sparse) < length / 2);
+    // Where they can't be had nothing is changed: a file that is there keeps its length and bytes.
+    let short = folder.write("short", &[0; 100 * 512]);
+    let said = with_limit("-f 2000", "format", &short, &["--sectors", "8192"]);
+    assert_eq!(said.status, 1);
+    assert!(said.err.contains("Nothing was changed"), "{}", said.err);
+    assert!(fs::read(&short).unwrap() == [0; 100 * 512]);
 }
 
 #[test]

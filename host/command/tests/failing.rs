@@ -149,6 +149,55 @@ fn files_that_can_not_be_written_by_get() {
     assert_eq!(fs::read(&old).unwrap(), [b'x'; 100_000]);
 }
 
+/// A program may be started with a stack that is smaller than a call takes, 322 KiB.
+#[test]
+fn a_small_stack() {
+    let folder = Folder::new("stack");
+    let card = folder.file("card");
+    let source = folder.write("f", &[b'x'; 100_000]);
+    let source = source.to_str().unwrap();
+    let commands: [(&str, &[&str]); 10] = [
+        ("format", &["--sectors", "1313"]),
+        ("put", &[source]),
+        ("info", &[]),
+        ("check", &[]),
+        ("ls", &[]),
+        ("get", &["f"]),
+        ("trial", &["create", "g"]),
+        ("resize", &["f", "10"]),
+        ("recover", &[]),
+        ("rm", &["f"]),
+    ];
+    for (command, rest) in commands {
+        let said = with_limit("-s 256", command, &card, rest);
+        assert_eq!(said.status, 0, "{command}: {}", said.err);
+    }
+}
+
+/// A write past the length that files may have is told, and ends no program by its signal.
+#[test]
+fn files_that_may_not_be_so_long() {
+    let folder = Folder::new("length");
+    let card = with_file(&folder);
+    let run_limited = |words: &[&str]| {
+        let script = "ulimit -f 300; exec \"$@\"";
+        run(Command::new("sh")
+            .args(["-c", script, "sh", env!("CARGO_BIN_EXE_goofs"), words[0]])
+            .arg(&card)
+            .args(&words[1..]))
+    };
+    let said = run_limited(&["rm", "f"]);
+    assert_eq!(said.status, 1);
+    assert!(
+        said.err.contains("the medium failed (File too large")
+            && said.err.contains("goofs recover"),
+        "{}",
+        said.err
+    );
+    assert!(good("recover", &card, &[]).starts_with("nothing to do"));
+    good("rm", &card, &["f"]);
+}
+
 /// For each kind of error the number, where it is a refusal, and a word of the advice.
 #[test]
 fn errors_say_what_to_do_next() {

@@ -46,7 +46,7 @@ fn all_commands(gib: u64, extent_bytes: u64) {
     let folder = Folder::new(&format!("{gib}-gib"));
     let card = folder.file("card");
     let sectors = (gib << 21).to_string();
-    let said = good("format", &card, &["--sectors", &sectors]);
+    let said = good("format", &card, &["--sectors", &sectors, "--sparse"]);
     let room: u64 = said
         .split_whitespace()
         .filter_map(|word| word.parse().ok())
@@ -119,7 +119,11 @@ fn all_commands(gib: u64, extent_bytes: u64) {
 fn a_trial_on_a_full_card() {
     let folder = Folder::new("full-card");
     let card = folder.file("card");
-    good("format", &card, &["--sectors=8389408", "--time=1"]);
+    good(
+        "format",
+        &card,
+        &["--sectors=8389408", "--time=1", "--sparse"],
+    );
     let source = folder.write("f", &[1; 3_000]);
     let source = source.to_str().unwrap();
     good("put", &card, &[source]);
@@ -161,7 +165,7 @@ fn a_format_of_a_sparse_image() {
     let said = on("format", &card, &[]);
     let place = format!("other data, from byte {}", 300_u64 << 30);
     assert!(said.status == 1 && said.err.contains(&place), "{said:?}");
-    good("format", &card, &["--sectors=600000000"]);
+    good("format", &card, &["--sectors=600000000", "--sparse"]);
     // Reading 300 GiB of zeros takes far longer.
     assert!(begun.elapsed() < Duration::from_secs(15));
 }

@@ -203,10 +203,10 @@ fn a_failing_medium_leaves_a_sound_volume() {
     let file = folder.write("source", &pattern(1_500, 5));
     let said = on_failing_medium(300, "put", &card, &[file.to_str().unwrap(), "--as=f"]);
     assert_eq!(said.status, 1);
-    // Three data sectors, one copy, one journal sector, two marks and one target.
+    // Three data sectors, one copy, which fails, one journal sector, two marks and one target.
     assert!(
         said.err
-            .contains("of 8 sector writes 0 are on it, 3 more may be"),
+            .contains("of 8 sector writes 0 are on it, 4 more may be"),
         "{}",
         said.err
     );

@@ -247,7 +247,7 @@ impl NewFile {
     ) -> Result<Change<'c>, Refusal> {
         let id = match self.id {
             Some(id) => id,
-            None => image.unused_id()?,
+            None => image.unused_id(&[])?,
         };
         Ok(Change::Create {
             name,

@@ -14,7 +14,7 @@ fn main() {
     let mut medium = Memory::of_sectors(1_313);
     volume::format(&mut medium, &format, &mut |_| ()).unwrap();
     let mut volume = Volume::open(medium).unwrap();
-    let id = volume.image().unwrap().unused_id().unwrap();
+    let id = volume.image().unwrap().unused_id(&[]).unwrap();
     volume.apply(&[Change::Create { name: b"gain", id, mode: 0, time: 2 }]).unwrap();
     println!("{} {id}", volume.image().unwrap().entries().unwrap().len());
 }

@@ -93,8 +93,8 @@ static void done(const char *what, uint64_t code)
 }
 
 /* Waits until the medium has everything. The system may keep writes back and change their order, and what stands behind a barrier
- * relies on all before it: the start mark on the copies and the journal, the targets on the start mark, the end mark on the targets.
- * If it fails nothing more may be written; the next start sees to it. */
+ * relies on all before it: the start mark on the copies and the journal, the targets on the start mark, the end mark on the
+ * targets. If it fails nothing more may be written; the next start sees to it. */
 static void barrier(const struct card *card)
 {
     if (fdatasync(card->file) != 0)
@@ -238,8 +238,8 @@ static void start(struct card *card)
     goofs_summary_result summary;
     goofs_check_result check;
 
-    /* What the system shows may not be on the medium, if a barrier has failed or a program was ended. It is asked to forget that; but
-     * it need not, so a mark is sent again before anything rests on it (see goofs.h). */
+    /* What the system shows may not be on the medium, if a barrier has failed or a program was ended. It is asked to forget that;
+     * but it need not, so a mark is sent again before anything rests on it (see goofs.h). */
     (void)posix_fadvise(card->file, 0, 0, POSIX_FADV_DONTNEED);
     load(card);
     summary = goofs_summary(card->image, card->length);
@@ -284,8 +284,8 @@ static void save(struct card *card, const char *text)
         failure("the text is too long");
     memcpy(calibration, text, strlen(text));
     if (find(card).code == GOOFS_NOT_THERE) {
-        /* The name is not there, so here GOOFS_ALREADY_THERE means that the id is taken. Only the root and the files have ids, and a refusal
-         * changes nothing: a free id is found after at most one attempt for each of them. */
+        /* The name is not there, so here GOOFS_ALREADY_THERE means that the id is taken. Only the root and the files have ids, and
+         * a refusal changes nothing: a free id is found after at most one attempt for each of them. */
         uint64_t id = 0;
         do {
             id++;

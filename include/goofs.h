@@ -7,26 +7,27 @@
  * `code` is a number of `enum goofs_code`; the lowest whose condition holds is given. With any code but 0 all other result numbers
  * are 0 (except fault and place with 7) and no byte of a buffer has changed.
  *
- * A changing call reads the image and fills a write list with records of GOOFS_RECORD bytes: a big-endian sector number (8), contents
- * (512). Number 2^64 - 1 with 512 zero bytes is a barrier: nothing behind it may reach the medium before all that stands before it has.
- * Between two barriers the order is free, and sectors that follow one another may go out in one write. `length` is the list's length
- * in bytes; 0 means that nothing is to be written. Bytes past it stay.
+ * A changing call reads the image and fills a write list with records of GOOFS_RECORD bytes: a big-endian sector number (8),
+ * contents (512). Number 2^64 - 1 with 512 zero bytes is a barrier: nothing behind it may reach the medium before all that stands
+ * before it has. Between two barriers the order is free, and sectors that follow one another may go out in one write. `length` is the
+ * list's length in bytes; 0 means that nothing is to be written. Bytes past it stay.
  *
  * A list belongs to the image that it was asked for: it lands whole before the next call, which is given the image with it
  * (goofs_carry_out does that to an image in memory). Its first write of the superblock is the start mark: a change that is cut
  * before it is not done, one that is cut after it is finished by recovery.
  *
- * If a write or barrier fails, write nothing more, and start over. What a system that holds writes back shows then need not be on the
- * medium, and may never get there: on Linux a failed fdatasync leaves pages marked as written, and the next one succeeds without
- * them. The same goes for a program that was ended in the middle of a list. So at each start, before the first list:
+ * If a write or barrier fails, write nothing more, and start over. What a system that holds writes back shows then need not be on
+ * the medium, and may never get there: on Linux a failed fdatasync leaves pages marked as written, and the next one succeeds
+ * without them. The same goes for a program that was ended in the middle of a list. So at each start, before the first list:
  *
- *    - let the system forget what it keeps of the medium, where it can (posix_fadvise with POSIX_FADV_DONTNEED), and read the image;
+ *    - let the system forget what it keeps of the medium, where it can (posix_fadvise with POSIX_FADV_DONTNEED), and read the
+ *      image;
  *    - if its state is clean or waiting, write sector 0 again as it was read, and put up a barrier: no list may rest on a mark that
  *      is not on the medium. (Leave an unfinished or damaged volume alone.)
  *
- * Programs that share a volume agree on a lock: who changes it holds flock(2) with LOCK_EX on the image file or device, from before the
- * image is read until the last list has landed; who only reads it holds LOCK_SH. The command goofs and examples/detector.c do so. A
- * program without it would finish, or build on, a change that another has under way, and the volume would be lost.
+ * Programs that share a volume agree on a lock: who changes it holds flock(2) with LOCK_EX on the image file or device, from before
+ * the image is read until the last list has landed; who only reads it holds LOCK_SH. The command goofs and examples/detector.c do
+ * so. A program without it would finish, or build on, a change that another has under way, and the volume would be lost.
  *
  * A name is its bytes, without a 0 at the end. examples/detector.c is a whole program.
  */
@@ -71,9 +72,9 @@ enum goofs_code {
     GOOFS_WAITING = 5,           /* a change was cut; recover first */
     GOOFS_DAMAGED = 6,           /* volume damaged, or in recovery a bad journal entry */
     GOOFS_NOT_SOUND = 7,         /* `fault` and `place` (a file index, for GOOFS_FAULT_TABLE an extent) go with it */
-    GOOFS_BAD_ARGUMENT = 8,      /* a name that isn't 1 to 476 bytes without 0; create with id 0; a read or write of more than 65,536
-                                  * bytes; a resize that grows by more than that; a list index past the directory; a format
-                                  * without a geometry; a bad record */
+    GOOFS_BAD_ARGUMENT = 8,      /* a name that isn't 1 to 476 bytes without 0; create with id 0; a read or write of more than
+                                  * 65,536 bytes; a resize that grows by more than that; a list index past the directory; a
+                                  * format without a geometry; a bad record */
     GOOFS_NOT_THERE = 9,         /* no such name, listed entry is free, or format position past the last record */
     GOOFS_ALREADY_THERE = 10,    /* create: name already there, or id an occupied entry's or the root's */
     GOOFS_DIRECTORY_FULL = 11,   /* create: no free entry */
@@ -168,8 +169,8 @@ goofs_change_result goofs_write(const uint8_t *image, size_t image_length, const
  * GOOFS_RECOVER_LIST. It may itself be cut and asked for again. */
 goofs_length_result goofs_recover(const uint8_t *image, size_t image_length, uint8_t *list, size_t list_length);
 
-/* Record `position`, from 0 on, of the format of a medium of so many sectors, to `out` (GOOFS_RECORD bytes); all of them, landed in order,
- * are the format. Gives 0, 8, 9 (past the last record) and 14. */
+/* Record `position`, from 0 on, of the format of a medium of so many sectors, to `out` (GOOFS_RECORD bytes); all of them, landed in
+ * order, are the format. Gives 0, 8, 9 (past the last record) and 14. */
 goofs_length_result goofs_format_record(uint64_t sectors, uint64_t files, uint64_t id, uint32_t mode, uint32_t time,
                                         uint64_t position, uint8_t *out, size_t out_length);
 

@@ -1,15 +1,15 @@
 /* A card that fails, between a program and an image file: built as a shared object and put before the C library with LD_PRELOAD.
  *
- * The file $CARD is what the system shows, the file $MEDIUM what is on the medium. A write goes to the first; a barrier brings it to the
- * second. With $AT, that write or barrier, counted from 0, does what $FAULT says:
+ * The file $CARD is what the system shows, the file $MEDIUM what is on the medium. A write goes to the first; a barrier brings it
+ * to the second. With $AT, that write or barrier, counted from 0, does what $FAULT says:
  *
  *     lost     fails, and what has not passed a barrier never gets to the medium, though it is shown and later barriers succeed
  *     landed   fails, and all of it gets there
  *     cut      the power goes, and every second sector of it gets there; the file $CARD is then what is on the medium
  *     signal   Ctrl-C is pressed, and it goes on
  *
- * With FORGETS=1 the system forgets what it shows when it is asked to (posix_fadvise). Sectors that have not passed a barrier when the
- * program ends are lost. */
+ * With FORGETS=1 the system forgets what it shows when it is asked to (posix_fadvise). Sectors that have not passed a barrier when
+ * the program ends are lost. */
 #define _GNU_SOURCE
 #include <dlfcn.h>
 #include <errno.h>
@@ -40,7 +40,9 @@ static int is_card(int file)
     struct stat one, other;
     const char *card = getenv("CARD");
 
-    return card != NULL && stat(card, &other) == 0 && fstat(file, &one) == 0 && one.st_dev == other.st_dev && one.st_ino == other.st_ino;
+    if (card == NULL || stat(card, &other) != 0 || fstat(file, &one) != 0)
+        return 0;
+    return one.st_dev == other.st_dev && one.st_ino == other.st_ino;
 }
 
 static ssize_t real_pwrite(int file, const void *bytes, size_t count, off64_t at)
@@ -102,6 +104,22 @@ ssize_t pwrite64(int file, const void *bytes, size_t count, off64_t at)
     for (i = 0; i < count / SECTOR; i++)
         unwritten[(size_t)at / SECTOR + i] = 1;
     return real_pwrite(file, bytes, count, at);
+}
+
+/* Tells in the file $SYNCED that a folder was synced. */
+int fsync(int file)
+{
+    static int (*real)(int);
+    struct stat about;
+    const char *synced = getenv("SYNCED");
+
+    if (real == NULL)
+        *(void **)&real = dlsym(RTLD_NEXT, "fsync");
+    if (synced != NULL && fstat(file, &about) == 0 && S_ISDIR(about.st_mode)) {
+        FILE *told = fopen(synced, "a");
+        must(told != NULL && fprintf(told, "%ju\n", (uintmax_t)about.st_ino) > 0 && fclose(told) == 0, synced);
+    }
+    return real(file);
 }
 
 int fdatasync(int file)

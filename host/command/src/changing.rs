@@ -213,14 +213,19 @@ pub fn apply(volume: &mut Volume<Disk>, changes: &[Change]) -> Result<(), Error>
     let all = changes.len() as u64;
     let mut tried = Progress::new("changes tried", all);
     let mut done = Progress::new("changes done", all);
-    // A change that was begun is finished before the program ends.
-    let _held = Held::new();
+    // A change that was begun is finished before the program ends. While changes are tried nothing is
+    // written, and it may end at once.
+    let mut held = (all == 1).then(Held::new);
     volume.apply_telling(changes, &mut |stage, count| {
+        let count = count as u64;
         match stage {
-            Stage::Tried => tried.at(count as u64),
-            Stage::Done => done.at(count as u64),
+            Stage::Tried => {
+                tried.at(count);
+                held = (count == all).then(Held::new);
+            }
+            Stage::Done => done.at(count),
         }
-        match system::asked_to_end() {
+        match held.is_some() && system::asked_to_end() {
             true => ControlFlow::Break(()),
             false => ControlFlow::Continue(()),
         }

@@ -10,7 +10,7 @@ use std::path::Path;
 use goofs::change::Change;
 use goofs::image::Image;
 use shared::{
-    bad, formatted, good, numbers_of_trial, on_failing_medium, trial, with_limit, Folder,
+    bad, formatted, good, numbers_of_trial, on, on_failing_medium, trial, with_limit, Folder,
 };
 
 /// Puts an empty file on the card with the library, as put does for an empty file.
@@ -217,6 +217,13 @@ fn format_takes_the_blocks_of_an_image() {
     assert_eq!(said.status, 1);
     assert!(said.err.contains("Nothing was changed"), "{}", said.err);
     assert!(fs::read(&short).unwrap() == [0; 100 * 512]);
+    // More than any disk has: the one here is not filled before that is told.
+    let huge = folder.file("huge");
+    File::create(&huge).unwrap().set_len(15 << 40).unwrap();
+    let said = on("format", &huge, &[]);
+    assert_eq!(said.status, 1);
+    assert!(said.err.contains("No space left"), "{}", said.err);
+    assert!(allocated(&huge) < length);
 }
 
 #[test]

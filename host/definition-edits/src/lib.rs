@@ -19,25 +19,16 @@ fn repository() -> PathBuf {
 
 /// Reads `edits/NAME.edit`: lines that start with '#' are comments; `file:`, `old:` and `new:` have a line each.
 fn edit(name: &str) -> Edit {
-    let path = PathBuf::from(env!("CARGO_MANIFEST_DIR"))
-        .join("edits")
-        .join(format!("{name}.edit"));
+    let path = PathBuf::from(env!("CARGO_MANIFEST_DIR")).join("edits").join(format!("{name}.edit"));
     let text = fs::read_to_string(&path).unwrap_or_else(|e| panic!("{}: {e}", path.display()));
     let field = |key: &str| {
         let prefix = format!("{key}: ");
         let mut lines = text.lines().filter_map(|l| l.strip_prefix(&prefix));
-        let value = lines
-            .next()
-            .unwrap_or_else(|| panic!("{name}: no line '{key}:'"))
-            .to_string();
+        let value = lines.next().unwrap_or_else(|| panic!("{name}: no line '{key}:'")).to_string();
         assert!(lines.next().is_none(), "{name}: two lines '{key}:'");
         value
     };
-    Edit {
-        file: field("file"),
-        old: field("old"),
-        new: field("new"),
-    }
+    Edit { file: field("file"), old: field("old"), new: field("new") }
 }
 
 fn copy_folder(from: &Path, to: &Path) {
@@ -58,59 +49,31 @@ fn copy_folder(from: &Path, to: &Path) {
 /// Proves the crate `by` over the edited definitions, and gives the first error of the log, or None if it is proved.
 fn first_error(name: &str, by: &str) -> Option<String> {
     let edit = edit(name);
-    let folder =
-        std::env::temp_dir().join(format!("definition-edits-{}-{name}", std::process::id()));
+    let folder = std::env::temp_dir().join(format!("definition-edits-{}-{name}", std::process::id()));
     let _ = fs::remove_dir_all(&folder);
     for part in ["model", "laws", by] {
-        copy_folder(
-            &repository().join("crates").join(part),
-            &folder.join("crates").join(part),
-        );
+        copy_folder(&repository().join("crates").join(part), &folder.join("crates").join(part));
     }
-    fs::write(
-        folder.join("crates.txt"),
-        format!("model:\nlaws: model\n{by}: model laws\n"),
-    )
-    .expect("crates.txt is written");
+    fs::write(folder.join("crates.txt"), format!("model:\nlaws: model\n{by}: model laws\n")).expect("crates.txt is written");
 
     let file = folder.join("crates/model").join(&edit.file);
-    let text =
-        fs::read_to_string(&file).unwrap_or_else(|e| panic!("{name}: {}: {e}", file.display()));
-    assert_eq!(
-        text.matches(&edit.old).count(),
-        1,
-        "{name}: '{}' stands once in {}",
-        edit.old,
-        edit.file
-    );
+    let text = fs::read_to_string(&file).unwrap_or_else(|e| panic!("{name}: {}: {e}", file.display()));
+    assert_eq!(text.matches(&edit.old).count(), 1, "{name}: '{}' stands once in {}", edit.old, edit.file);
     fs::write(&file, text.replace(&edit.old, &edit.new)).expect("the edit is written");
 
-    let run = Command::new("rt")
-        .args(["check", by])
-        .current_dir(&folder)
-        .env("RT_JOBS", "1")
-        .output()
-        .expect("rt runs");
-    let log =
-        String::from_utf8_lossy(&run.stdout).into_owned() + &String::from_utf8_lossy(&run.stderr);
+    let run = Command::new("rt").args(["check", by]).current_dir(&folder).env("RT_JOBS", "1").output().expect("rt runs");
+    let log = String::from_utf8_lossy(&run.stdout).into_owned() + &String::from_utf8_lossy(&run.stderr);
     let _ = fs::remove_dir_all(&folder);
     if run.status.success() {
         return None;
     }
-    let error = log
-        .lines()
-        .find(|l| l.contains("error"))
-        .unwrap_or_else(|| panic!("{name}: refused without an error:\n{log}"));
+    let error = log.lines().find(|l| l.contains("error")).unwrap_or_else(|| panic!("{name}: refused without an error:\n{log}"));
     Some(error.to_string())
 }
 
 /// The edit `name` of the definitions is refused by a proof of the crate `by`.
 pub fn refused(name: &str, by: &str) {
-    let error = first_error(name, by)
-        .unwrap_or_else(|| panic!("{name}: the edited definitions are proved"));
+    let error = first_error(name, by).unwrap_or_else(|| panic!("{name}: the edited definitions are proved"));
     println!("{name}: {}", error.chars().take(300).collect::<String>());
-    assert!(
-        error.contains("/proofs/"),
-        "{name}: refused, but not in a proof: {error}"
-    );
+    assert!(error.contains("/proofs/"), "{name}: refused, but not in a proof: {error}");
 }

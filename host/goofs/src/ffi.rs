@@ -48,28 +48,39 @@ results! {
 /// Declares a call and puts a safe function around it. In C a slice is a pointer and a length, which
 /// its function takes apart; numbers go through as they are.
 macro_rules! calls {
-    ($($(#[$about:meta])* $call:ident is $symbol:ident($($argument:ident: $kind:ident),*) -> $answer:ty;)*) => {$(
+    ($(
+        $(#[$about:meta])*
+        $call:ident is $symbol:ident($($argument:ident: $kind:ident),*) -> $answer:ty;
+    )*) => {$(
         calls! { @ [$(#[$about])*] $call $symbol $answer; [] [] []; $($argument: $kind,)* }
     )*};
-    (@ $about:tt $call:ident $symbol:ident $answer:ty; [$($type:ty,)*] [$($parameter:tt)*] [$($given:expr,)*];
+    (@ $about:tt $call:ident $symbol:ident $answer:ty;
+        [$($type:ty,)*] [$($parameter:tt)*] [$($given:expr,)*];
         $slice:ident: bytes, $($rest:tt)*) => {
         calls! { @ $about $call $symbol $answer;
-            [$($type,)* *const u8, usize,] [$($parameter)* $slice: &[u8],] [$($given,)* $slice.as_ptr(), $slice.len(),];
+            [$($type,)* *const u8, usize,]
+            [$($parameter)* $slice: &[u8],]
+            [$($given,)* $slice.as_ptr(), $slice.len(),];
             $($rest)* }
     };
-    (@ $about:tt $call:ident $symbol:ident $answer:ty; [$($type:ty,)*] [$($parameter:tt)*] [$($given:expr,)*];
+    (@ $about:tt $call:ident $symbol:ident $answer:ty;
+        [$($type:ty,)*] [$($parameter:tt)*] [$($given:expr,)*];
         $slice:ident: buffer, $($rest:tt)*) => {
         calls! { @ $about $call $symbol $answer;
-            [$($type,)* *mut u8, usize,] [$($parameter)* $slice: &mut [u8],] [$($given,)* $slice.as_mut_ptr(), $slice.len(),];
+            [$($type,)* *mut u8, usize,]
+            [$($parameter)* $slice: &mut [u8],]
+            [$($given,)* $slice.as_mut_ptr(), $slice.len(),];
             $($rest)* }
     };
-    (@ $about:tt $call:ident $symbol:ident $answer:ty; [$($type:ty,)*] [$($parameter:tt)*] [$($given:expr,)*];
+    (@ $about:tt $call:ident $symbol:ident $answer:ty;
+        [$($type:ty,)*] [$($parameter:tt)*] [$($given:expr,)*];
         $number:ident: $width:ident, $($rest:tt)*) => {
         calls! { @ $about $call $symbol $answer;
             [$($type,)* $width,] [$($parameter)* $number: $width,] [$($given,)* $number,];
             $($rest)* }
     };
-    (@ [$(#[$about:meta])*] $call:ident $symbol:ident $answer:ty; [$($type:ty,)*] [$($parameter:tt)*] [$($given:expr,)*];) => {
+    (@ [$(#[$about:meta])*] $call:ident $symbol:ident $answer:ty;
+        [$($type:ty,)*] [$($parameter:tt)*] [$($given:expr,)*];) => {
         extern "C" {
             fn $symbol($(_: $type),*) -> $answer;
         }
@@ -95,19 +106,27 @@ calls! {
     list is goofs_list(image: bytes, index: u64, output: buffer) -> ListAnswer;
 
     /// Copies at most `count` bytes of the file from this offset on to the output.
-    read is goofs_read(image: bytes, name: bytes, offset: u64, count: u64, output: buffer) -> ReadAnswer;
+    read is goofs_read(
+        image: bytes, name: bytes, offset: u64, count: u64, output: buffer
+    ) -> ReadAnswer;
 
     /// A new empty file in the lowest free entry.
-    create is goofs_create(image: bytes, name: bytes, id: u64, mode: u32, time: u32, list: buffer) -> ChangeAnswer;
+    create is goofs_create(
+        image: bytes, name: bytes, id: u64, mode: u32, time: u32, list: buffer
+    ) -> ChangeAnswer;
 
     /// Frees the file's entry and its extents.
     delete is goofs_delete(image: bytes, name: bytes, time: u32, list: buffer) -> ChangeAnswer;
 
     /// Gives the file another size; what is added at its end is zero.
-    resize is goofs_resize(image: bytes, name: bytes, size: u64, time: u32, list: buffer) -> ChangeAnswer;
+    resize is goofs_resize(
+        image: bytes, name: bytes, size: u64, time: u32, list: buffer
+    ) -> ChangeAnswer;
 
     /// Writes the data at an offset up to the size.
-    write is goofs_write(image: bytes, name: bytes, offset: u64, data: bytes, time: u32, list: buffer) -> ChangeAnswer;
+    write is goofs_write(
+        image: bytes, name: bytes, offset: u64, data: bytes, time: u32, list: buffer
+    ) -> ChangeAnswer;
 
     /// The list that finishes an interrupted change; empty for a clean volume.
     recover is goofs_recover(image: bytes, list: buffer) -> RecoverAnswer;

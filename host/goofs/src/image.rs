@@ -306,11 +306,11 @@ impl Image {
             .collect())
     }
 
-    /// An id for a new file: the number after the greatest in use, or the lowest that no one has. Ids
-    /// that other files are to get count as used.
-    pub fn unused_id(&self, others: &[u64]) -> Result<u64, Refusal> {
+    /// An id for a new file, beside others with these ids that are not on the volume yet: the number
+    /// after the greatest in use, or the lowest that no one has.
+    pub fn unused_id(&self, new_ids: &[u64]) -> Result<u64, Refusal> {
         let mut ids: Vec<u64> = self.entries()?.iter().map(|entry| entry.id).collect();
-        ids.extend(others);
+        ids.extend(new_ids);
         ids.push(self.root().id);
         ids.sort_unstable();
         let greatest = ids.last().copied().unwrap_or(0);

@@ -6,6 +6,7 @@ use std::ffi::c_int;
 use std::fs::File;
 use std::io;
 use std::os::fd::AsRawFd;
+use std::os::unix::fs::MetadataExt;
 use std::ptr::null_mut;
 use std::sync::atomic::{AtomicI32, Ordering};
 
@@ -22,6 +23,7 @@ const SEEK_DATA: c_int = 3;
 const EINTR: c_int = 4;
 /// There is no byte behind this place that is not in a hole.
 const ENXIO: i32 = 6;
+const ENOSPC: c_int = 28;
 const EOPNOTSUPP: c_int = 95;
 const SIGHUP: c_int = 1;
 const SIGINT: c_int = 2;
@@ -35,6 +37,7 @@ extern "C" {
     fn posix_fadvise(file: c_int, offset: i64, length: i64, advice: c_int) -> c_int;
     fn posix_fallocate(file: c_int, offset: i64, length: i64) -> c_int;
     fn lseek(file: c_int, offset: i64, whence: c_int) -> i64;
+    fn fstatvfs(file: c_int, about: *mut FileSystem) -> c_int;
     pub(crate) fn signal(number: c_int, handler: usize) -> usize;
     fn raise(number: c_int) -> c_int;
     fn pthread_sigmask(how: c_int, set: *const SignalSet, before: *mut SignalSet) -> c_int;
@@ -54,14 +57,46 @@ pub(crate) fn forget_pages(file: &File) {
     }
 }
 
+/// What the system says of the file system that a file is on. The C libraries have more behind it.
+#[repr(C)]
+struct FileSystem {
+    block_bytes: u64,
+    fragment_bytes: u64,
+    /// These are counted in fragments.
+    blocks: u64,
+    free: u64,
+    free_for_users: u64,
+    more: [u64; 16],
+}
+
+/// How many bytes the file's disk has left for it, if the system knows.
+fn free_bytes(file: &File) -> Option<u64> {
+    let mut about = FileSystem {
+        block_bytes: 0,
+        fragment_bytes: 0,
+        blocks: 0,
+        free: 0,
+        free_for_users: 0,
+        more: [0; 16],
+    };
+    let told = unsafe { fstatvfs(file.as_raw_fd(), &mut about) } == 0;
+    // A file system without a bound has no blocks.
+    (told && about.blocks > 0).then(|| about.free_for_users.saturating_mul(about.fragment_bytes))
+}
+
 /// Gives the first bytes of a file their blocks on the disk; a shorter file becomes so long. Gives
-/// whether the system could be asked for it.
+/// whether the system could be asked for it. It is not asked for more than there is: it would take all
+/// there is before it fails.
 pub(crate) fn allocate(file: &File, length: u64) -> io::Result<bool> {
     let Ok(length) = i64::try_from(length) else {
         return Err(io::ErrorKind::FileTooLarge.into());
     };
     if !KNOWN {
         return Ok(false);
+    }
+    let missing = (length as u64).saturating_sub(file.metadata()?.blocks() * 512);
+    if free_bytes(file).is_some_and(|free| free < missing) {
+        return Err(io::Error::from_raw_os_error(ENOSPC));
     }
     loop {
         match unsafe { posix_fallocate(file.as_raw_fd(), 0, length) } {

@@ -103,6 +103,8 @@ fn a_free_id_is_found() {
     // The id of file 1,023, which is there, is the greatest.
     let id = image.unused_id(&[]).unwrap();
     assert_eq!(id, 1_000_000_007 * 1_024 + 1);
+    // Several files may be made at once.
+    assert_eq!(image.unused_id(&[id]), Ok(id + 1));
     let greatest = Change::Create {
         name: b"greatest",
         id: u64::MAX,
@@ -112,6 +114,7 @@ fn a_free_id_is_found() {
     carry_out(&mut image, &greatest);
     // There is none after it; 1 is free.
     assert_eq!(image.unused_id(&[]), Ok(1));
+    assert_eq!(image.unused_id(&[1, 2]), Ok(3));
 }
 
 fn least(mut work: impl FnMut()) -> Duration {

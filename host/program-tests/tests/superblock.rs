@@ -11,14 +11,8 @@ struct Superblock {
     journal_length: u16,
 }
 
-const SAMPLE: Superblock = Superblock {
-    files: 255,
-    extents: 4,
-    extent_sectors: 128,
-    magic: *b"/Goo/FS/",
-    version: 1,
-    journal_length: 0,
-};
+const SAMPLE: Superblock =
+    Superblock { files: 255, extents: 4, extent_sectors: 128, magic: *b"/Goo/FS/", version: 1, journal_length: 0 };
 
 impl Superblock {
     fn bytes(&self) -> Vec<u8> {
@@ -39,11 +33,7 @@ impl Superblock {
 
     /// The nine lines, by the layout's table.
     fn expected(&self, state: &str) -> String {
-        let (f, n, s) = (
-            self.files as u64,
-            self.extents as u64,
-            self.extent_sectors as u64,
-        );
+        let (f, n, s) = (self.files as u64, self.extents as u64, self.extent_sectors as u64);
         let t = n.div_ceil(128);
         let k = (t + 2).div_ceil(s);
         format!(
@@ -67,12 +57,7 @@ fn geometries_at_their_bounds() {
     for files in [255, 256, 1024] {
         for extents in [2, 127, 128, 129, 65535] {
             for extent_sectors in sizes {
-                let s = Superblock {
-                    files,
-                    extents,
-                    extent_sectors,
-                    ..SAMPLE
-                };
+                let s = Superblock { files, extents, extent_sectors, ..SAMPLE };
                 assert_eq!(s.printed(), s.expected("clean"));
             }
         }
@@ -81,10 +66,7 @@ fn geometries_at_their_bounds() {
 
 #[test]
 fn states() {
-    let with = |journal_length| Superblock {
-        journal_length,
-        ..SAMPLE
-    };
+    let with = |journal_length| Superblock { journal_length, ..SAMPLE };
     for n in [1, 2, 513, 1023, 1024] {
         assert_eq!(with(n).printed(), SAMPLE.expected(&format!("waiting {n}")));
     }
@@ -122,25 +104,13 @@ fn refused_3_for_the_bounds() {
         assert_eq!(Superblock { extents, ..SAMPLE }.printed(), "refused 3\n");
     }
     for extent_sectors in [0, 1, 127] {
-        assert_eq!(
-            Superblock {
-                extent_sectors,
-                ..SAMPLE
-            }
-            .printed(),
-            "refused 3\n"
-        );
+        assert_eq!(Superblock { extent_sectors, ..SAMPLE }.printed(), "refused 3\n");
     }
 }
 
 #[test]
 fn the_lowest_refusal_is_given() {
-    let s = Superblock {
-        files: 0,
-        magic: *b"/Goo/FS.",
-        journal_length: 65535,
-        ..SAMPLE
-    };
+    let s = Superblock { files: 0, magic: *b"/Goo/FS.", journal_length: 65535, ..SAMPLE };
     assert_eq!(s.printed(), "refused 2\n");
     assert_eq!(run("superblock", &s.bytes()[..511]), "refused 1\n");
 }

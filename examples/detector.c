@@ -18,6 +18,7 @@
 #include <stdio.h>
 #include <stdlib.h>
 #include <string.h>
+#include <sys/file.h>
 #include <sys/types.h>
 #include <time.h>
 #include <unistd.h>
@@ -33,7 +34,6 @@ static const uint8_t name[] = "calibration";
 enum { NAME_LENGTH = sizeof name - 1 };
 
 enum { FILES = 255, ROOT_ID = 1, MODE = 0644 };
-enum { WAITING = 1 }; /* a state of the summary */
 
 /* The fourteen refusals, by their numbers. */
 static const char *const refusals[] = {
@@ -62,8 +62,8 @@ static union {
     uint8_t recover[GOOFS_RECOVER_LIST];
 } list;
 
-/* The image file, and all its bytes in memory: the calls read the image there. No other program may change the file meanwhile,
- * as a list fits only the image that it was asked for. */
+/* The image file, and all its bytes in memory: the calls read the image there. The file is locked as long as it is open, as a list
+ * fits only the image that it was asked for. */
 struct card {
     int file;
     uint8_t *image;
@@ -82,34 +82,29 @@ static void failure(const char *what)
     exit(1);
 }
 
-/* Goes on after code 0 only. A refusal has changed nothing, so there is nothing to take back. */
+/* Goes on after GOOFS_DONE only. A refusal has changed nothing, so there is nothing to take back. */
 static void done(const char *what, uint64_t code)
 {
-    if (code == 0)
+    if (code == GOOFS_DONE)
         return;
     fprintf(stderr, "detector: %s: refused (%" PRIu64 "): %s\n", what, code,
             code < sizeof refusals / sizeof *refusals ? refusals[code] : "unknown number");
     exit(1);
 }
 
-/* Does one record on the file: a sector's contents, or a barrier. */
-static void land(const struct card *card, const uint8_t *record)
+/* Waits until the medium has everything. The system may keep writes back and change their order, and what stands behind a barrier
+ * relies on all before it: the start mark on the copies and the journal, the targets on the start mark, the end mark on the
+ * targets. If it fails nothing more may be written; the next start sees to it. */
+static void barrier(const struct card *card)
 {
-    const uint8_t *contents = record + 8;
-    uint64_t sector = 0;
-    size_t written = 0;
-    int i;
+    if (fdatasync(card->file) != 0)
+        system_failure("barrier");
+}
 
-    for (i = 0; i < 8; i++)
-        sector = sector << 8 | record[i];
-    if (sector == GOOFS_BARRIER) {
-        /* The system may keep writes back and change their order. What stands behind a barrier relies on all before it: the start
-         * mark on the copies and the journal, the targets on the start mark, the end mark on the targets. So wait here until
-         * the medium has everything. If that fails nothing more may be written; the next start recovers. */
-        if (fdatasync(card->file) != 0)
-            system_failure("barrier");
-        return;
-    }
+static void write_sector(const struct card *card, uint64_t sector, const uint8_t *contents)
+{
+    size_t written = 0;
+
     while (written < GOOFS_SECTOR) {
         ssize_t count = pwrite(card->file, contents + written, GOOFS_SECTOR - written, (off_t)(sector * GOOFS_SECTOR + written));
         if (count > 0)
@@ -117,6 +112,20 @@ static void land(const struct card *card, const uint8_t *record)
         else if (count == 0 || errno != EINTR)
             system_failure("write");
     }
+}
+
+/* Does one record on the file: a sector's contents, or a barrier. */
+static void land(const struct card *card, const uint8_t *record)
+{
+    uint64_t sector = 0;
+    int i;
+
+    for (i = 0; i < 8; i++)
+        sector = sector << 8 | record[i];
+    if (sector == GOOFS_BARRIER)
+        barrier(card);
+    else
+        write_sector(card, sector, record + 8);
 }
 
 /* Does a list on the file, record by record, and then on the image in memory, so that the next call sees the change. */
@@ -135,10 +144,6 @@ static void load(struct card *card)
     off_t length;
     size_t at = 0;
 
-    /* A program that was ended in the middle of a list may have left writes that the system has not yet brought to the medium. They
-     * are read all the same, and the next list builds on what is read: so a barrier comes first. */
-    if (fdatasync(card->file) != 0)
-        system_failure("barrier");
     length = lseek(card->file, 0, SEEK_END); /* a block device tells its length only so */
     if (length < 0)
         system_failure("length");
@@ -160,6 +165,34 @@ static void load(struct card *card)
     }
 }
 
+/* Locks the file as the command goofs does, so that neither meets a change that the other has under way. */
+static void lock(const struct card *card)
+{
+    if (flock(card->file, LOCK_EX | LOCK_NB) == 0)
+        return;
+    if (errno == EWOULDBLOCK)
+        failure("another program has the image open; try again when that has ended");
+    system_failure("lock");
+}
+
+/* The entry of a new file reaches the medium with its folder. */
+static void sync_folder(const char *path)
+{
+    const char *slash = strrchr(path, '/');
+    size_t length = slash == NULL ? 0 : (size_t)(slash - path) + 1;
+    char *folder = malloc(length + sizeof ".");
+    int file;
+
+    if (folder == NULL)
+        failure("no memory");
+    memcpy(folder, path, length);
+    memcpy(folder + length, ".", sizeof ".");
+    file = open(folder, O_RDONLY);
+    if (file < 0 || fsync(file) != 0 || close(file) != 0)
+        system_failure(folder);
+    free(folder);
+}
+
 /* Makes the image file and lands the format's records. They are asked for one at a time, so a format needs no list. A cut leaves
  * a file that each start refuses, with 2 or 4. */
 static void format(const char *path, uint64_t sectors)
@@ -169,33 +202,53 @@ static void format(const char *path, uint64_t sectors)
     uint8_t record[GOOFS_RECORD];
     uint64_t position = 0;
     goofs_length_result answer;
+    int error;
 
     /* The first record is asked for before the file is made, so that a refusal leaves no file behind. */
     answer = goofs_format_record(sectors, FILES, ROOT_ID, MODE, now, position, record, sizeof record);
     done("format", answer.code);
     /* O_EXCL: a format over a file that is there would destroy what it holds. */
     card.file = open(path, O_RDWR | O_CREAT | O_EXCL, 0666);
-    if (card.file < 0 || ftruncate(card.file, (off_t)(sectors * GOOFS_SECTOR)) != 0)
+    if (card.file < 0)
         system_failure(path);
-    while (answer.code == 0) {
+    lock(&card);
+    /* With its blocks from the start, the file can't meet a full disk in the middle of a change. */
+    error = sectors > INT64_MAX / GOOFS_SECTOR ? EFBIG : posix_fallocate(card.file, 0, (off_t)(sectors * GOOFS_SECTOR));
+    if (error != 0) {
+        unlink(path);
+        errno = error;
+        system_failure(path);
+    }
+    while (answer.code == GOOFS_DONE) {
         land(&card, record);
         position++;
         answer = goofs_format_record(sectors, FILES, ROOT_ID, MODE, now, position, record, sizeof record);
     }
-    if (answer.code != 9) /* 9: past the last record, so all of them have landed */
+    if (answer.code != GOOFS_NOT_THERE) /* past the last record, so all of them have landed */
         done("format", answer.code);
+    sync_folder(path);
     if (close(card.file) != 0)
         system_failure(path);
 }
 
-/* What a detector does first when it is switched on: finish a change that was cut, then see whether the volume is sound. */
+/* What a detector does first when it is switched on: make sure of what it reads, finish a change that was cut, then see whether the
+ * volume is sound. */
 static void start(struct card *card)
 {
-    goofs_summary_result summary = goofs_summary(card->image, card->length);
+    goofs_summary_result summary;
     goofs_check_result check;
 
+    /* What the system shows may not be on the medium, if a barrier has failed or a program was ended. It is asked to forget that;
+     * but it need not, so a mark is sent again before anything rests on it (see goofs.h). */
+    (void)posix_fadvise(card->file, 0, 0, POSIX_FADV_DONTNEED);
+    load(card);
+    summary = goofs_summary(card->image, card->length);
     done("summary", summary.code);
-    if (summary.state == WAITING) {
+    if (summary.state == GOOFS_STATE_CLEAN || summary.state == GOOFS_STATE_WAITING) {
+        write_sector(card, 0, card->image);
+        barrier(card);
+    }
+    if (summary.state == GOOFS_STATE_WAITING) {
         /* If the power goes here too, the volume still waits, and the next start asks again. */
         goofs_length_result answer = goofs_recover(card->image, card->length, list.recover, sizeof list.recover);
         done("recover", answer.code);
@@ -203,18 +256,18 @@ static void start(struct card *card)
         fprintf(stderr, "detector: finished a change that was cut, of %" PRIu64 " sectors\n", summary.entries);
     }
     check = goofs_check(card->image, card->length);
-    if (check.code == 7)
-        fprintf(stderr, "detector: fault %" PRIu64 " at %s %" PRIu64 "\n", check.fault, check.fault == 25 ? "extent" : "file",
-                check.place);
+    if (check.code == GOOFS_NOT_SOUND)
+        fprintf(stderr, "detector: fault %" PRIu64 " at %s %" PRIu64 "\n", check.fault,
+                check.fault == GOOFS_FAULT_TABLE ? "extent" : "file", check.place);
     done("check", check.code);
 }
 
-/* The calibration's entry. Without one the code is 9 and the size, like all other numbers of a refusal, 0. */
+/* The calibration's entry. Without one the code is GOOFS_NOT_THERE and the size, like all other numbers of a refusal, 0. */
 static goofs_find_result find(const struct card *card)
 {
     goofs_find_result found = goofs_find(card->image, card->length, name, NAME_LENGTH);
 
-    if (found.code != 9)
+    if (found.code != GOOFS_NOT_THERE)
         done("find", found.code);
     if (found.size != 0 && found.size != CALIBRATION_SIZE)
         failure("the file 'calibration' has another size, so this program did not save it");
@@ -230,14 +283,14 @@ static void save(struct card *card, const char *text)
     if (strlen(text) > sizeof calibration)
         failure("the text is too long");
     memcpy(calibration, text, strlen(text));
-    if (find(card).code == 9) {
-        /* The name is not there, so here 10 means that the id is taken. Only the root and the files have ids, and a refusal
-         * changes nothing: a free id is found after at most one attempt for each of them. */
+    if (find(card).code == GOOFS_NOT_THERE) {
+        /* The name is not there, so here GOOFS_ALREADY_THERE means that the id is taken. Only the root and the files have ids, and
+         * a refusal changes nothing: a free id is found after at most one attempt for each of them. */
         uint64_t id = 0;
         do {
             id++;
             answer = goofs_create(card->image, card->length, name, NAME_LENGTH, id, MODE, now, list.create, sizeof list.create);
-        } while (answer.code == 10);
+        } while (answer.code == GOOFS_ALREADY_THERE);
         done("create", answer.code);
         carry_out(card, list.create, answer.length);
     }
@@ -284,7 +337,7 @@ int main(int argc, char **argv)
     card.file = open(argv[1], O_RDWR);
     if (card.file < 0)
         system_failure(argv[1]);
-    load(&card);
+    lock(&card);
     start(&card);
     if (argc == 3) {
         save(&card, argv[2]);

@@ -4,35 +4,30 @@
  * No call keeps a pointer, takes memory or touches anything but the slices that it is lent. Every call ends with an answer, on
  * any bytes and any arguments. Measured, a call uses at most 322 KiB of stack (resize); check uses 257 KiB.
  *
- * `code` is a number of this table; the lowest whose condition holds is given. With any code but 0 all other result numbers are 0
- * (except fault and place with 7) and no byte of a buffer has changed.
+ * `code` is a number of `enum goofs_code`; the lowest whose condition holds is given. With any code but 0 all other result numbers
+ * are 0 (except fault and place with 7) and no byte of a buffer has changed.
  *
- *    0  done
- *    1  image empty or not whole sectors of 512 bytes
- *    2  magic or version wrong
- *    3  files, extents or sectors per extent out of bounds, or volume longer than image
- *    4  volume unfinished: a format was cut; format again
- *    5  volume waiting: a change was cut; recover first
- *    6  volume damaged, or in recovery a bad journal entry
- *    7  volume not sound; `fault` (21 to 26) and `place` (a file index, for 25 an extent) go with it
- *    8  bad argument: a name that isn't 1 to 476 bytes without 0; create with id 0; a read or write of more than 65,536 bytes; a
- *       resize that grows by more than that; a list index past the directory; a format without a geometry; a bad record
- *    9  no such name, listed entry is free, or format position past the last record
- *   10  create: name already there, or id an occupied entry's or the root's
- *   11  create: no free entry
- *   12  offset greater than size
- *   13  one more extent is needed and none is free
- *   14  list or output too short for the answer
- *
- * A changing call reads the image and fills a write list with records of 520 bytes: a big-endian sector number (8), contents (512).
- * Number 2^64 - 1 with 512 zero bytes is a barrier: nothing behind it may reach the medium before all that stands before it has.
- * `length` is the list's length in bytes; 0 means that nothing is to be written. Bytes past it stay.
+ * A changing call reads the image and fills a write list with records of GOOFS_RECORD bytes: a big-endian sector number (8),
+ * contents (512). Number 2^64 - 1 with 512 zero bytes is a barrier: nothing behind it may reach the medium before all that stands
+ * before it has. Between two barriers the order is free, and sectors that follow one another may go out in one write. `length` is the
+ * list's length in bytes; 0 means that nothing is to be written. Bytes past it stay.
  *
  * A list belongs to the image that it was asked for: it lands whole before the next call, which is given the image with it
  * (goofs_carry_out does that to an image in memory). Its first write of the superblock is the start mark: a change that is cut
- * before it is not done, one that is cut after it is finished by recovery. Where a system holds writes back, put up a barrier also
- * before an image is read: a program that was ended in the middle of a list may have left writes that can be read but are not on
- * the medium yet.
+ * before it is not done, one that is cut after it is finished by recovery.
+ *
+ * If a write or barrier fails, write nothing more, and start over. What a system that holds writes back shows then need not be on
+ * the medium, and may never get there: on Linux a failed fdatasync leaves pages marked as written, and the next one succeeds
+ * without them. The same goes for a program that was ended in the middle of a list. So at each start, before the first list:
+ *
+ *    - let the system forget what it keeps of the medium, where it can (posix_fadvise with POSIX_FADV_DONTNEED), and read the
+ *      image;
+ *    - if its state is clean or waiting, write sector 0 again as it was read, and put up a barrier: no list may rest on a mark that
+ *      is not on the medium. (Leave an unfinished or damaged volume alone.)
+ *
+ * Programs that share a volume agree on a lock: who changes it holds flock(2) with LOCK_EX on the image file or device, from before
+ * the image is read until the last list has landed; who only reads it holds LOCK_SH. The command goofs and examples/detector.c do
+ * so. A program without it would finish, or build on, a change that another has under way, and the volume would be lost.
  *
  * A name is its bytes, without a 0 at the end. examples/detector.c is a whole program.
  */
@@ -46,22 +41,67 @@
 extern "C" {
 #endif
 
+/* The version of this interface, 0.1.0: 10,000 for each major, 100 for each minor, 1 for each patch number. */
+#define GOOFS_VERSION 100
+
 #define GOOFS_SECTOR 512
-#define GOOFS_RECORD 520
+#define GOOFS_RECORD (8 + GOOFS_SECTOR)
 #define GOOFS_LONGEST_NAME 476
 #define GOOFS_LONGEST_TRANSFER 65536
 #define GOOFS_BARRIER UINT64_MAX
 
-/* The longest list that each call can give, in bytes. */
-#define GOOFS_CREATE_LIST (11 * GOOFS_RECORD)
-#define GOOFS_DELETE_LIST (1051 * GOOFS_RECORD)
-#define GOOFS_RESIZE_LIST (1049 * GOOFS_RECORD)
-#define GOOFS_WRITE_LIST (140 * GOOFS_RECORD)
-#define GOOFS_RECOVER_LIST (1027 * GOOFS_RECORD)
+/* The records of a change with so many data sectors and targets: the data, a copy of each target, the journal (32 entries in a
+ * sector), the targets, two marks and four barriers; and those of a recovery: the targets, a mark and two barriers. */
+#define GOOFS_RECORDS(data, targets) ((data) + 2 * (targets) + ((targets) + 31) / 32 + 2 + 4)
+#define GOOFS_RECOVERY_RECORDS(targets) ((targets) + 1 + 2)
+
+/* The longest list that each call can give, in bytes. Targets are the root, the entry and at most 512 sectors of the allocation
+ * table; a write touches at most 129 data sectors and one of the table; a journal has at most 1,024 entries. */
+#define GOOFS_CREATE_LIST (GOOFS_RECORDS(0, 2) * GOOFS_RECORD)
+#define GOOFS_DELETE_LIST (GOOFS_RECORDS(0, 2 + 512) * GOOFS_RECORD)
+#define GOOFS_RESIZE_LIST (GOOFS_RECORDS(0, 1 + 512) * GOOFS_RECORD)
+#define GOOFS_WRITE_LIST (GOOFS_RECORDS(129, 2) * GOOFS_RECORD)
+#define GOOFS_RECOVER_LIST (GOOFS_RECOVERY_RECORDS(1024) * GOOFS_RECORD)
+
+enum goofs_code {
+    GOOFS_DONE = 0,
+    GOOFS_NOT_WHOLE_SECTORS = 1, /* image empty or not whole sectors of 512 bytes */
+    GOOFS_NOT_A_VOLUME = 2,      /* magic or version wrong */
+    GOOFS_OUT_OF_BOUNDS = 3,     /* files, extents or sectors per extent out of bounds, or volume longer than image */
+    GOOFS_UNFINISHED = 4,        /* a format was cut; format again */
+    GOOFS_WAITING = 5,           /* a change was cut; recover first */
+    GOOFS_DAMAGED = 6,           /* volume damaged, or in recovery a bad journal entry */
+    GOOFS_NOT_SOUND = 7,         /* `fault` and `place` (a file index, for GOOFS_FAULT_TABLE an extent) go with it */
+    GOOFS_BAD_ARGUMENT = 8,      /* a name that isn't 1 to 476 bytes without 0; create with id 0; a read or write of more than
+                                  * 65,536 bytes; a resize that grows by more than that; a list index past the directory; a
+                                  * format without a geometry; a bad record */
+    GOOFS_NOT_THERE = 9,         /* no such name, listed entry is free, or format position past the last record */
+    GOOFS_ALREADY_THERE = 10,    /* create: name already there, or id an occupied entry's or the root's */
+    GOOFS_DIRECTORY_FULL = 11,   /* create: no free entry */
+    GOOFS_PAST_THE_END = 12,     /* offset greater than size */
+    GOOFS_NO_ROOM = 13,          /* one more extent is needed and none is free */
+    GOOFS_BUFFER_TOO_SHORT = 14  /* list or output too short for the answer */
+};
+
+enum goofs_fault {
+    GOOFS_FAULT_MARK = 21,         /* an entry is marked neither free nor occupied */
+    GOOFS_FAULT_NAME_OR_SIZE = 22, /* its name is bad, or its size is one that no file can have */
+    GOOFS_FAULT_SAME_NAME = 23,    /* it has the name of an earlier one */
+    GOOFS_FAULT_ID = 24,           /* its id is 0, the root's or that of an earlier one */
+    GOOFS_FAULT_TABLE = 25,        /* an extent is given to no file that is there, or belongs to the reserve */
+    GOOFS_FAULT_EXTENTS = 26       /* a file has too few, too many or doubled extents */
+};
+
+enum goofs_state {
+    GOOFS_STATE_CLEAN = 0,
+    GOOFS_STATE_WAITING = 1,   /* a change was cut */
+    GOOFS_STATE_DAMAGED = 2,   /* the journal's length is one that no change writes */
+    GOOFS_STATE_UNFINISHED = 3 /* a format was cut */
+};
 
 typedef struct {
     uint64_t code, files, extents, extent_sectors;
-    uint64_t state;   /* 0 clean, 1 waiting, 2 damaged, 3 unfinished */
+    uint64_t state;   /* a number of `enum goofs_state` */
     uint64_t entries; /* of a waiting volume's journal, else 0 */
 } goofs_summary_result;
 
@@ -129,8 +169,8 @@ goofs_change_result goofs_write(const uint8_t *image, size_t image_length, const
  * GOOFS_RECOVER_LIST. It may itself be cut and asked for again. */
 goofs_length_result goofs_recover(const uint8_t *image, size_t image_length, uint8_t *list, size_t list_length);
 
-/* Record `position`, from 0 on, of the format of a medium of so many sectors, to `out` (520 bytes); all of them, landed in order,
- * are the format. Gives 0, 8, 9 (past the last record) and 14. */
+/* Record `position`, from 0 on, of the format of a medium of so many sectors, to `out` (GOOFS_RECORD bytes); all of them, landed in
+ * order, are the format. Gives 0, 8, 9 (past the last record) and 14. */
 goofs_length_result goofs_format_record(uint64_t sectors, uint64_t files, uint64_t id, uint32_t mode, uint32_t time,
                                         uint64_t position, uint8_t *out, size_t out_length);
 

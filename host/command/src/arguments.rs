@@ -4,8 +4,14 @@
 use std::collections::{BTreeMap, BTreeSet};
 use std::ffi::{OsStr, OsString};
 use std::os::unix::ffi::OsStrExt;
+use std::time::Duration;
 
 use crate::failure::Failure;
+use crate::text;
+
+/// How many seconds to wait for a card that another program has open.
+const WAIT: u64 = 5;
+const LONGEST_WAIT: u64 = 86_400;
 
 #[derive(Debug, Default)]
 pub struct Arguments {
@@ -14,7 +20,7 @@ pub struct Arguments {
     flags: BTreeSet<String>,
 }
 
-/// What a command takes besides its places. Every command takes `--help`.
+/// What a command takes besides its places. Every command takes `--wait` and `--help`.
 #[derive(Clone, Copy)]
 pub struct Known {
     /// These have a value.
@@ -37,18 +43,19 @@ impl Arguments {
                         Some(at) => (&option[..at], Some(OsStr::from_bytes(&option[at + 1..]))),
                         None => (option, None),
                     };
+                    let is_flag = key == b"help" || is_among(key, known.flags);
+                    let is_option = key == b"wait" || is_among(key, known.options);
+                    if !is_flag && !is_option {
+                        return no_option(word.as_bytes());
+                    }
                     let key = &*String::from_utf8_lossy(key);
-                    let is_flag = key == "help" || known.flags.contains(&key);
                     match value {
-                        _ if !is_flag && !known.options.contains(&key) => {
-                            return usage(format!("there is no option --{key} here"))
-                        }
                         Some(_) if is_flag => return usage(format!("--{key} takes no value")),
                         None if is_flag => arguments.set(key),
                         _ => {
-                            let value = value.or_else(|| words.next().map(OsString::as_os_str));
-                            let Some(value) = value else {
-                                return usage(format!("--{key} needs a value"));
+                            let value = match value {
+                                Some(value) => value,
+                                None => following(key, words.next())?,
                             };
                             let before = arguments.options.insert(key.into(), value.into());
                             if before.is_some() {
@@ -57,6 +64,7 @@ impl Arguments {
                         }
                     }
                 }
+                [b'-', _, ..] => return no_option(word.as_bytes()),
                 _ => arguments.places.push(word.clone()),
             }
         }
@@ -71,18 +79,23 @@ impl Arguments {
         self.flags.contains(flag)
     }
 
-    /// So many places, at least and at most.
-    pub fn places(&self, least: usize, most: usize) -> Result<&[OsString], Failure> {
-        if (least..=most).contains(&self.places.len()) {
-            return Ok(&self.places);
-        }
-        usage(match self.places.len() < least {
-            true => "an argument is missing".to_string(),
-            false => format!(
+    /// As many places as there are names.
+    pub fn places(&self, names: &[&str]) -> Result<&[OsString], Failure> {
+        match self.places_or_more(names)?.get(names.len()) {
+            Some(surplus) => usage(format!(
                 "there is one argument too many: {}",
-                self.places[most].to_string_lossy()
-            ),
-        })
+                text::word(surplus.as_bytes())
+            )),
+            None => Ok(&self.places),
+        }
+    }
+
+    /// The same, but the last of them may be given several times.
+    pub fn places_or_more(&self, names: &[&str]) -> Result<&[OsString], Failure> {
+        match names.get(self.places.len()) {
+            Some(name) => usage(format!("{name} is missing")),
+            None => Ok(&self.places),
+        }
     }
 
     /// A number up to the largest. It is decimal, but with the radix 8 for a mode.
@@ -99,6 +112,34 @@ impl Arguments {
     pub fn word(&self, key: &str) -> Option<&OsStr> {
         self.options.get(key).map(OsString::as_os_str)
     }
+
+    /// How long to wait for a card that another program has open.
+    pub fn wait(&self) -> Result<Duration, Failure> {
+        let seconds = self.number("wait", 10, LONGEST_WAIT)?.unwrap_or(WAIT);
+        Ok(Duration::from_secs(seconds))
+    }
+}
+
+fn is_among(key: &[u8], names: &[&str]) -> bool {
+    names.iter().any(|name| name.as_bytes() == key)
+}
+
+/// The word behind an option. One that looks like another option is taken for a forgotten value.
+fn following<'w>(key: &str, word: Option<&'w OsString>) -> Result<&'w OsStr, Failure> {
+    match word.map(|word| (word, word.as_bytes())) {
+        None => usage(format!("--{key} needs a value")),
+        Some((_, [b'-', _, ..])) => usage(format!(
+            "--{key} needs a value; one that starts with a dash is given as --{key}=VALUE"
+        )),
+        Some((word, _)) => Ok(word),
+    }
+}
+
+fn no_option<T>(word: &[u8]) -> Result<T, Failure> {
+    usage(format!(
+        "there is no option {} here; if it is a name, give it behind --",
+        text::word(word)
+    ))
 }
 
 fn usage<T>(text: String) -> Result<T, Failure> {
@@ -107,12 +148,12 @@ fn usage<T>(text: String) -> Result<T, Failure> {
 
 /// A number in a word.
 pub fn number(word: &OsStr, radix: u32, largest: u64) -> Result<u64, String> {
-    let text = word.to_string_lossy();
-    match u64::from_str_radix(&text, radix) {
-        Ok(number) if number <= largest => Ok(number),
-        Ok(_) => Err(format!("{text} is too large; {largest} is the largest")),
-        Err(_) if radix == 8 => Err(format!("{text} is not an octal number")),
-        Err(_) => Err(format!(
+    let text = text::word(word.as_bytes());
+    match word.to_str().map(|word| u64::from_str_radix(word, radix)) {
+        Some(Ok(number)) if number <= largest => Ok(number),
+        Some(Ok(_)) => Err(format!("{text} is too large; {largest} is the largest")),
+        _ if radix == 8 => Err(format!("{text} is not an octal number")),
+        _ => Err(format!(
             "{text} is not a whole number from 0 to {largest}, in digits only"
         )),
     }

@@ -1,17 +1,19 @@
-//! Opening cards, and words for what stands on them.
+//! Opening cards under their lock.
 
 use std::ffi::OsStr;
-use std::fmt::Write;
-use std::fs::{self, File, OpenOptions};
-use std::io;
+use std::fs::{self, File, Metadata, OpenOptions};
+use std::io::{self, ErrorKind};
 use std::os::unix::fs::{FileTypeExt, MetadataExt, OpenOptionsExt};
 use std::path::Path;
+use std::thread;
+use std::time::{Duration, Instant};
 
 use goofs::device::Disk;
 use goofs::image::Image;
 use goofs::volume::Volume;
 
 use crate::failure::{of_card, of_opening, Failure};
+use crate::progress::Progress;
 
 /// On a block device this keeps a mounted one from being opened. Linux has this number on most
 /// machines; where it has another, nothing is asked for.
@@ -27,13 +29,16 @@ const O_EXCL: i32 = match cfg!(all(
     false => 0,
 };
 
+/// How long to wait before a lock is tried again.
+const PAUSE: Duration = Duration::from_millis(20);
+
 /// Whether it is a block device. Anything but that and a file is refused before it is opened, as
 /// opening a pipe would wait for ever.
 fn is_block_device(card: &OsStr) -> io::Result<bool> {
     let kind = fs::metadata(card)?.file_type();
     if !kind.is_file() && !kind.is_block_device() {
         return Err(io::Error::new(
-            io::ErrorKind::InvalidInput,
+            ErrorKind::InvalidInput,
             "it is neither an image file nor a block device",
         ));
     }
@@ -47,11 +52,12 @@ pub fn is_device_name(card: &OsStr) -> bool {
 }
 
 /// The volume, under a lock that other readers share.
-pub fn read(card: &OsStr) -> Result<Image, Failure> {
-    let disk = is_block_device(card)
-        .and_then(|_| File::open(card))
-        .and_then(Disk::shared)
-        .map_err(of_opening(card))?;
+pub fn read(card: &OsStr, wait: Duration) -> Result<Image, Failure> {
+    let open = || {
+        is_block_device(card)?;
+        File::open(card)
+    };
+    let disk = locked(card, wait, &open, Disk::shared)?;
     Image::load(&disk).map_err(of_card(card))
 }
 
@@ -66,48 +72,69 @@ fn is_write_protected(device: &OsStr) -> bool {
 }
 
 /// The card for changes; no one else has it then.
-pub fn exclusive(card: &OsStr) -> Result<Disk, Failure> {
+pub fn exclusive(card: &OsStr, wait: Duration) -> Result<Disk, Failure> {
     let open = || {
         let is_device = is_block_device(card)?;
         if is_device && is_write_protected(card) {
             return Err(io::Error::new(
-                io::ErrorKind::ReadOnlyFilesystem,
+                ErrorKind::ReadOnlyFilesystem,
                 "it is write-protected",
             ));
         }
         let flags = if is_device { O_EXCL } else { 0 };
-        let file = OpenOptions::new()
+        OpenOptions::new()
             .read(true)
             .write(true)
             .custom_flags(flags)
-            .open(card)?;
-        Disk::exclusive(file)
+            .open(card)
     };
-    open().map_err(of_opening(card))
+    locked(card, wait, &open, Disk::exclusive)
+}
+
+/// Opens the card and locks it. While another program has it, this is tried again for so long.
+fn locked(
+    card: &OsStr,
+    wait: Duration,
+    open: &dyn Fn() -> io::Result<File>,
+    lock: fn(File) -> io::Result<Disk>,
+) -> Result<Disk, Failure> {
+    let start = Instant::now();
+    let mut progress = Progress::new("seconds waited for another program", wait.as_secs());
+    loop {
+        let attempt = open().and_then(|file| {
+            let opened = file.metadata()?;
+            let disk = lock(file)?;
+            // The file may have been replaced or removed before the lock was free.
+            match is_same(&opened, &fs::metadata(card)?) {
+                true => Ok(disk),
+                false => Err(ErrorKind::WouldBlock.into()),
+            }
+        });
+        let waited = start.elapsed();
+        match attempt {
+            Err(error) if is_in_use(&error) && waited < wait => {
+                progress.at(waited.as_secs());
+                thread::sleep(PAUSE);
+            }
+            other => return other.map_err(of_opening(card)),
+        }
+    }
+}
+
+/// A block device that is open for changes elsewhere can't even be opened.
+fn is_in_use(error: &io::Error) -> bool {
+    matches!(
+        error.kind(),
+        ErrorKind::WouldBlock | ErrorKind::ResourceBusy
+    )
+}
+
+/// Whether both are of one file.
+pub fn is_same(one: &Metadata, other: &Metadata) -> bool {
+    (one.dev(), one.ino()) == (other.dev(), other.ino())
 }
 
 /// The volume for changes.
-pub fn volume(card: &OsStr) -> Result<Volume<Disk>, Failure> {
-    Volume::open(exclusive(card)?).map_err(of_card(card))
-}
-
-/// A name for the terminal: bytes that can't be shown as \xNN.
-pub fn shown(name: &[u8]) -> String {
-    let mut text = String::new();
-    for part in name.utf8_chunks() {
-        for letter in part.valid().chars() {
-            if letter.is_control() || letter == '\\' {
-                let mut bytes = [0; 4];
-                for byte in letter.encode_utf8(&mut bytes).bytes() {
-                    let _ = write!(text, "\\x{byte:02x}");
-                }
-            } else {
-                text.push(letter);
-            }
-        }
-        for byte in part.invalid() {
-            let _ = write!(text, "\\x{byte:02x}");
-        }
-    }
-    text
+pub fn volume(card: &OsStr, wait: Duration) -> Result<Volume<Disk>, Failure> {
+    Volume::open(exclusive(card, wait)?).map_err(of_card(card))
 }

@@ -1,21 +1,24 @@
 //! Commands that change a volume: format, rm and recover, and what they share with put and resize.
 
 use std::ffi::OsStr;
-use std::fs::{self, OpenOptions};
+use std::fs::{self, File};
 use std::io::ErrorKind;
+use std::ops::ControlFlow;
 use std::os::unix::ffi::OsStrExt;
+use std::path::Path;
 use std::time::{SystemTime, UNIX_EPOCH};
 
 use goofs::change::{Change, Format};
 use goofs::device::{Device, Disk, SECTOR};
 use goofs::error::{Error, Refusal};
 use goofs::image::Image;
+use goofs::system::{self, Held};
 use goofs::volume::{self, Stage, Volume};
 
 use crate::arguments::Arguments;
 use crate::card;
-use crate::failure::{of_call, of_card, of_file, of_opening, Detail, Failure};
-use crate::output::{print, sync_entry};
+use crate::failure::{of_call, of_card, of_file, of_opening, quoted, Detail, Failure};
+use crate::output::{print, sync_folder};
 use crate::progress::Progress;
 
 const LARGEST_32: u64 = u32::MAX as u64;
@@ -33,19 +36,20 @@ pub fn time(arguments: &Arguments) -> Result<u32, Failure> {
     Ok(given.unwrap_or(now) as u32)
 }
 
-fn mode(arguments: &Arguments, default: u32) -> Result<u32, Failure> {
+fn mode(arguments: &Arguments) -> Result<Option<u32>, Failure> {
     let given = arguments.number("mode", 8, LARGEST_32)?;
-    Ok(given.map_or(default, |mode| mode as u32))
+    Ok(given.map(|mode| mode as u32))
 }
 
 pub fn format(arguments: &Arguments) -> Result<(), Failure> {
-    let card = &arguments.places(1, 1)?[0];
+    let card = &arguments.places(&["CARD"])?[0];
     let sectors = arguments.number("sectors", 10, u64::MAX)?;
+    let wait = arguments.wait()?;
     let mut request = Format {
         sectors: 0,
         files: arguments.number("files", 10, u64::MAX)?.unwrap_or(255),
         id: arguments.number("id", 10, u64::MAX)?.unwrap_or(1),
-        mode: mode(arguments, 0o755)?,
+        mode: mode(arguments)?.unwrap_or(0o755),
         time: time(arguments)?,
     };
 
@@ -58,39 +62,30 @@ pub fn format(arguments: &Arguments) -> Result<(), Failure> {
         request.sectors = sectors.ok_or_else(|| {
             Failure::Usage(format!(
                 "{} is not there; to make an image file, --sectors is needed",
-                card.to_string_lossy()
+                quoted(card)
             ))
         })?;
         // A file is made only for a format that will be accepted.
         request.record(0).map_err(of_format(card, &request))?;
-        let file = OpenOptions::new()
-            .read(true)
-            .write(true)
-            .create_new(true)
-            .open(card)
-            .map_err(of_file(card))?;
-        let formatted = Disk::exclusive(file)
-            .map_err(of_opening(card))
-            .and_then(|disk| format_disk(card, disk, &request))
-            .and_then(|()| sync_entry(card).map_err(of_file(card)));
-        if formatted.is_err() {
-            // Best effort: the file held nothing before, and the failure is told anyway.
-            let _ = fs::remove_file(card);
+        match File::create_new(card) {
+            // Another program was faster. What it does with the file is looked at below.
+            Err(error) if error.kind() == ErrorKind::AlreadyExists => (),
+            made => drop(made.map_err(of_file(card))?),
         }
-        formatted?;
-    } else {
-        let disk = card::exclusive(card)?;
-        request.sectors = sectors.unwrap_or(disk.length() / SECTOR as u64);
-        request.record(0).map_err(of_format(card, &request))?;
-        whole_sectors(&disk, &request).map_err(of_card(card))?;
-        if let (Some(what), false) = (held(&disk, &request, card)?, arguments.flag("yes")) {
-            return Err(Failure::Other(format!(
-                "{} already holds {what}. Nothing was changed.\nNext: to lose it and format anew, add --yes.",
-                card.to_string_lossy()
-            )));
-        }
-        format_disk(card, disk, &request)?;
     }
+    let mut disk = card::exclusive(card, wait)?;
+    // Only an empty file whose lock is held here is removed if the format fails: anything else is
+    // another program's.
+    let is_made_here = is_new && disk.length() == 0;
+    let mut formatted = format_disk(arguments, card, &mut disk, sectors, &mut request);
+    if formatted.is_ok() && is_new {
+        formatted = sync_folder(Path::new(card)).map_err(of_file(card));
+    }
+    if formatted.is_err() && is_made_here {
+        // Best effort: the failure is reported anyway.
+        let _ = fs::remove_file(card);
+    }
+    formatted?;
     let geometry = request.geometry().map_err(of_format(card, &request))?;
     print_done(
         card,
@@ -140,40 +135,77 @@ fn whole_sectors(disk: &Disk, request: &Format) -> Result<(), Refusal> {
     }
 }
 
-fn format_disk(card: &OsStr, mut disk: Disk, request: &Format) -> Result<(), Failure> {
+/// Formats the whole card, or so many sectors, if nothing is lost by it or `--yes` is given.
+fn format_disk(
+    arguments: &Arguments,
+    card: &OsStr,
+    disk: &mut Disk,
+    sectors: Option<u64>,
+    request: &mut Format,
+) -> Result<(), Failure> {
+    request.sectors = sectors.unwrap_or(disk.length() / SECTOR as u64);
+    let request = &*request;
+    request.record(0).map_err(of_format(card, request))?;
+    whole_sectors(disk, request).map_err(of_card(card))?;
+    let held = match arguments.flag("yes") {
+        true => None,
+        false => held(disk, request, card)?,
+    };
+    if let Some(what) = held {
+        return Err(Failure::Other(format!(
+            "{} already holds {what}. Nothing was changed.\nNext: to lose it and format anew, add --yes.",
+            quoted(card)
+        )));
+    }
     let length = request
         .sectors
         .checked_mul(SECTOR as u64)
         .ok_or_else(|| of_format(card, request)(Refusal::BadArgument))?;
     let records = request.records().map_err(of_format(card, request))?;
-    disk.lengthen(length).map_err(of_file(card))?;
+    // Without blocks of its own, an image fails when its disk is full, in the middle of a change.
+    match arguments.flag("sparse") {
+        true => disk.lengthen(length),
+        false => disk.allocate(length),
+    }
+    .map_err(of_file(card))?;
+    let _held = Held::new();
     let mut progress = Progress::new("records", records);
-    volume::format(&mut disk, request, &mut |done| progress.at(done)).map_err(|error| match error {
+    volume::format(disk, request, &mut |done| progress.at(done)).map_err(|error| match error {
         // There is nothing to recover in a format.
         Error::Interrupted(_) => Failure::Other(format!(
-            "{}: {error}.\nNext: when the medium can be written again, format again with --yes.",
-            card.to_string_lossy()
+            "{}: {error}.\nNext: when the medium can be written again, give the command again, with --yes.",
+            quoted(card)
         )),
         other => of_card(card)(other),
     })
 }
 
-/// What would be lost by a format, if anything. All sectors before the data are looked at: other
-/// file systems leave the first one free.
-fn held(disk: &Disk, request: &Format, card: &OsStr) -> Result<Option<&'static str>, Failure> {
-    let geometry = request.geometry().map_err(of_format(card, request))?;
-    let sectors = (disk.length() / SECTOR as u64).min(geometry.data_at());
-    if sectors == 0 {
-        return Ok((disk.length() > 0).then_some("other data"));
+/// What would be lost by a format, if anything. The whole place of the new volume is looked at:
+/// other file systems leave the first sectors free, and bytes behind the metadata would be lost too.
+fn held(disk: &Disk, request: &Format, card: &OsStr) -> Result<Option<String>, Failure> {
+    const PIECE: u64 = 1 << 20;
+    let length = disk.length().min(request.sectors * SECTOR as u64);
+    let mut progress = Progress::new("bytes looked at (--yes leaves this out)", length);
+    let zeros = vec![0; length.min(PIECE) as usize];
+    let mut piece = zeros.clone();
+    let mut start = 0;
+    while start < length {
+        let piece = &mut piece[..(length - start).min(PIECE) as usize];
+        disk.read(start / SECTOR as u64, piece)
+            .map_err(|error| of_card(card)(Error::Unreadable(error)))?;
+        if start == 0 && piece.len() >= SECTOR && goofs::summary(&piece[..SECTOR]).code != 2 {
+            return Ok(Some("a volume".to_string()));
+        }
+        if *piece != zeros[..piece.len()] {
+            let at = piece.iter().take_while(|byte| **byte == 0).count();
+            return Ok(Some(format!("other data, from byte {}", start + at as u64)));
+        }
+        start += piece.len() as u64;
+        // Holes of an image file are passed over.
+        start = start.max(disk.next_data(start) / SECTOR as u64 * SECTOR as u64);
+        progress.at(start);
     }
-    let mut first = vec![0; sectors as usize * SECTOR];
-    disk.read(0, &mut first)
-        .map_err(|error| of_card(card)(Error::Unreadable(error)))?;
-    Ok(match goofs::summary(&first[..SECTOR]).code {
-        2 if first.iter().all(|byte| *byte == 0) => None,
-        2 => Some("other data"),
-        _ => Some("a volume"),
-    })
+    Ok(None)
 }
 
 /// Does the changes on the card, all or, if one is refused, none.
@@ -181,9 +213,22 @@ pub fn apply(volume: &mut Volume<Disk>, changes: &[Change]) -> Result<(), Error>
     let all = changes.len() as u64;
     let mut tried = Progress::new("changes tried", all);
     let mut done = Progress::new("changes done", all);
-    volume.apply(changes, &mut |stage, count| match stage {
-        Stage::Tried => tried.at(count as u64),
-        Stage::Done => done.at(count as u64),
+    // A change that was begun is finished before the program ends. While changes are tried nothing is
+    // written, and it may end at once.
+    let mut held = (all == 1).then(Held::new);
+    volume.apply_telling(changes, &mut |stage, count| {
+        let count = count as u64;
+        match stage {
+            Stage::Tried => {
+                tried.at(count);
+                held = (count == all).then(Held::new);
+            }
+            Stage::Done => done.at(count),
+        }
+        match held.is_some() && system::asked_to_end() {
+            true => ControlFlow::Break(()),
+            false => ControlFlow::Continue(()),
+        }
     })
 }
 
@@ -192,74 +237,79 @@ fn print_done(card: &OsStr, text: &str) -> Result<(), Failure> {
     print(text).map_err(|failure| match failure {
         Failure::Output(error) => Failure::Other(format!(
             "{}: done, but the standard output could not be written: {error}",
-            card.to_string_lossy()
+            quoted(card)
         )),
         other => other,
     })
 }
 
-/// The id and mode of a file that a command makes.
+/// The id and mode of a file that a command makes, if they are given.
 pub struct NewFile {
     pub id: Option<u64>,
-    mode: u32,
+    mode: Option<u32>,
 }
 
 impl NewFile {
     pub fn options(arguments: &Arguments) -> Result<NewFile, Failure> {
         Ok(NewFile {
             id: arguments.number("id", 10, u64::MAX)?,
-            mode: mode(arguments, 0o644)?,
+            mode: mode(arguments)?,
         })
     }
 
+    pub fn is_given(&self) -> bool {
+        self.id.is_some() || self.mode.is_some()
+    }
+
+    /// The change that makes the file, beside others with these ids that are not on the image yet.
     pub fn change<'c>(
         &self,
         image: &Image,
+        new_ids: &[u64],
         name: &'c [u8],
         time: u32,
     ) -> Result<Change<'c>, Refusal> {
         let id = match self.id {
             Some(id) => id,
-            None => unused_id(image)?,
+            None => image.unused_id(new_ids)?,
         };
-        Ok(Change::Create {
+        let create = Change::Create {
             name,
             id,
-            mode: self.mode,
+            mode: self.mode.unwrap_or(0o644),
             time,
-        })
+        };
+        // A name or id that is refused is known before anything else is done for it.
+        image.list_of(&create)?;
+        Ok(create)
     }
 }
 
-/// The number after the greatest id in use, or the lowest that no one has.
-fn unused_id(image: &Image) -> Result<u64, Refusal> {
-    let mut ids: Vec<u64> = image.entries()?.iter().map(|entry| entry.id).collect();
-    ids.push(image.root().id);
-    ids.sort_unstable();
-    let greatest = ids.last().copied().unwrap_or(0);
-    Ok(greatest
-        .checked_add(1)
-        .or_else(|| (1..u64::MAX).find(|id| ids.binary_search(id).is_err()))
-        .expect("at most 1,025 ids are in use"))
-}
-
 pub fn rm(arguments: &Arguments) -> Result<(), Failure> {
-    let places = arguments.places(2, 2)?;
+    let places = arguments.places(&["CARD", "NAME"])?;
     let time = time(arguments)?;
     let (card, name) = (&places[0], places[1].as_bytes());
-    let mut volume = card::volume(card)?;
+    let mut volume = card::volume(card, arguments.wait()?)?;
     apply(&mut volume, &[Change::Delete { name, time }]).map_err(of_call(card, name, None))
 }
 
 pub fn recover(arguments: &Arguments) -> Result<(), Failure> {
-    let card = &arguments.places(1, 1)?[0];
-    let mut volume = card::volume(card)?;
+    let card = &arguments.places(&["CARD"])?[0];
+    let mut volume = card::volume(card, arguments.wait()?)?;
+    let _held = Held::new();
     let was_cut = volume.recover().map_err(of_card::<Error>(card))?;
+    // Recovery itself does not judge the volume.
+    let judged = volume.image().map_err(of_card(card))?.check();
     print_done(
         card,
-        match was_cut {
-            true => "recovered: the change that was cut is done now\n",
-            false => "nothing to do: the volume is clean\n",
+        match (was_cut, judged.is_ok()) {
+            (true, _) => "recovered: the change that was cut is done now\n",
+            (false, true) => "nothing to do: the volume is clean and sound\n",
+            (false, false) => "nothing to recover: no change was cut\n",
         },
-    )
+    )?;
+    judged.map_err(|refusal| Failure::Judged {
+        card: card.to_owned(),
+        refusal,
+    })
 }

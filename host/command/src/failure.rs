@@ -3,18 +3,23 @@
 use std::ffi::{OsStr, OsString};
 use std::fmt;
 use std::io::{self, ErrorKind};
+use std::os::unix::ffi::OsStrExt;
 
 use goofs::error::{Error, Refusal};
 use goofs::image::LONGEST_NAME;
 
-use crate::card::{is_device_name, shown};
+use crate::card::is_device_name;
+use crate::space::Space;
+use crate::text::word;
 
 /// For a medium that can't be read in the middle of a command. A change's list is made, and done in
 /// memory, before the first of its writes is sent to the medium, so that no change is left half done.
 pub const UNREADABLE: &str = "\
 goofs: the medium could not be read: a sector is unreadable, or the card was taken out, or its file
-was made shorter. No change was left half done; of several, as in a put, the first may be done.
-Next: see that the card is in its place, look at it with goofs check, and give the command again.
+was made shorter, or has holes and its disk is full. No change was left half done; of several, as in a
+put, the first may be done.
+Next: see that the card is in its place, and that the disk of an image file has room (df shows that);
+look at the card with goofs check, and give the command again.
 ";
 
 #[derive(Debug)]
@@ -29,9 +34,11 @@ pub enum Failure {
         error: Error,
         detail: Option<Detail>,
     },
+    /// What a volume was found to be after a recovery, which may have changed it.
+    Judged { card: OsString, refusal: Refusal },
     /// A file beside the card.
     File { file: OsString, error: io::Error },
-    /// A file that was there before and could not be written to its end.
+    /// A device, pipe or terminal that could not be written to the end.
     Incomplete { file: OsString, error: io::Error },
     /// The standard output.
     Output(io::Error),
@@ -74,7 +81,7 @@ impl Failure {
             Failure::Usage(text) => {
                 let usage = help.split("\n\n").next().unwrap_or_default();
                 Failure::Usage(format!(
-                    "{text}. Nothing was changed.\n\n{usage}\n\nNext: goofs {command} --help tells more."
+                    "{text}. Nothing was changed.\n\n{usage}\n\nNext: goofs {command} --help shows more."
                 ))
             }
             other => other,
@@ -110,11 +117,11 @@ pub fn of_call<'c, E: Into<Error>>(
         let detail = match &error {
             Error::Refused(Refusal::BadArgument) => bad_argument(name, id),
             Error::Refused(Refusal::NotThere) => {
-                Some(Detail::new(format!("the name was {}", shown(name))))
+                Some(Detail::new(format!("the name was {}", word(name))))
             }
             Error::Refused(Refusal::AlreadyThere) => Some(Detail::new(match id {
-                Some(id) => format!("name {}, id {id}", shown(name)),
-                None => format!("name {}", shown(name)),
+                Some(id) => format!("name {}, id {id}", word(name)),
+                None => format!("name {}", word(name)),
             })),
             _ => None,
         };
@@ -123,6 +130,15 @@ pub fn of_call<'c, E: Into<Error>>(
             error,
             detail,
         }
+    }
+}
+
+/// Makes the failure of a file that needs more extents than there are.
+pub fn no_room(card: &OsStr, name: &[u8], space: Space) -> Failure {
+    Failure::Card {
+        card: card.to_owned(),
+        error: Refusal::NoRoom.into(),
+        detail: Some(Detail::new(format!("{}: {space}", word(name)))),
     }
 }
 
@@ -151,13 +167,11 @@ pub fn of_file(file: &OsStr) -> impl Fn(io::Error) -> Failure + '_ {
     }
 }
 
-/// A file name as a word for the shell, for commands that are shown.
-pub fn quoted(file: &OsStr) -> String {
-    let text = file.to_string_lossy();
-    let is_plain = |letter: char| letter.is_alphanumeric() || "/._-+:,@%=".contains(letter);
-    match !text.is_empty() && text.chars().all(is_plain) {
-        true => text.into_owned(),
-        false => format!("'{}'", text.replace('\'', r"'\''")),
+/// A path as a word for the shell, which no command takes for an option.
+pub fn quoted(path: &OsStr) -> String {
+    match path.as_bytes() {
+        bytes @ [b'-', _, ..] => word(&[b"./", bytes].concat()),
+        bytes => word(bytes),
     }
 }
 
@@ -233,8 +247,11 @@ fn opening(error: &io::Error, card: &OsStr) -> (String, String) {
             format!("see that this is the right card; if it is mounted: umount {card_word}"),
         ),
         ErrorKind::WouldBlock => (
-            error.to_string(),
-            format!("see which program that is: fuser -v {card_word}"),
+            "another program has it open".to_string(),
+            format!(
+                "see which program that is: fuser -v {card_word}; to wait for its end, give the \
+                 command again with --wait SECONDS"
+            ),
         ),
         _ => (
             error.to_string(),
@@ -249,26 +266,34 @@ impl fmt::Display for Failure {
             Failure::Usage(text) | Failure::Other(text) => f.write_str(text),
             Failure::Open { card, error } => {
                 let (what, next) = opening(error, card);
-                let card = card.to_string_lossy();
+                let card = quoted(card);
                 write!(f, "{card}: {what}. Nothing was changed.\nNext: {next}.")
+            }
+            Failure::Judged { card, refusal } => {
+                let card = quoted(card);
+                let (number, next) = (refusal.number(), after_refusal(*refusal, &card));
+                write!(f, "{card}: ({number}) {refusal}.\nNext: {next}.")
             }
             Failure::File { file, error } => write!(
                 f,
                 "{}: {error}. Nothing was changed on the card.\nNext: {}.",
-                file.to_string_lossy(),
+                quoted(file),
                 match error.kind() {
                     ErrorKind::NotFound => "see that the name of this file or its folder is right",
-                    ErrorKind::PermissionDenied => "see who may use it: ls -l shows that",
+                    ErrorKind::PermissionDenied => {
+                        "see who may write to it and to its folder: ls -l shows that"
+                    }
                     ErrorKind::AlreadyExists => "name a file that does not exist yet",
+                    ErrorKind::IsADirectory => "name a file, not a folder",
                     ErrorKind::StorageFull => "make room on its disk, or name a file on another one",
                     _ => "see that this is the right file, and that its disk takes it",
                 }
             ),
             Failure::Incomplete { file, error } => write!(
                 f,
-                "{}: {error}. This file is incomplete now. Nothing was changed on the card.\n\
-                 Next: see that its disk has room, and give the command again.",
-                file.to_string_lossy()
+                "{}: {error}. What was written there is incomplete. Nothing was changed on the card.\n\
+                 Next: see that it has room, and give the command again.",
+                quoted(file)
             ),
             Failure::Output(error) if error.kind() == ErrorKind::BrokenPipe => write!(
                 f,
@@ -285,10 +310,10 @@ impl fmt::Display for Failure {
                 error,
                 detail,
             } => {
-                let (plain, card) = (card.to_string_lossy(), quoted(card));
+                let card = quoted(card);
                 match error {
                     Error::Refused(refusal) => {
-                        write!(f, "{plain}: refused ({}): {refusal}", refusal.number())?;
+                        write!(f, "{card}: refused ({}): {refusal}", refusal.number())?;
                         if let Some(detail) = detail {
                             write!(f, " ({})", detail.what)?;
                         }
@@ -296,26 +321,38 @@ impl fmt::Display for Failure {
                         let next = next.unwrap_or_else(|| after_refusal(*refusal, &card));
                         write!(f, ". Nothing was changed.\nNext: {next}.")
                     }
+                    Error::Unsettled(_) => write!(
+                        f,
+                        "{card}: {error}. Nothing was changed.\n\
+                         Next: see that the card is in the reader, can be written, and that the disk of an \
+                         image file has room; then give the command again. If it fails again, copy what \
+                         can be read (goofs get) and take another card."
+                    ),
+                    Error::Stopped { .. } => write!(
+                        f,
+                        "{card}: {error}. The volume is clean.\n\
+                         Next: see what is done: goofs ls {card}; and give the command again to do the rest."
+                    ),
                     Error::Interrupted(_) => write!(
                         f,
-                        "{plain}: {error}.\nNext: when the medium can be written again, \
+                        "{card}: {error}.\nNext: when the medium can be written again, \
                          goofs recover {card}; see what is done: goofs ls {card}; and give the \
                          command again if it is not."
                     ),
                     Error::DeviceTooShort { present, .. } => write!(
                         f,
-                        "{plain}: {error}. Nothing was changed.\n\
+                        "{card}: {error}. Nothing was changed.\n\
                          Next: give at most --sectors {}, or leave it out to take the whole card.",
                         present / goofs::device::SECTOR as u64
                     ),
                     Error::TooLarge { .. } => write!(
                         f,
-                        "{plain}: {error}. Nothing was changed.\n\
+                        "{card}: {error}. Nothing was changed.\n\
                          Next: see whether the memory is limited here (ulimit -v), or use another computer."
                     ),
                     _ => write!(
                         f,
-                        "{plain}: {error}. Nothing was changed.\n\
+                        "{card}: {error}. Nothing was changed.\n\
                          Next: see that the card is in the reader; try another reader, then another card."
                     ),
                 }
@@ -376,11 +413,13 @@ mod tests {
                 "--sectors 2,",
             ),
             (Error::Unreadable(cause()), "reader"),
+            (Error::Unsettled(cause()), "give the command again"),
+            (Error::Stopped { changes_done: 0 }, "goofs ls 'a card'"),
             (
                 Error::Interrupted(Interrupted {
                     writes: 7,
                     landed: 3,
-                    taken: 1,
+                    sent: 1,
                     changes_done: 0,
                     cause: cause(),
                 }),
@@ -388,14 +427,14 @@ mod tests {
             ),
         ];
         for (error, next) in errors {
-            // A change that was interrupted may have changed something.
-            let is_interrupted = matches!(error, Error::Interrupted(_));
+            // A change that was interrupted may have changed something, and so may those before a stop.
+            let may_change = matches!(error, Error::Interrupted(_) | Error::Stopped { .. });
             let text = of_card(OsStr::new("a card"))(error).to_string();
-            let (told, advice) = text.split_once("\nNext: ").expect("there is an advice");
-            assert!(told.starts_with("a card: "), "{text}");
+            let (happened, advice) = text.split_once("\nNext: ").expect("there is an advice");
+            assert!(happened.starts_with("'a card': "), "{text}");
             assert_eq!(
-                told.contains("Nothing was changed"),
-                !is_interrupted,
+                happened.contains("Nothing was changed"),
+                !may_change,
                 "{text}"
             );
             assert!(advice.contains(next), "{text}");
@@ -421,21 +460,8 @@ mod tests {
             (ErrorKind::WouldBlock, "", "fuser -v /dev/x"),
         ] {
             let text = of_opening(OsStr::new("/dev/x"))(kind.into()).to_string();
-            let (told, advice) = text.split_once(". Nothing was changed.\nNext: ").unwrap();
-            assert!(told.contains(what) && advice.contains(next), "{text}");
-        }
-    }
-
-    #[test]
-    fn words_for_the_shell() {
-        for (word, shown) in [
-            ("/dev/sdb", "/dev/sdb"),
-            ("card of today", "'card of today'"),
-            ("it's", r"'it'\''s'"),
-            ("a;b", "'a;b'"),
-            ("", "''"),
-        ] {
-            assert_eq!(quoted(OsStr::new(word)), shown);
+            let (happened, advice) = text.split_once(". Nothing was changed.\nNext: ").unwrap();
+            assert!(happened.contains(what) && advice.contains(next), "{text}");
         }
     }
 }

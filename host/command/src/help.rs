@@ -1,18 +1,24 @@
 //! The help texts. The lines of each before the first empty one are its usage.
 
+/// The end of each of them.
+pub const WAIT: &str = "
+While another program has CARD open, a command waits for it:
+  --wait S     for S seconds, 0 to 86400; else 5
+";
+
 pub const OVERVIEW: &str = "\
 goofs - files on a volume that survives a cut of the power
 
-  goofs info CARD                    geometry, areas, state, free room
-  goofs check CARD                   whether the volume is sound
-  goofs ls CARD                      the files
-  goofs get CARD NAME [FILE]         copy a file from the card
-  goofs put CARD FILE [NAME]         copy a file to the card
-  goofs rm CARD NAME                 remove a file
-  goofs resize CARD NAME SIZE        give a file another size
-  goofs recover CARD                 finish a change that was cut
-  goofs format CARD [--sectors N]    make an empty volume
-  goofs trial CARD CHANGE ...        try a change with cuts of the power, in memory
+  goofs info CARD                     geometry, areas, state, free room
+  goofs check CARD                    whether the volume is sound
+  goofs ls CARD                       the files
+  goofs get CARD NAME... [--as FILE]  copy files from the card
+  goofs put CARD FILE... [--as NAME]  copy files to the card
+  goofs rm CARD NAME                  remove a file
+  goofs resize CARD NAME SIZE         give a file another size
+  goofs recover CARD                  finish a change that was cut
+  goofs format CARD [--sectors N]     make an empty volume
+  goofs trial CARD CHANGE ...         try a change with cuts of the power, in memory
 
 CARD is an image file or a block device, such as /dev/sdb; lsblk shows which devices there are.
 To begin, in an image file of 4 MiB:
@@ -20,11 +26,12 @@ To begin, in an image file of 4 MiB:
   goofs format card.img --sectors 8192
   goofs put card.img gain.txt
   goofs ls card.img
-  goofs get card.img gain.txt copy.txt
+  goofs get card.img gain.txt --as copy.txt
 
 After a cut of the power: goofs recover CARD, then goofs check CARD.
 
-`goofs COMMAND --help` tells more. Names that start with dashes go behind `--`.
+`goofs COMMAND --help` shows more, `goofs --version` the version. Names that start with a dash go
+behind `--`.
 The exit status is 0 only on success, 1 if it failed, 2 if the command was not understood.
 An error says what happened and what to do next. A number in it, as in `refused (5)`, is that of the
 rules of the volume. A refused command has changed nothing.
@@ -33,8 +40,8 @@ rules of the volume. A refused command has changed nothing.
 pub const INFO: &str = "\
 goofs info CARD
 
-Shows the volume's geometry, where each area starts (in sectors), its state, and how many extents are
-used and free. It works on a volume in any state and changes nothing. The states:
+Shows the volume's geometry, where each area starts (in sectors), its state, whether it is sound, and
+how many extents are used and free. Each file takes whole extents. It works on a volume in any state and changes nothing. The states:
   clean        no change is under way
   waiting      a change was cut: goofs recover CARD finishes it
   damaged      the journal's length is one that no change writes
@@ -44,32 +51,41 @@ used and free. It works on a volume in any state and changes nothing. The states
 pub const CHECK: &str = "\
 goofs check CARD
 
-Says whether the volume is clean and sound. If not, the fault and its place are told and the exit
+Says whether the volume is clean and sound. If not, it says which fault it has and where, and the exit
 status is 1. It changes nothing, and does not read the bytes of the files.
 ";
 
 pub const LS: &str = "\
-goofs ls CARD
+goofs ls CARD [--numeric]
 
-Lists the files in the directory's order: size, version, id, mode (octal), time of the last change
-(seconds since 1970) and name. Bytes of a name that can't be shown are written as \\xNN.
+Lists the files in the directory's order: size, version, id, mode (octal), time of the last change and
+name. A name is printed as a word for the shell, so that it can be given back as it stands there: in
+quotes where it needs them, and as $'...' where it has bytes that a terminal does not show.
+  --numeric   the times in seconds since 1970; else day and time in UTC
 ";
 
 pub const GET: &str = "\
-goofs get CARD NAME [FILE]
+goofs get CARD NAME... [--as FILE]
 
-Copies the file NAME from the card to FILE, or to the standard output if FILE is left out or `-`.
-FILE is written only after the whole file was read from the card. If FILE exists, it is written over.
+Copies files from the card: one to the standard output, or several into a folder.
+  --as FILE   to this file; a FILE that exists is replaced. If FILE is a folder, each file goes into it
+              under the name that it has on the card; `-` is the standard output
+
+The bytes are written beside FILE (to .goofs-NUMBER-0, which a kill may leave behind), and take its
+name when all of them are on its disk. Until then a FILE that exists stays as it was. A FILE is named
+by --as only, so that `goofs get CARD *.cal` never writes over one of the files that the shell found.
 ";
 
 pub const PUT: &str = "\
-goofs put CARD FILE [NAME] [--id ID] [--mode M] [--time T]
+goofs put CARD FILE... [--as NAME] [--id ID] [--mode M] [--time T]
 
-Copies FILE (`-` is the standard input) to the card under NAME; without NAME, under FILE's last part.
-A file of that name on the card is written over. A name has 1 to 476 bytes.
+Copies files to the card, each under the last part of its own name. A file of that name on the card is
+written over. A name has 1 to 476 bytes.
+  --as NAME   the name on the card, for one FILE; `-` as FILE is the standard input and needs it
   --id ID     the id of a new file; else the number after the greatest id in use
-  --mode M    the mode of a new file, octal; else 644
+  --mode M    the mode of new files, octal; else 644
   --time T    the time of the change, in seconds since 1970; else now
+With --id or --mode, a file that is there already is an error: they can't be changed.
 
 A put is several changes, one after the other: the file is created if it isn't there, written in
 pieces of at most 65536 bytes, and shortened at the end if it was longer. Each change is atomic: after
@@ -77,7 +93,8 @@ a cut of the power and `goofs recover` it is done or not done. What is added to 
 its change and not before. But bytes that replace old bytes go to their place at once: after a cut,
 each sector of them is the old or the new one. Where that matters, put under a new name and remove the
 old file after it.
-All changes are tried in memory first: if one is refused, for want of room too, nothing is changed.
+All changes of all FILEs are tried in memory first: if one is refused, for want of room too, nothing is
+changed. A FILE is read into memory, and no further than there is room for it on the card.
 ";
 
 pub const RM: &str = "\
@@ -101,11 +118,12 @@ pub const RECOVER: &str = "\
 goofs recover CARD
 
 Finishes a change that a cut of the power interrupted. A recovery may itself be cut; then recover
-again. On a clean volume there is nothing to do, and nothing is changed.
+again. On a clean volume there is nothing to do, and nothing is changed. If the volume is not sound
+after it, the fault is printed and the exit status is 1.
 ";
 
 pub const FORMAT: &str = "\
-goofs format CARD [--sectors N] [--files F] [--id ID] [--mode M] [--time T] [--yes]
+goofs format CARD [--sectors N] [--files F] [--id ID] [--mode M] [--time T] [--sparse] [--yes]
 
 Makes an empty volume. A CARD that isn't there is made, as an image file; then --sectors is needed.
   --sectors N  the sectors of 512 bytes, 2048 for each MiB; at least 1057 for 255 files; else all of
@@ -114,14 +132,17 @@ Makes an empty volume. A CARD that isn't there is made, as an image file; then -
   --id ID      the root's id; else 1
   --mode M     the root's mode, octal; else 755
   --time T     the root's time, in seconds since 1970; else now
-  --yes        needed where CARD holds a volume or other data: they are lost
+  --sparse     leave an image file without blocks of its own on the disk until they are written to;
+               when the disk is full, changes then fail. Else the blocks are taken at once
+  --yes        needed where CARD holds a volume or other data: they are lost. Without it, the whole
+               place of the volume is read first, to see that it holds nothing but zeros
 
 A format that is cut leaves an unfinished volume: format again. A block device that is mounted is
 refused.
 ";
 
 pub const TRIAL: &str = "\
-goofs trial CARD put FILE [NAME]
+goofs trial CARD put FILE [--as NAME]
 goofs trial CARD create NAME
 goofs trial CARD rm NAME
 goofs trial CARD resize NAME SIZE
@@ -133,7 +154,8 @@ writes: groups of up to 8 writes with every subset landed, larger ones after eac
 single write, and with 32 subsets drawn at random. After each cut comes a recovery that is cut in the
 same ways (in 64 of them, drawn, if there are more), and another that is cut at random; then one is
 completed. After that the volume must be sound, and the root and every file as before the change or
-as after it. All files are read again each time, so a trial takes long on a card with many bytes.
+as after it. Compared are the metadata and the sectors that the change writes; nothing else is written
+in a trial, so that it takes no longer on a card with many bytes.
   --seed S      what is drawn at random depends on this number alone; else 1
   --every       cut recoveries in all the ways, also where there are more than 64
   --leave FILE  leave the volume, as it is when the power goes right after the last change's start

@@ -2,11 +2,16 @@
 //! their entry in the folder when the command has ended.
 
 use std::ffi::OsStr;
-use std::fs::{self, File, OpenOptions};
-use std::io::{self, Seek, SeekFrom, Write};
+use std::fs::{self, File, Metadata, OpenOptions};
+use std::io::{self, ErrorKind, Seek, SeekFrom, Write};
+use std::os::unix::fs::{fchown, MetadataExt};
 use std::path::{Path, PathBuf};
+use std::process;
 
 use crate::failure::{of_file, Failure};
+
+/// As many links in a row as the system follows.
+const LINKS: usize = 40;
 
 /// Prints to the standard output, which may be closed or full.
 pub fn print(text: &str) -> Result<(), Failure> {
@@ -21,41 +26,104 @@ pub fn print_bytes(bytes: &[u8]) -> Result<(), Failure> {
 }
 
 /// To the standard error, if that can be written: there is no other place to say that it can't.
-pub fn complain(text: &str) {
+pub fn print_error(text: &str) {
     let _ = io::stderr().write_all(text.as_bytes());
 }
 
-/// Writes the contents to a file. One that did not exist before is removed if that fails.
+/// Writes the contents to a file. They are written beside it first and take its name when they are
+/// on the medium: until then, what stood there stays.
 pub fn save(path: &OsStr, contents: &[u8]) -> Result<(), Failure> {
-    match File::create_new(path) {
-        Ok(file) => new(path, file, |file| file.write_all(contents)),
-        // Not only a file may stand there but a link, a terminal or a pipe.
-        Err(error) if error.kind() == io::ErrorKind::AlreadyExists => OpenOptions::new()
-            .write(true)
-            .create(true)
-            .truncate(true)
-            .open(path)
-            .map_err(of_file(path))
-            .and_then(|mut file| {
-                file.write_all(contents)
-                    .and_then(|()| sync(path, &file))
-                    .map_err(|error| Failure::Incomplete {
-                        file: path.to_owned(),
-                        error,
-                    })
-            }),
-        Err(error) => Err(of_file(path)(error)),
+    let old = match fs::metadata(path) {
+        Err(error) if error.kind() == ErrorKind::NotFound => None,
+        old => Some(old.map_err(of_file(path))?),
+    };
+    if old.as_ref().is_none_or(Metadata::is_file) {
+        return linked(path)
+            .and_then(|file| replace(&file, old.as_ref(), contents))
+            .map_err(of_file(path));
+    }
+    // A terminal, a pipe or a device.
+    let mut file = OpenOptions::new()
+        .write(true)
+        .open(path)
+        .map_err(of_file(path))?;
+    file.write_all(contents)
+        .map_err(|error| Failure::Incomplete {
+            file: path.to_owned(),
+            error,
+        })
+}
+
+/// The file itself if this is a link, also a link to a file that isn't there yet.
+fn linked(path: &OsStr) -> io::Result<PathBuf> {
+    let mut path = PathBuf::from(path);
+    for _ in 0..LINKS {
+        match fs::symlink_metadata(&path) {
+            Ok(metadata) if metadata.is_symlink() => {
+                let target = fs::read_link(&path)?;
+                path = folder_of(&path).join(target);
+            }
+            _ => return Ok(path),
+        }
+    }
+    Err(io::Error::other("too many links one after the other"))
+}
+
+fn replace(path: &Path, old: Option<&Metadata>, contents: &[u8]) -> io::Result<()> {
+    if old.is_some() {
+        // A file that may not be written to must not be replaced either.
+        OpenOptions::new().write(true).open(path)?;
+    }
+    let (mut file, beside) = new_beside(path)?;
+    let written = file
+        .write_all(contents)
+        .and_then(|()| old.map_or(Ok(()), |old| like(&file, old)))
+        .and_then(|()| file.sync_all())
+        .and_then(|()| fs::rename(&beside, path));
+    if written.is_err() {
+        // Best effort; the failure is reported anyway.
+        let _ = fs::remove_file(&beside);
+    }
+    written?;
+    sync_folder(path)
+}
+
+/// A new file in the same folder, so that it can take the other's name.
+fn new_beside(path: &Path) -> io::Result<(File, PathBuf)> {
+    let mut number = 0;
+    loop {
+        let name = format!(".goofs-{}-{number}", process::id());
+        let beside = folder_of(path).join(name);
+        match File::create_new(&beside) {
+            // One that a program with this number has left behind.
+            Err(error) if error.kind() == ErrorKind::AlreadyExists => number += 1,
+            other => return Ok((other?, beside)),
+        }
     }
 }
 
-/// Writes an image to a file that must be new. Runs of zeros become holes.
+/// Who may use the new file is as it was for the old one.
+fn like(file: &File, old: &Metadata) -> io::Result<()> {
+    let new = file.metadata()?;
+    if (new.uid(), new.gid()) != (old.uid(), old.gid()) {
+        // Only root may do this; for others the file becomes their own.
+        let _ = fchown(file, Some(old.uid()), Some(old.gid()));
+    }
+    match new.mode() == old.mode() {
+        true => Ok(()),
+        false => file.set_permissions(old.permissions()),
+    }
+}
+
+/// Writes an image to a file that must be new. Runs of zeros become holes. If it fails, the file is
+/// removed.
 pub fn save_image(
     path: &OsStr,
     image: &[u8],
     progress: &mut dyn FnMut(u64),
 ) -> Result<(), Failure> {
-    let file = File::create_new(path).map_err(of_file(path))?;
-    new(path, file, |file| {
+    let mut file = File::create_new(path).map_err(of_file(path))?;
+    let mut fill = || {
         const PIECE: usize = 1 << 20;
         for (i, piece) in image.chunks(PIECE).enumerate() {
             let start = (i * PIECE) as u64;
@@ -65,40 +133,27 @@ pub fn save_image(
             }
             progress(start + piece.len() as u64);
         }
-        file.set_len(image.len() as u64)
-    })
-}
-
-/// Fills a new file. If that fails, the file goes away again.
-fn new(
-    path: &OsStr,
-    mut file: File,
-    fill: impl FnOnce(&mut File) -> io::Result<()>,
-) -> Result<(), Failure> {
-    let filled = fill(&mut file).and_then(|()| sync(path, &file));
+        file.set_len(image.len() as u64)?;
+        file.sync_all()?;
+        sync_folder(Path::new(path))
+    };
+    let filled = fill();
     if filled.is_err() {
-        // Best effort; the failure is told anyway.
+        // Best effort; the failure is reported anyway.
         let _ = fs::remove_file(path);
     }
     filled.map_err(of_file(path))
 }
 
-/// The file's bytes and its entry reach the medium. Pipes and terminals have neither.
-fn sync(path: &OsStr, file: &File) -> io::Result<()> {
-    if !file.metadata()?.is_file() {
-        return Ok(());
-    }
-    file.sync_all()?;
-    sync_entry(path)
-}
-
 /// Without this, a power failure could take away a new file whose bytes are on the medium.
-pub fn sync_entry(path: &OsStr) -> io::Result<()> {
-    File::open(folder_of(path)?)?.sync_all()
+pub fn sync_folder(path: &Path) -> io::Result<()> {
+    File::open(folder_of(path))?.sync_all()
 }
 
-/// The folder that holds the file itself, not a link to it.
-fn folder_of(path: &OsStr) -> io::Result<PathBuf> {
-    let file = fs::canonicalize(path)?;
-    Ok(file.parent().unwrap_or(Path::new("/")).to_owned())
+fn folder_of(path: &Path) -> &Path {
+    match path.parent() {
+        Some(folder) if folder != Path::new("") => folder,
+        Some(_) => Path::new("."),
+        None => Path::new("/"),
+    }
 }

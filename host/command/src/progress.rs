@@ -3,7 +3,7 @@
 use std::io::{stderr, IsTerminal};
 use std::time::{Duration, Instant};
 
-use crate::output::complain;
+use crate::output::print_error;
 
 pub struct Progress {
     what: &'static str,
@@ -31,18 +31,18 @@ impl Progress {
     pub fn at(&mut self, done: u64) {
         let now = Instant::now();
         if self.terminal && now >= self.next {
-            complain(&format!("\r{}: {done} of {}   ", self.what, self.all));
+            print_error(&format!("\r{}: {done} of {}   ", self.what, self.all));
             self.next = now + EACH;
             self.written = true;
         }
     }
 }
 
-/// The line goes away when the work is over, also by an error.
+/// The line is cleared when the work is over, also by an error.
 impl Drop for Progress {
     fn drop(&mut self) {
         if self.written {
-            complain(&format!("\r{:60}\r", ""));
+            print_error(&format!("\r{:76}\r", ""));
         }
     }
 }

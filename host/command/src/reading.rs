@@ -1,21 +1,25 @@
 //! The commands that change nothing: info, check, ls and get.
 
-use std::ffi::OsStr;
+use std::ffi::{OsStr, OsString};
 use std::fmt::Write as _;
 use std::fs;
+use std::io::ErrorKind;
 use std::os::unix::ffi::OsStrExt;
-use std::os::unix::fs::MetadataExt;
+use std::path::{Component, Path};
 
+use goofs::error::Refusal;
 use goofs::image::State;
 
 use crate::arguments::Arguments;
 use crate::card;
-use crate::failure::{of_call, of_card, quoted, Failure};
+use crate::failure::{of_call, of_card, of_file, quoted, Failure};
 use crate::output::{print, print_bytes, save};
+use crate::space::Space;
+use crate::text;
 
 pub fn info(arguments: &Arguments) -> Result<(), Failure> {
-    let card = &arguments.places(1, 1)?[0];
-    let image = card::read(card)?;
+    let card = &arguments.places(&["CARD"])?[0];
+    let image = card::read(card, arguments.wait()?)?;
     let summary = image.summary();
     let root = image.root();
     let state = match summary.state {
@@ -27,13 +31,23 @@ pub fn info(arguments: &Arguments) -> Result<(), Failure> {
         State::Damaged => "damaged: the journal's length is out of bounds".to_string(),
         State::Unfinished => "unfinished: a format was cut; format again".to_string(),
     };
-    let used = image.used_extents().min(summary.usable_extents());
-    let free = summary.usable_extents() - used;
     let mut text = String::new();
     let mut line = |what: &str, value: String| {
         let _ = writeln!(text, "{what:<16} {value}");
     };
     line("state", state);
+    if summary.state == State::Clean {
+        line(
+            "sound",
+            match image.check() {
+                Ok(()) => "yes".to_string(),
+                Err(Refusal::NotSound(fault)) => {
+                    format!("no: {fault}; next: goofs check {}", quoted(card))
+                }
+                Err(refusal) => format!("no: {refusal}"),
+            },
+        );
+    }
     line("sectors", format!("{} of 512 bytes", summary.sectors()));
     line("files at most", summary.files.to_string());
     line(
@@ -69,67 +83,131 @@ pub fn info(arguments: &Arguments) -> Result<(), Failure> {
             "root",
             format!(
                 "id {}, mode {:o}, version {}, changed {}",
-                root.id, root.mode, root.version, root.change_time
+                root.id,
+                root.mode,
+                root.version,
+                text::time(root.change_time)
             ),
         );
+        let space = Space::of(&image);
+        let used = summary.usable_extents() - space.free;
         line("extents used", used.to_string());
         line(
             "extents free",
-            format!("{free} ({} bytes)", free * summary.extent_bytes()),
+            format!("{} ({} bytes)", space.free, space.free * space.extent_bytes),
         );
+        line("room", space.to_string());
     }
     print(&text)
 }
 
 pub fn check(arguments: &Arguments) -> Result<(), Failure> {
-    let card = &arguments.places(1, 1)?[0];
-    let image = card::read(card)?;
+    let card = &arguments.places(&["CARD"])?[0];
+    let image = card::read(card, arguments.wait()?)?;
     let files = image.entries().map_err(of_card(card))?.len();
     print(&format!("sound, {files} files\n"))
 }
 
 pub fn ls(arguments: &Arguments) -> Result<(), Failure> {
-    let card = &arguments.places(1, 1)?[0];
-    let image = card::read(card)?;
-    let mut text = String::new();
+    let card = &arguments.places(&["CARD"])?[0];
+    let image = card::read(card, arguments.wait()?)?;
+    let changed = |seconds: u32| match arguments.flag("numeric") {
+        true => seconds.to_string(),
+        false => text::time(seconds),
+    };
+    let mut lines = String::new();
     for entry in image.entries().map_err(of_card(card))? {
         let _ = writeln!(
-            text,
+            lines,
             "{:>12} bytes  version {:<4} id {:<6} mode {:<6o} changed {}  {}",
             entry.size,
             entry.version,
             entry.id,
             entry.mode,
-            entry.change_time,
-            card::shown(&entry.name)
+            changed(entry.change_time),
+            text::word(&entry.name)
         );
     }
-    print(&text)
+    drop(image);
+    print(&lines)
 }
 
 pub fn get(arguments: &Arguments) -> Result<(), Failure> {
-    let places = arguments.places(2, 3)?;
-    let (card, name) = (&places[0], &places[1]);
-    let image = card::read(card)?;
-    let name = name.as_bytes();
-    let contents = image.contents(name).map_err(of_call(card, name, None))?;
-    match places.get(2) {
-        Some(file) if file != "-" => {
-            if same_file(card, file) {
-                return Err(Failure::Other(format!(
-                    "{} is the card itself. Nothing was changed.\nNext: name another file to write to.",
-                    file.to_string_lossy()
-                )));
-            }
-            save(file, &contents)
-        }
-        _ => print_bytes(&contents),
+    let places = arguments.places_or_more(&["CARD", "NAME"])?;
+    let (card, names) = (&places[0], &places[1..]);
+    let to = arguments.word("as").filter(|to| *to != "-");
+    let folder = to.filter(|to| Path::new(to).is_dir());
+    if names.len() > 1 && folder.is_none() {
+        return Err(Failure::Usage(match to {
+            Some(to) => format!("several files go into a folder, and {} is none", quoted(to)),
+            None => "several files need --as FOLDER; one file goes to another name with --as FILE"
+                .to_string(),
+        }));
     }
+    let targets: Vec<Option<OsString>> = names
+        .iter()
+        .map(|name| match folder {
+            Some(folder) => in_folder(folder, name).map(Some),
+            None => Ok(to.map(OsStr::to_owned)),
+        })
+        .collect::<Result<_, _>>()?;
+    for target in targets.iter().flatten() {
+        may_be_written(card, target)?;
+    }
+    let image = card::read(card, arguments.wait()?)?;
+    // A name that isn't there is found out before the first file is written.
+    for name in names {
+        let name = name.as_bytes();
+        image.find(name).map_err(of_call(card, name, None))?;
+    }
+    let contents = |name: &OsStr| {
+        let failure = of_call(card, name.as_bytes(), None);
+        image.contents(name.as_bytes()).map_err(failure)
+    };
+    if let [name] = names {
+        let contents = contents(name)?;
+        // The lock is given back first: who reads the output may take any time.
+        drop(image);
+        return match &targets[0] {
+            Some(file) => save(file, &contents),
+            None => print_bytes(&contents),
+        };
+    }
+    for (name, target) in names.iter().zip(targets.iter().flatten()) {
+        save(target, &contents(name)?)?;
+    }
+    Ok(())
 }
 
-fn same_file(one: &OsStr, other: &OsStr) -> bool {
-    match (fs::metadata(one), fs::metadata(other)) {
-        (Ok(one), Ok(other)) => (one.dev(), one.ino()) == (other.dev(), other.ino()),
-        _ => false,
+/// The file in the folder with the name that it has on the card.
+fn in_folder(folder: &OsStr, name: &OsStr) -> Result<OsString, Failure> {
+    // A name on the card may have slashes, or be `..`: it could lead out of the folder.
+    let mut parts = Path::new(name).components();
+    let first = parts.next();
+    if first != Some(Component::Normal(name)) || parts.next().is_some() {
+        return Err(Failure::Usage(format!(
+            "{} can't be the name of a file in a folder; give it alone, with --as FILE",
+            text::word(name.as_bytes())
+        )));
+    }
+    Ok(Path::new(folder).join(name).into())
+}
+
+fn may_be_written(card: &OsStr, file: &OsStr) -> Result<(), Failure> {
+    let found = fs::metadata(file);
+    if let (Ok(one), Ok(other)) = (fs::metadata(card), &found) {
+        if card::is_same(&one, other) {
+            return Err(Failure::Other(format!(
+                "{} is the card itself. Nothing was changed.\nNext: name another file to write to.",
+                quoted(file)
+            )));
+        }
+    }
+    match found {
+        Ok(metadata) if metadata.is_dir() => Err(of_file(file)(ErrorKind::IsADirectory.into())),
+        Err(_) if file.is_empty() || file.as_bytes().ends_with(b"/") => {
+            Err(of_file(file)(ErrorKind::NotFound.into()))
+        }
+        _ => Ok(()),
     }
 }

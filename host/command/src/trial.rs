@@ -9,15 +9,17 @@ use std::os::unix::ffi::OsStrExt;
 use goofs::change::{Change, List, Write};
 use goofs::device::SECTOR;
 use goofs::error::Error;
-use goofs::image::{Entry, Image, Root};
+use goofs::image::Image;
 
 use crate::arguments::Arguments;
 use crate::card;
 use crate::changing::{time, NewFile};
-use crate::failure::{of_call, of_card, of_file, Failure};
+use crate::failure::{of_call, of_card, of_file, quoted, Failure};
 use crate::output::{print, save_image};
 use crate::progress::Progress;
-use crate::writing::{put_changes, resize_changes, size, Source};
+use crate::space::Space;
+use crate::text;
+use crate::writing::{look_up, one_write, put_changes, read_all, resize_changes, size, Source};
 
 /// Groups of up to this many writes are cut in every way.
 const SMALL_GROUP: usize = 8;
@@ -27,58 +29,63 @@ const DRAWN_SUBSETS: usize = 32;
 const RECOVERY_CUTS: usize = 64;
 
 pub fn run(arguments: &Arguments) -> Result<(), Failure> {
-    let places = arguments.places(3, 5)?;
+    let names: &[&str] = match arguments.places_or_more(&["CARD", "CHANGE"])?[1].as_bytes() {
+        b"put" => &["FILE"],
+        b"create" | b"rm" => &["NAME"],
+        b"resize" => &["NAME", "SIZE"],
+        b"write" => &["NAME", "OFFSET", "FILE"],
+        other => {
+            return Err(Failure::Usage(format!(
+                "trial knows put, create, rm, resize and write, not {}",
+                text::word(other)
+            )))
+        }
+    };
+    let places = arguments.places(&[&["CARD", "CHANGE"], names].concat())?;
     let (new_file, time) = (NewFile::options(arguments)?, time(arguments)?);
     let seed = arguments.number("seed", 10, u64::MAX)?.unwrap_or(1);
     let leave = arguments.word("leave");
     let (card, kind, rest) = (&places[0], places[1].as_bytes(), &places[2..]);
-    let counts = match kind {
-        b"put" => 1..=2,
-        b"create" | b"rm" => 1..=1,
-        b"resize" => 2..=2,
-        b"write" => 3..=3,
-        _ => {
-            return Err(Failure::Usage(format!(
-                "trial knows put, create, rm, resize and write, not {}",
-                places[1].to_string_lossy()
-            )))
-        }
-    };
-    if !counts.contains(&rest.len()) {
-        return Err(Failure::Usage(
-            "the change has too few or too many arguments".to_string(),
-        ));
+    if kind != b"put" && arguments.word("as").is_some() {
+        return Err(Failure::Usage("--as is for put".to_string()));
     }
-    let source = match kind {
-        b"put" => Source::read(rest)?,
-        b"write" => Source::named(&rest[0], &rest[2])?,
-        _ => Source::default(),
-    };
     // A trial may be long, so this is found out before it.
     if let Some(file) = leave.filter(|file| fs::symlink_metadata(file).is_ok()) {
         return Err(of_file(file)(io::ErrorKind::AlreadyExists.into()));
     }
 
-    let mut image = card::read(card)?;
-    let name = match kind {
-        b"put" => source.name.as_bytes(),
+    let mut image = card::read(card, arguments.wait()?)?;
+    let sources = match kind {
+        b"put" => Source::all(rest, arguments.word("as"))?,
+        _ => Vec::new(),
+    };
+    let (puts, space) = (
+        look_up(card, &image, &sources, &new_file, time)?,
+        Space::of(&image),
+    );
+    let contents = match kind {
+        b"write" => vec![one_write(&rest[2])?],
+        _ => read_all(card, space, &puts)?,
+    };
+    let name = match &sources[..] {
+        [source] => source.name,
         _ => rest[0].as_bytes(),
     };
     let changes = match kind {
-        b"create" => new_file
-            .change(&image, name, time)
-            .map(|change| vec![change]),
-        b"rm" => Ok(vec![Change::Delete { name, time }]),
-        b"put" => put_changes(&image, &source, &new_file, time),
-        b"resize" => resize_changes(&image, name, size(&rest[1])?, time),
-        _ => Ok(vec![Change::Write {
+        b"create" => {
+            let create = new_file.change(&image, &[], name, time);
+            vec![create.map_err(of_call(card, name, new_file.id))?]
+        }
+        b"rm" => vec![Change::Delete { name, time }],
+        b"put" => put_changes(card, space, &puts, &contents, time)?,
+        b"resize" => resize_changes(card, &image, name, size(&rest[1])?, time)?,
+        _ => vec![Change::Write {
             name,
             offset: size(&rest[1])?,
-            data: &source.contents,
+            data: &contents[0],
             time,
-        }]),
-    }
-    .map_err(of_call(card, name, new_file.id))?;
+        }],
+    };
     // A refusal of any change comes before the first line of the table.
     let mut tried = Progress::new("changes tried", changes.len() as u64);
     image
@@ -121,7 +128,7 @@ pub fn run(arguments: &Arguments) -> Result<(), Failure> {
         _ => Err(Failure::Other(format!(
             "{}: {} ends are neither as before nor as after; the first: {}.\n\
              Next: please report this with the card's image; it should not happen.",
-            card.to_string_lossy(),
+            quoted(card),
             all.different,
             all.first_difference.unwrap_or_default()
         ))),
@@ -161,10 +168,10 @@ fn closing(tally: &Tally) -> String {
 
 fn words(change: &Change) -> String {
     match change {
-        Change::Create { name, .. } => format!("create {}", card::shown(name)),
-        Change::Delete { name, .. } => format!("rm {}", card::shown(name)),
-        Change::Resize { name, size, .. } => format!("resize {} {size}", card::shown(name)),
-        Change::Write { name, offset, .. } => format!("write {} at {offset}", card::shown(name)),
+        Change::Create { name, .. } => format!("create {}", text::word(name)),
+        Change::Delete { name, .. } => format!("rm {}", text::word(name)),
+        Change::Resize { name, size, .. } => format!("resize {} {size}", text::word(name)),
+        Change::Write { name, offset, .. } => format!("write {} at {offset}", text::word(name)),
     }
 }
 
@@ -234,59 +241,84 @@ impl<E: Into<Error>> From<E> for End {
     }
 }
 
-/// What a volume holds, as the library gives it: the root's fields, and all files with their bytes.
+/// What an end is compared with: the metadata but for the journal and, of each data sector that the
+/// change writes, the bytes that belong to a file. A trial writes to nothing else, so that its memory
+/// and time do not depend on how many bytes the files have.
 ///
 /// Create and delete raise the root's version and set its change time; write and resize leave the
 /// root as it is. In all of them the root, the entries and the table change with the start mark,
-/// together. So at an end root and entries are both as before or both as after. Only bytes of files
-/// may be old in one sector and new in another, and only where root and entries are as before.
+/// together. So at an end the metadata are all as before or all as after. Only bytes of files may be
+/// old in one sector and new in another, and only where the metadata are as before.
 #[derive(Debug)]
 struct Snapshot {
-    root: Root,
-    files: Vec<(Entry, Vec<u8>)>,
+    metadata: [Vec<u8>; 2],
+    sectors: Vec<(u64, Vec<u8>)>,
 }
 
 impl Snapshot {
-    fn of(image: &Image) -> Result<Snapshot, Error> {
+    /// Of a sound volume. Whether it is sound depends on these metadata alone.
+    fn of(image: &Image, data_sectors: &[u64]) -> Result<Snapshot, Error> {
         image.check()?;
-        let mut files = Vec::new();
-        for entry in image.entries()? {
-            let contents = image.contents(&entry.name)?;
-            files.push((entry, contents));
-        }
         Ok(Snapshot {
-            root: image.root(),
-            files,
+            metadata: metadata(image).map(<[u8]>::to_vec),
+            sectors: data_sectors
+                .iter()
+                .map(|sector| (*sector, file_bytes(image, *sector).to_vec()))
+                .collect(),
         })
     }
 
-    fn same_root_and_entries(&self, other: &Snapshot) -> bool {
-        self.root == other.root
-            && self.files.len() == other.files.len()
-            && self.files.iter().zip(&other.files).all(|(a, b)| a.0 == b.0)
+    fn has_metadata_of(&self, image: &Image) -> bool {
+        metadata(image) == [&self.metadata[0][..], &self.metadata[1]]
     }
 
-    fn same(&self, other: &Snapshot) -> bool {
-        self.same_root_and_entries(other)
-            && self.files.iter().zip(&other.files).all(|(a, b)| a.1 == b.1)
+    fn is(&self, image: &Image) -> bool {
+        self.has_metadata_of(image)
+            && self
+                .sectors
+                .iter()
+                .all(|(sector, bytes)| file_bytes(image, *sector) == bytes)
     }
 
-    /// Root and entries as before, and each sector of each file as before or as after.
-    fn part_of(&self, before: &Snapshot, after: &Snapshot) -> bool {
-        self.same_root_and_entries(before)
-            && self.files.iter().zip(&before.files).all(|(now, was)| {
-                let becomes = after
-                    .files
-                    .iter()
-                    .find(|(entry, _)| entry.index == now.0.index)
-                    .map_or(&[][..], |(_, contents)| contents);
-                (0..now.1.len()).step_by(SECTOR).all(|start| {
-                    let end = now.1.len().min(start + SECTOR);
-                    now.1[start..end] == was.1[start..end]
-                        || becomes.get(start..end) == Some(&now.1[start..end])
-                })
+    /// Whether the image has these metadata, and each sector of a file is as here or as after.
+    fn is_in_part(&self, after: &Snapshot, image: &Image) -> bool {
+        let mut sectors = self.sectors.iter().zip(&after.sectors);
+        self.has_metadata_of(image)
+            && sectors.all(|((sector, before), (_, after))| {
+                let now = file_bytes(image, *sector);
+                now == before || Some(now) == after.get(..now.len())
             })
     }
+}
+
+/// Superblock, root and directory, and the table.
+fn metadata(image: &Image) -> [&[u8]; 2] {
+    let summary = image.summary();
+    let [journal_at, table_at, data_at] =
+        [summary.journal_at(), summary.table_at(), summary.data_at()]
+            .map(|sector| sector as usize * SECTOR);
+    let bytes = image.bytes();
+    [&bytes[..journal_at], &bytes[table_at..data_at]]
+}
+
+/// The bytes of a data sector that belong to a file: those of its extent up to the file's size.
+fn file_bytes(image: &Image, sector: u64) -> &[u8] {
+    let (summary, bytes) = (image.summary(), image.bytes());
+    let number = |at: usize, count: usize| {
+        let digits = bytes[at..at + count].iter();
+        digits.fold(0, |sum, byte| sum << 8 | u64::from(*byte))
+    };
+    let place = sector - summary.data_at();
+    let extent = place / summary.extent_sectors;
+    let table_entry = summary.table_at() as usize * SECTOR + extent as usize * 4;
+    let (file, offset) = (number(table_entry, 2), number(table_entry + 2, 2));
+    let size = match file < summary.files {
+        true => number((2 + file as usize) * SECTOR + 2, 8),
+        false => 0,
+    };
+    let before = (offset * summary.extent_sectors + place % summary.extent_sectors) * SECTOR as u64;
+    let count = size.saturating_sub(before).min(SECTOR as u64) as usize;
+    &bytes[sector as usize * SECTOR..][..count]
 }
 
 /// What lands of a list: all groups before this one, and of it the writes with these places.
@@ -352,9 +384,12 @@ fn take_back(image: &mut Image, undo: Undo) {
 fn trial(image: &mut Image, change: &Change, draw: &mut Draw, every: bool) -> Result<Tally, End> {
     let list = image.list_of(change)?;
     let groups = list.groups();
-    let before = Snapshot::of(image)?;
+    let data_at = image.summary().data_at();
+    let written = groups.iter().flatten().map(|write| write.sector);
+    let data_sectors: Vec<u64> = written.filter(|sector| *sector >= data_at).collect();
+    let before = Snapshot::of(image, &data_sectors)?;
     let undo = land_all(image, &groups)?;
-    let after = Snapshot::of(image)?;
+    let after = Snapshot::of(image, &data_sectors)?;
     take_back(image, undo);
     let cuts = cuts(&groups, draw);
     let mut scene = Scene {
@@ -456,26 +491,34 @@ impl Scene {
                 return Ok(None);
             }
         };
-        let undo = land_all(image, &list.groups())?;
+        let groups = list.groups();
+        let data_at = image.summary().data_at();
+        if groups.iter().flatten().any(|write| write.sector >= data_at) {
+            self.tally
+                .differs(format!("{point}: recovery writes to the data area"));
+            return Ok(None);
+        }
+        let undo = land_all(image, &groups)?;
         self.judge(image, point);
         take_back(image, undo);
         Ok((!list.is_empty()).then_some(list))
     }
 
     fn judge(&mut self, image: &Image, point: &str) {
-        match Snapshot::of(image) {
-            Err(Error::Refused(refusal)) => {
-                let number = refusal.number();
-                self.tally
-                    .differs(format!("{point}: a call gives {number} ({refusal})"));
-            }
-            Err(error) => self.tally.differs(format!("{point}: {error}")),
-            Ok(now) if now.same(&self.before) => self.tally.before += 1,
-            Ok(now) if now.same(&self.after) => self.tally.after += 1,
-            Ok(now) if now.part_of(&self.before, &self.after) => self.tally.part += 1,
-            Ok(_) => self
-                .tally
-                .differs(format!("{point}: another root, other files or other bytes")),
+        if self.before.is(image) {
+            self.tally.before += 1;
+        } else if self.after.is(image) {
+            self.tally.after += 1;
+        } else if self.before.is_in_part(&self.after, image) {
+            self.tally.part += 1;
+        } else {
+            self.tally.differs(match image.check() {
+                Ok(()) => format!("{point}: another root, other files or other bytes"),
+                Err(refusal) => {
+                    let number = refusal.number();
+                    format!("{point}: check gives {number} ({refusal})")
+                }
+            });
         }
     }
 }
@@ -547,9 +590,11 @@ mod tests {
     }
 
     fn judged(before: &Image, after: &Image, ends: &[Image]) -> Tally {
+        let data_at = before.summary().data_at();
+        let sectors: Vec<u64> = (data_at..before.summary().sectors()).collect();
         let mut scene = Scene {
-            before: Snapshot::of(before).unwrap(),
-            after: Snapshot::of(after).unwrap(),
+            before: Snapshot::of(before, &sectors).unwrap(),
+            after: Snapshot::of(after, &sectors).unwrap(),
             every: false,
             tally: Tally::default(),
         };
@@ -559,7 +604,7 @@ mod tests {
         scene.tally
     }
 
-    /// Ends that are neither as before nor as after are found and told.
+    /// Ends that are neither as before nor as after are found and reported.
     #[test]
     fn differences_are_counted() {
         let (before, after) = (sample(), with_file(sample(), b"f"));
@@ -623,6 +668,11 @@ mod tests {
         let root = changed(changed(file(), data_at, 0, &[2; SECTOR]), 1, 3, &[77]);
         let tally = judged(&before, &after, &[part, other, root]);
         assert_eq!((tally.part, tally.different), (1, 2));
+        // The last byte of the file, and the first byte behind it.
+        let last = changed(file(), data_at + 1, 511, &[9]);
+        let behind = changed(file(), data_at + 2, 0, &[9]);
+        let tally = judged(&before, &after, &[last, behind]);
+        assert_eq!((tally.different, tally.before), (1, 1));
     }
 
     #[test]

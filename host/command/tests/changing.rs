@@ -4,11 +4,14 @@
 mod shared;
 
 use std::fs::{self, File};
+use std::os::unix::fs::MetadataExt;
 use std::path::Path;
 
 use goofs::change::Change;
 use goofs::image::Image;
-use shared::{bad, formatted, good, numbers_of_trial, on_failing_medium, trial, Folder};
+use shared::{
+    bad, formatted, good, numbers_of_trial, on, on_failing_medium, trial, with_limit, Folder,
+};
 
 /// Puts an empty file on the card with the library, as put does for an empty file.
 fn create(card: &Path, name: &[u8], id: u64) {
@@ -38,7 +41,7 @@ fn format_makes_an_empty_volume() {
     assert_eq!(good("check", &card, &[]), "sound, 0 files\n");
     let info = good("info", &card, &[]);
     assert!(
-        info.contains("id 1, mode 755, version 0, changed 1000"),
+        info.contains("id 1, mode 755, version 0, changed 1970-01-01 00:16:40 UTC"),
         "{info}"
     );
 
@@ -58,7 +61,7 @@ fn format_makes_an_empty_volume() {
     let info = good("info", &other, &[]);
     assert!(info.contains("files at most    300"), "{info}");
     assert!(
-        info.contains("id 77, mode 700, version 0, changed 9"),
+        info.contains("id 77, mode 700, version 0, changed 1970-01-01 00:00:09 UTC"),
         "{info}"
     );
 }
@@ -108,11 +111,15 @@ fn files_are_removed() {
     good("rm", &card, &["f", "--time", "11"]);
     let ls = good("ls", &card, &[]);
     assert!(ls.ends_with("  g\n") && ls.lines().count() == 1, "{ls}");
-    assert!(good("info", &card, &[]).contains("changed 11"));
+    assert!(good("info", &card, &[]).contains("changed 1970-01-01 00:00:11 UTC"));
 
     let holder = File::open(&card).unwrap();
     holder.lock_shared().unwrap();
-    for (command, rest) in [("rm", &["g"][..]), ("recover", &[]), ("format", &["--yes"])] {
+    for (command, rest) in [
+        ("rm", &["g", "--wait=0"][..]),
+        ("recover", &["--wait=0"]),
+        ("format", &["--yes", "--wait=0"]),
+    ] {
         let err = bad(command, &card, rest, 1);
         assert!(err.contains("another program has it open"), "{err}");
     }
@@ -154,7 +161,7 @@ fn recovery_after_a_cut_by_hand() {
 
 /// The copies of a change stand behind sector 674 of the sample, so its first write fails.
 #[test]
-fn a_failing_medium_is_told() {
+fn a_failing_medium_is_reported() {
     let folder = Folder::new("failing");
     let card = formatted(&folder);
     create(&card, b"f", 2);
@@ -173,13 +180,50 @@ fn a_failing_medium_is_told() {
     // A format fails behind the superblock that says that it is unfinished.
     let said = on_failing_medium(100, "format", &card, &["--yes"]);
     assert_eq!(said.status, 1);
-    assert!(said.err.contains("format again with --yes"), "{}", said.err);
+    assert!(
+        said.err.contains("give the command again, with --yes"),
+        "{}",
+        said.err
+    );
     assert!(bad("ls", &card, &[], 1).contains("refused (4)"));
     // A file that was made for a format does not stay behind.
     let new = folder.file("new");
     let said = on_failing_medium(100, "format", &new, &["--sectors", "1313"]);
     assert_eq!(said.status, 1);
     assert!(!new.exists());
+}
+
+/// An image file has its blocks from the start, so that its disk can't run full in a change. What it
+/// was asked to leave out stays out.
+#[test]
+fn format_takes_the_blocks_of_an_image() {
+    let folder = Folder::new("blocks");
+    let allocated = |card: &Path| fs::metadata(card).unwrap().blocks() * 512;
+    let length = 8_192 * 512;
+    let new = folder.file("new");
+    good("format", &new, &["--sectors", "8192"]);
+    assert!(allocated(&new) >= length);
+    // A file that is there and has holes.
+    let there = folder.file("there");
+    File::create(&there).unwrap().set_len(length).unwrap();
+    good("format", &there, &[]);
+    assert!(allocated(&there) >= length);
+    let sparse = folder.file("sparse");
+    good("format", &sparse, &["--sectors", "8192", "--sparse"]);
+    assert!(allocated(&sparse) < length / 2);
+    // Where they can't be had nothing is changed: a file that is there keeps its length and bytes.
+    let short = folder.write("short", &[0; 100 * 512]);
+    let said = with_limit("-f 2000", "format", &short, &["--sectors", "8192"]);
+    assert_eq!(said.status, 1);
+    assert!(said.err.contains("Nothing was changed"), "{}", said.err);
+    assert!(fs::read(&short).unwrap() == [0; 100 * 512]);
+    // More than any disk has: the one here is not filled before that is told.
+    let huge = folder.file("huge");
+    File::create(&huge).unwrap().set_len(15 << 40).unwrap();
+    let said = on("format", &huge, &[]);
+    assert_eq!(said.status, 1);
+    assert!(said.err.contains("No space left"), "{}", said.err);
+    assert!(allocated(&huge) < length);
 }
 
 #[test]

@@ -74,7 +74,7 @@ fn output_that_can_not_be_written() {
         );
     }
     assert_eq!(into(full(), "ls", Path::new("--help"), &[]).status, 1);
-    // After a change it is told that the change is done.
+    // After a change, the error says that the change is done.
     let said = into(full(), "recover", &card, &[]);
     assert!(
         said.status == 1 && said.err.contains("done, but"),
@@ -92,7 +92,7 @@ fn output_that_can_not_be_written() {
 /// A full standard error takes away the words, but not the status.
 #[test]
 fn errors_that_can_not_be_written() {
-    let folder = Folder::new("mute");
+    let folder = Folder::new("full-error");
     for (words, status) in [(&["ls", "nothing"][..], 1), (&["nonsense"], 2)] {
         let mut command = Command::new(env!("CARGO_BIN_EXE_goofs"));
         command.args(words).current_dir(folder.file("."));
@@ -105,9 +105,9 @@ fn errors_that_can_not_be_written() {
 fn files_that_can_not_be_written_by_get() {
     let folder = Folder::new("unwritten");
     let card = with_file(&folder);
-    // No more than a few blocks of a file can be written. A new one goes away again.
+    // No more than a few blocks of a file can be written. A new one is removed again.
     let new = folder.file("new");
-    let said = with_limit("-f 10", "get", &card, &["f", new.to_str().unwrap()]);
+    let said = with_limit("-f 10", "get", &card, &["f", "--as", new.to_str().unwrap()]);
     assert_eq!(said.status, 1);
     assert!(
         said.err.contains("Nothing was changed on the card"),
@@ -116,35 +116,86 @@ fn files_that_can_not_be_written_by_get() {
     );
     assert!(!new.exists());
     let old = folder.write("old", b"old");
-    let said = with_limit("-f 10", "get", &card, &["f", old.to_str().unwrap()]);
+    let said = with_limit("-f 10", "get", &card, &["f", "--as", old.to_str().unwrap()]);
     assert_eq!(said.status, 1);
-    assert!(
-        said.err.contains("This file is incomplete now"),
-        "{}",
-        said.err
-    );
+    assert_eq!(fs::read(&old).unwrap(), b"old");
+    let mut names: Vec<_> = fs::read_dir(folder.file("."))
+        .unwrap()
+        .map(|entry| entry.unwrap().file_name())
+        .collect();
+    names.sort();
+    assert_eq!(names, ["card", "f", "old"], "nothing else is left");
     // An image that is left is removed again, too.
     let left = folder.file("left");
     let words = ["rm", "f", "--leave", left.to_str().unwrap()];
     let said = with_limit("-f 10", "trial", &card, &words);
     assert_eq!(said.status, 1);
     assert!(!left.exists());
-    let err = bad("get", &card, &["f", "/no/such/folder/f"], 1);
+    let err = bad("get", &card, &["f", "--as=/no/such/folder/f"], 1);
     assert!(
         err.contains("/no/such/folder/f") && err.contains("Next: "),
         "{err}"
     );
-    let err = bad("get", &card, &["f", "/dev/full"], 1);
+    let err = bad("get", &card, &["f", "--as=/dev/full"], 1);
     assert!(err.contains("No space left"), "{err}");
     // A link to a file that isn't there yet.
     let (link, behind) = (folder.file("link"), folder.file("behind"));
     std::os::unix::fs::symlink(&behind, &link).unwrap();
-    good("get", &card, &["f", link.to_str().unwrap()]);
+    good("get", &card, &["f", "--as", link.to_str().unwrap()]);
     assert_eq!(fs::read(&behind).unwrap(), [b'x'; 100_000]);
     // What is no file has nothing to be synced.
-    good("get", &card, &["f", "/dev/null"]);
-    good("get", &card, &["f", old.to_str().unwrap()]);
+    good("get", &card, &["f", "--as=/dev/null"]);
+    good("get", &card, &["f", "--as", old.to_str().unwrap()]);
     assert_eq!(fs::read(&old).unwrap(), [b'x'; 100_000]);
+}
+
+/// A program may be started with a stack that is smaller than a call takes, 322 KiB.
+#[test]
+fn a_small_stack() {
+    let folder = Folder::new("stack");
+    let card = folder.file("card");
+    let source = folder.write("f", &[b'x'; 100_000]);
+    let source = source.to_str().unwrap();
+    let commands: [(&str, &[&str]); 10] = [
+        ("format", &["--sectors", "1313"]),
+        ("put", &[source]),
+        ("info", &[]),
+        ("check", &[]),
+        ("ls", &[]),
+        ("get", &["f"]),
+        ("trial", &["create", "g"]),
+        ("resize", &["f", "10"]),
+        ("recover", &[]),
+        ("rm", &["f"]),
+    ];
+    for (command, rest) in commands {
+        let said = with_limit("-s 256", command, &card, rest);
+        assert_eq!(said.status, 0, "{command}: {}", said.err);
+    }
+}
+
+/// A write past the length that files may have is told, and ends no program by its signal.
+#[test]
+fn files_that_may_not_be_so_long() {
+    let folder = Folder::new("length");
+    let card = with_file(&folder);
+    let run_limited = |words: &[&str]| {
+        let script = "ulimit -f 300; exec \"$@\"";
+        run(Command::new("sh")
+            .args(["-c", script, "sh", env!("CARGO_BIN_EXE_goofs"), words[0]])
+            .arg(&card)
+            .args(&words[1..]))
+    };
+    let said = run_limited(&["rm", "f"]);
+    assert_eq!(said.status, 1);
+    assert!(
+        said.err.contains("the medium failed (File too large")
+            && said.err.contains("goofs recover"),
+        "{}",
+        said.err
+    );
+    assert!(good("recover", &card, &[]).starts_with("nothing to do"));
+    good("rm", &card, &["f"]);
 }
 
 /// For each kind of error the number, where it is a refusal, and a word of the advice.
@@ -189,8 +240,20 @@ fn errors_say_what_to_do_next() {
         ("recover", &damaged, &[], "refused (6)", "goofs format"),
         ("recover", &bad_journal, &[], "refused (6)", "goofs format"),
         ("rm", &unsound, &["f"], "fault 21", "goofs format '"),
-        ("put", &card, &[source, &long], "477 bytes", "1 to 476"),
-        ("put", &card, &[source, ""], "name is empty", "1 to 476"),
+        (
+            "put",
+            &card,
+            &[source, "--as", &long],
+            "477 bytes",
+            "1 to 476",
+        ),
+        (
+            "put",
+            &card,
+            &[source, "--as="],
+            "name is empty",
+            "1 to 476",
+        ),
         ("put", &card, &[source, "--id=0"], "refused (8)", "--id"),
         ("get", &card, &["g"], "refused (9)", "goofs ls"),
         (
@@ -276,10 +339,10 @@ fn errors_say_what_to_do_next() {
                 said.err
             }
         };
-        let (told, advice) = err.split_once("Next: ").expect("there is an advice");
-        assert!(told.contains(what), "{command} {rest:?}: {err}");
+        let (happened, advice) = err.split_once("Next: ").expect("there is an advice");
+        assert!(happened.contains(what), "{command} {rest:?}: {err}");
         assert!(
-            told.contains("Nothing was changed"),
+            happened.contains("Nothing was changed"),
             "{command} {rest:?}: {err}"
         );
         assert!(advice.contains(next), "{command} {rest:?}: {err}");
@@ -324,6 +387,28 @@ fn a_format_that_would_lose_something() {
     let other = folder.write("other", &bytes);
     assert!(bad("format", &other, &[], 1).contains("other data"));
     good("format", &other, &["--yes"]);
+    // Bytes far behind the metadata are lost as well, and so are those of a part of a sector.
+    for at in [400 * 512, 1_313 * 512 - 1] {
+        let mut bytes = vec![0; 1_313 * 512];
+        bytes[at] = 1;
+        let behind = folder.write("behind", &bytes);
+        let err = bad("format", &behind, &[], 1);
+        assert!(
+            err.contains(&format!("other data, from byte {at}")),
+            "{err}"
+        );
+        good("format", &behind, &["--yes"]);
+    }
+    let mut bytes = vec![0; 700];
+    bytes[699] = 1;
+    let part = folder.write("part", &bytes);
+    assert!(bad("format", &part, &["--sectors=1313"], 1).contains("other data"));
+    // What lies behind the volume is not lost.
+    let mut bytes = vec![0; 2_000 * 512];
+    bytes[1_313 * 512] = 1;
+    let past = folder.write("past", &bytes);
+    good("format", &past, &["--sectors=1313"]);
+    assert_eq!(fs::read(&past).unwrap()[1_313 * 512], 1);
     // Not whole sectors: what was formatted could not be read.
     let odd = folder.write("odd", &[0; 1_313 * 512 + 100]);
     assert!(bad("format", &odd, &[], 1).contains("refused (1)"));
@@ -336,7 +421,7 @@ fn a_format_that_would_lose_something() {
 fn options_are_those_of_the_command() {
     let folder = Folder::new("options");
     let card = formatted(&folder);
-    let words: [(&str, &[&str], &str); 7] = [
+    let words: [(&str, &[&str], &str); 17] = [
         ("ls", &["--long"], "there is no option --long here"),
         ("ls", &["--yes"], "there is no option --yes here"),
         ("rm", &["f", "--id", "3"], "there is no option --id here"),
@@ -347,7 +432,27 @@ fn options_are_those_of_the_command() {
             "--time is given twice",
         ),
         ("format", &["--yes=no"], "--yes takes no value"),
-        ("rm", &[], "an argument is missing"),
+        // One dash, as other programs take it: not a name, and not passed over.
+        (
+            "format",
+            &["-y"],
+            "no option -y here; if it is a name, give it behind --",
+        ),
+        (
+            "rm",
+            &["-f"],
+            "no option -f here; if it is a name, give it behind --",
+        ),
+        ("put", &["f", "--as", "--time", "5"], "--as needs a value"),
+        ("ls", &["--wait=x"], "--wait: x is not a whole number"),
+        // What is missing, by its name.
+        ("rm", &[], "NAME is missing"),
+        ("get", &[], "NAME is missing"),
+        ("put", &[], "FILE is missing"),
+        ("resize", &["f"], "SIZE is missing"),
+        ("trial", &[], "CHANGE is missing"),
+        ("trial", &["rm"], "NAME is missing"),
+        ("trial", &["write", "f"], "OFFSET is missing"),
     ];
     for (command, rest, what) in words {
         let err = bad(command, &card, rest, 2);
@@ -356,6 +461,11 @@ fn options_are_those_of_the_command() {
         assert!(err.contains(&format!("\ngoofs {command} CARD")), "{err}");
     }
     assert_eq!(goofs(&["ls", "--help", "--long"]).status, 2);
+    let said = goofs(&["ls"]);
+    assert!(said.err.contains("CARD is missing"), "{}", said.err);
+    // Behind `--` such a word is a name.
+    let err = bad("rm", &card, &["--", "-f"], 1);
+    assert!(err.contains("the name was -f"), "{err}");
 }
 
 /// The command is fed more than a pipe holds.
@@ -367,7 +477,7 @@ fn a_put_from_the_standard_input() {
         Command::new(env!("CARGO_BIN_EXE_goofs"))
             .arg("put")
             .arg(&card)
-            .args(["-", "f"])
+            .args(["-", "--as=f"])
             .stdin(Stdio::piped()),
     );
     child
@@ -378,9 +488,9 @@ fn a_put_from_the_standard_input() {
         .unwrap();
     assert!(child.wait().unwrap().success());
     let copy = folder.file("copy");
-    good("get", &card, &["f", copy.to_str().unwrap()]);
+    good("get", &card, &["f", "--as", copy.to_str().unwrap()]);
     assert_eq!(fs::read(copy).unwrap(), [7; 150_000]);
     assert!(File::open(&card).unwrap().try_lock().is_ok());
     let err = bad("put", &card, &["-"], 2);
-    assert!(err.contains("NAME is needed"), "{err}");
+    assert!(err.contains("--as NAME"), "{err}");
 }

@@ -5,6 +5,7 @@ mod shared;
 use std::fs::{self, File, OpenOptions};
 use std::os::unix::fs::{FileExt, MetadataExt};
 use std::path::Path;
+use std::time::{Duration, Instant};
 
 use goofs::change::Change;
 use goofs::device::Disk;
@@ -45,7 +46,7 @@ fn all_commands(gib: u64, extent_bytes: u64) {
     let folder = Folder::new(&format!("{gib}-gib"));
     let card = folder.file("card");
     let sectors = (gib << 21).to_string();
-    let said = good("format", &card, &["--sectors", &sectors]);
+    let said = good("format", &card, &["--sectors", &sectors, "--sparse"]);
     let room: u64 = said
         .split_whitespace()
         .filter_map(|word| word.parse().ok())
@@ -65,8 +66,8 @@ fn all_commands(gib: u64, extent_bytes: u64) {
     let file = file.to_str().unwrap();
     let copy = folder.file("copy");
     for name in ["a", "b"] {
-        good("put", &card, &[file, name]);
-        good("get", &card, &[name, copy.to_str().unwrap()]);
+        good("put", &card, &[file, "--as", name]);
+        good("get", &card, &[name, "--as", copy.to_str().unwrap()]);
         assert!(fs::read(&copy).unwrap() == contents);
     }
     good("resize", &card, &["b", "300000"]);
@@ -110,6 +111,63 @@ fn all_commands(gib: u64, extent_bytes: u64) {
     );
     assert!(good("recover", &card, &[]).starts_with("recovered"));
     assert_eq!(good("check", &card, &[]), "sound, 2 files\n");
+}
+
+/// A card of 4 GiB that one file fills. A trial takes little memory beside the map of the card, and
+/// not the time that reading the file would take.
+#[test]
+fn a_trial_on_a_full_card() {
+    let folder = Folder::new("full-card");
+    let card = folder.file("card");
+    good(
+        "format",
+        &card,
+        &["--sectors=8389408", "--time=1", "--sparse"],
+    );
+    let source = folder.write("f", &[1; 3_000]);
+    let source = source.to_str().unwrap();
+    good("put", &card, &[source]);
+    let file = OpenOptions::new().write(true).open(&card).unwrap();
+    let extents: u16 = 65_530;
+    let size = u64::from(extents) * 65_536;
+    file.write_all_at(&size.to_be_bytes(), 2 * 512 + 2).unwrap();
+    let table: Vec<u8> = (0..extents)
+        .flat_map(|offset| [[0, 0], offset.to_be_bytes()].concat())
+        .collect();
+    file.write_all_at(&table, (34 + 255) * 512).unwrap();
+    drop(file);
+    assert_eq!(good("check", &card, &[]), "sound, 1 files\n");
+
+    let smaller = (size - 65_536).to_string();
+    for change in [
+        &["write", "f", "1000", source][..],
+        &["resize", "f", &smaller],
+        &["create", "g"],
+    ] {
+        // The map needs 4,194,704 KiB of addresses.
+        let words = ["trial", card.to_str().unwrap()];
+        let said = with_limit("-v 4700000", words[0], Path::new(words[1]), change);
+        assert_eq!(said.status, 0, "{change:?}: {}", said.err);
+        assert!(said.text().contains("recoveries cut in "), "{change:?}");
+    }
+}
+
+/// An image file that is all holes has nothing to lose, and is not read to its end to know that. One
+/// byte far behind the metadata is found.
+#[test]
+fn a_format_of_a_sparse_image() {
+    let folder = Folder::new("sparse");
+    let card = folder.file("card");
+    let file = File::create(&card).unwrap();
+    file.set_len(400 << 30).unwrap();
+    file.write_all_at(&[1], 300 << 30).unwrap();
+    let begun = Instant::now();
+    let said = on("format", &card, &[]);
+    let place = format!("other data, from byte {}", 300_u64 << 30);
+    assert!(said.status == 1 && said.err.contains(&place), "{said:?}");
+    good("format", &card, &["--sectors=600000000", "--sparse"]);
+    // Reading 300 GiB of zeros takes far longer.
+    assert!(begun.elapsed() < Duration::from_secs(15));
 }
 
 #[test]

@@ -2,12 +2,18 @@
 
 mod shared;
 
-use std::fs::{self, File};
+use std::ffi::OsStr;
+use std::fs::{self, File, Permissions};
+use std::os::unix::ffi::OsStrExt;
+use std::os::unix::fs::{MetadataExt, PermissionsExt};
 use std::path::PathBuf;
+use std::process::Command;
+use std::thread;
+use std::time::Duration;
 
 use oracle::lists::RECORD;
 use oracle::{FormatRequest, Request};
-use shared::{bad, good, goofs, on, Folder};
+use shared::{bad, good, goofs, on, run, start, Folder};
 
 /// The sample volume with one file, and a tail past the volume's end.
 fn sample(folder: &Folder) -> PathBuf {
@@ -82,10 +88,17 @@ fn what_stands_on_a_volume() {
     assert_eq!(good("check", &card, &[]), "sound, 1 files\n");
     let ls = good("ls", &card, &[]);
     assert!(ls.contains("6 bytes") && ls.contains("id 7"), "{ls}");
-    assert!(ls.trim_end().ends_with("changed 1002  dark frame"), "{ls}");
+    assert!(
+        ls.ends_with("changed 1970-01-01 00:16:42 UTC  'dark frame'\n"),
+        "{ls}"
+    );
     assert_eq!(good("get", &card, &["dark frame"]), "counts");
     let copy = folder.file("copy");
-    good("get", &card, &["dark frame", copy.to_str().unwrap()]);
+    good(
+        "get",
+        &card,
+        &["dark frame", "--as", copy.to_str().unwrap()],
+    );
     assert_eq!(fs::read(&copy).unwrap(), b"counts");
 }
 
@@ -93,7 +106,7 @@ fn what_stands_on_a_volume() {
 fn refusals_say_number_and_next_step() {
     let folder = Folder::new("refusals");
     let card = sample(&folder);
-    let err = bad("get", &card, &["light", "unmade"], 1);
+    let err = bad("get", &card, &["light", "--as", "unmade"], 1);
     assert!(err.contains("refused (9)"), "{err}");
     assert!(err.contains("goofs ls"), "{err}");
     assert!(!fs::exists("unmade").unwrap());
@@ -135,8 +148,198 @@ fn refusals_say_number_and_next_step() {
 fn the_card_is_not_written_over_by_get() {
     let folder = Folder::new("itself");
     let card = sample(&folder);
-    let err = bad("get", &card, &["dark frame", card.to_str().unwrap()], 1);
+    let err = bad(
+        "get",
+        &card,
+        &["dark frame", "--as", card.to_str().unwrap()],
+        1,
+    );
     assert!(err.contains("is the card itself"), "{err}");
+}
+
+/// A second word is not a file to be written to: it may be a local file that the shell has found.
+#[test]
+fn get_writes_only_to_what_is_named() {
+    let folder = Folder::new("named");
+    let card = sample(&folder);
+    let local = folder.write("local", b"mine");
+    let local = local.to_str().unwrap();
+    let err = bad("get", &card, &["dark frame", local], 2);
+    assert!(err.contains("--as FILE"), "{err}");
+    bad(
+        "get",
+        &card,
+        &["dark frame", "dark frame", "--as", local],
+        2,
+    );
+    assert_eq!(fs::read(local).unwrap(), b"mine");
+    // No file is written if one of the names is not there.
+    let into = folder.file("into");
+    fs::create_dir(&into).unwrap();
+    let into = into.to_str().unwrap();
+    bad("get", &card, &["dark frame", "light", "--as", into], 1);
+    assert_eq!(fs::read_dir(into).unwrap().count(), 0);
+    bad("get", &card, &["dark frame", "--as", ""], 1);
+    for output in ["-", "/dev/stdout", "/proc/self/fd/1"] {
+        assert_eq!(
+            good("get", &card, &["dark frame", "--as", output]),
+            "counts"
+        );
+    }
+}
+
+/// A file in the place of an old one keeps who may use it; a folder takes files by their names.
+#[test]
+fn get_writes_files_as_cp_does() {
+    let folder = Folder::new("as-cp");
+    let card = sample(&folder);
+    let source = folder.write("gain", b"1.25");
+    good("put", &card, &[source.to_str().unwrap()]);
+    let old = folder.write("old", b"longer than what comes");
+    let old_name = old.to_str().unwrap();
+    fs::set_permissions(&old, Permissions::from_mode(0o640)).unwrap();
+    good("get", &card, &["gain", "--as", old_name]);
+    assert_eq!(fs::read(&old).unwrap(), b"1.25");
+    assert_eq!(fs::metadata(&old).unwrap().mode() & 0o777, 0o640);
+    // A link stays one, and the file behind it is written.
+    let link = folder.file("link");
+    std::os::unix::fs::symlink("old", &link).unwrap();
+    good(
+        "get",
+        &card,
+        &["dark frame", "--as", link.to_str().unwrap()],
+    );
+    assert!(fs::symlink_metadata(&link).unwrap().is_symlink());
+    assert_eq!(fs::read(&old).unwrap(), b"counts");
+
+    let into = folder.file("into");
+    fs::create_dir(&into).unwrap();
+    let into_name = into.to_str().unwrap();
+    good("get", &card, &["gain", "dark frame", "--as", into_name]);
+    assert_eq!(fs::read(into.join("gain")).unwrap(), b"1.25");
+    assert_eq!(fs::read(into.join("dark frame")).unwrap(), b"counts");
+    assert_eq!(fs::read_dir(&into).unwrap().count(), 2);
+    // A name on the card may not lead out of the folder.
+    for name in ["../out", "..", "sub/gain"] {
+        good("put", &card, &[source.to_str().unwrap(), "--as", name]);
+        bad("get", &card, &[name, "--as", into_name], 2);
+        good("rm", &card, &[name]);
+    }
+    assert!(!folder.file("out").exists());
+    fs::create_dir(into.join("gain2")).unwrap();
+    good("put", &card, &[source.to_str().unwrap(), "--as=gain2"]);
+    bad("get", &card, &["gain2", "--as", into_name], 1);
+    let missing = folder.file("missing/");
+    bad(
+        "get",
+        &card,
+        &["gain", "--as", missing.to_str().unwrap()],
+        1,
+    );
+}
+
+/// FILE is not emptied before its bytes are there, also if the command ends by a kill.
+#[test]
+fn get_never_leaves_half_a_file() {
+    let folder = Folder::new("half");
+    let card = folder.file("card");
+    good("format", &card, &["--sectors", "20000"]);
+    let new = vec![7; 6_000_000];
+    let source = folder.write("f", &new);
+    good("put", &card, &[source.to_str().unwrap()]);
+    let target = folder.write("target", b"old");
+    for step in 0..40 {
+        let mut child = start(
+            Command::new(env!("CARGO_BIN_EXE_goofs"))
+                .arg("get")
+                .arg(&card)
+                .args(["f", "--as"])
+                .arg(&target),
+        );
+        thread::sleep(Duration::from_micros(step * 250));
+        let _ = child.kill();
+        child.wait().unwrap();
+        let found = fs::read(&target).unwrap();
+        assert!(
+            found == b"old" || found == new,
+            "{} bytes after {step} steps",
+            found.len()
+        );
+        fs::write(&target, b"old").unwrap();
+    }
+}
+
+/// Names are printed so that the shell gives them back, and never change the terminal.
+#[test]
+fn names_can_be_given_back() {
+    let folder = Folder::new("given-back");
+    let card = sample(&folder);
+    let source = folder.write("source", b"");
+    let names: [&[u8]; 6] = [
+        b"plain-1.cal",
+        b"it's",
+        b"$HOME `id`",
+        b"\xff\ttab\n2",
+        "right\u{202e}left\u{2066}".as_bytes(),
+        b"\x1b[2Jback\\slash'",
+    ];
+    for name in names {
+        let name = OsStr::from_bytes(name);
+        let words = ["put", "--as"].map(OsStr::new);
+        let (card, source) = (card.as_os_str(), source.as_os_str());
+        let said = goofs(&[words[0], card, source, words[1], name]);
+        assert_eq!(said.status, 0, "{}", said.err);
+    }
+    let ls = good("ls", &card, &[]);
+    assert_eq!(ls.lines().count(), 1 + names.len(), "{ls}");
+    assert!(
+        !ls.chars()
+            .any(|letter| letter != '\n' && letter.is_control())
+            && !ls.contains('\u{202e}')
+            && !ls.contains('\u{2066}'),
+        "{ls:?}"
+    );
+    for (line, name) in ls.lines().skip(1).zip(names) {
+        let (_, word) = line.split_once(" UTC  ").expect("a time and a name");
+        let said = run(Command::new("bash").args(["-c", &format!("printf %s {word}")]));
+        assert_eq!(said.out, name, "{word}");
+        // An error prints the name in the same way.
+        let name = OsStr::from_bytes(name);
+        let said = goofs(&[OsStr::new("rm"), card.as_os_str(), name, name]);
+        assert!(said.status == 2 && said.err.contains(word), "{}", said.err);
+    }
+    let numeric = good("ls", &card, &["--numeric"]);
+    assert!(
+        numeric
+            .lines()
+            .next()
+            .unwrap()
+            .ends_with("changed 1002  'dark frame'"),
+        "{numeric}"
+    );
+}
+
+/// A volume that is clean but not sound is not passed over by info and recover.
+#[test]
+fn a_volume_that_is_not_sound() {
+    let folder = Folder::new("not-sound");
+    let card = sample(&folder);
+    assert!(good("info", &card, &[]).contains("\nsound            yes\n"));
+    let mut image = fs::read(&card).unwrap();
+    image[5 * 512] = 1;
+    let unsound = folder.write("unsound", &image);
+    let info = good("info", &unsound, &[]);
+    assert!(
+        info.contains("\nsound            no: fault 21, directory entry 3")
+            && info.contains("goofs check"),
+        "{info}"
+    );
+    let err = bad("recover", &unsound, &[], 1);
+    assert!(
+        err.contains("fault 21, directory entry 3") && err.contains("Next: "),
+        "{err}"
+    );
+    assert!(good("recover", &card, &[]).ends_with("the volume is clean and sound\n"));
 }
 
 #[test]
@@ -145,7 +348,7 @@ fn a_locked_card_is_left_alone() {
     let card = sample(&folder);
     let holder = File::open(&card).unwrap();
     holder.lock().unwrap();
-    assert!(bad("ls", &card, &[], 1).contains("another program has it open"));
+    assert!(bad("ls", &card, &["--wait=0"], 1).contains("another program has it open"));
     // Readers do not keep each other out.
     holder.unlock().unwrap();
     holder.lock_shared().unwrap();
@@ -166,6 +369,20 @@ fn words_that_are_not_understood() {
         assert!(said.out.is_empty());
     }
     assert_eq!(goofs::<&str>(&[]).status, 2);
+    // A word that is no command takes two lines, not the whole help.
+    for words in [&["nonsense"][..], &["help", "nonsense"]] {
+        let said = goofs(words);
+        assert_eq!((said.status, said.text()), (2, String::new()));
+        assert_eq!(
+            said.err,
+            "goofs: there is no command nonsense.\nNext: goofs --help shows which there are.\n"
+        );
+    }
+    assert!(goofs(&["help", "put"]).text().starts_with("goofs put CARD"));
+    let version = goofs(&["--version"]);
+    assert_eq!(version.status, 0);
+    let number = format!("goofs {}\n", env!("CARGO_PKG_VERSION"));
+    assert_eq!(version.text(), number);
 }
 
 #[test]

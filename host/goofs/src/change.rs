@@ -3,18 +3,33 @@
 
 use crate::device::SECTOR;
 use crate::error::Refusal;
-use crate::image::{claimed, Image, Summary};
+use crate::image::{
+    claimed, Image, Summary, ENTRIES_IN_TABLE_SECTOR, JOURNAL_SECTORS, LONGEST_TRANSFER,
+};
 
 /// Bytes of a list's record: the sector number, then the contents.
 pub const RECORD: usize = 8 + SECTOR;
 const BARRIER: [u8; 8] = [255; 8];
 
-/// The longest list of each call, in records.
-const CREATE_RECORDS: usize = 11;
-const DELETE_RECORDS: usize = 1_051;
-const RESIZE_RECORDS: usize = 1_049;
-const WRITE_RECORDS: usize = 140;
-const RECOVERY_RECORDS: usize = 1_027;
+/// Journal entries that stand in a sector, and in the whole journal.
+const ENTRIES_IN_JOURNAL_SECTOR: usize = 32;
+const MOST_JOURNAL_ENTRIES: usize = JOURNAL_SECTORS as usize * ENTRIES_IN_JOURNAL_SECTOR;
+/// Sectors of the longest allocation table.
+const MOST_TABLE_SECTORS: usize = u16::MAX.div_ceil(ENTRIES_IN_TABLE_SECTOR as u16) as usize;
+/// Sectors that the longest write touches: it may begin and end within a sector.
+const MOST_DATA_SECTORS: usize = LONGEST_TRANSFER / SECTOR + 1;
+
+/// The records of a change with so many data sectors and targets: the data, a copy of each target and
+/// the journal; the start mark; the targets; the end mark; and a barrier after each of the four.
+pub const fn records(data: usize, targets: usize) -> usize {
+    let journal = targets.div_ceil(ENTRIES_IN_JOURNAL_SECTOR);
+    data + targets + journal + 1 + targets + 1 + 4
+}
+
+/// The records of a recovery: the targets, the end mark and two barriers.
+pub const fn recovery_records(targets: usize) -> usize {
+    targets + 1 + 2
+}
 
 /// One change. It goes through whole or not at all, but for bytes that a write puts in the place of
 /// old ones: after a cut each such sector is the old or the new one.
@@ -110,10 +125,12 @@ impl Image {
     /// The list that does this change; empty if there is nothing to do.
     pub fn list_of(&self, change: &Change) -> Result<List, Refusal> {
         let records = match change {
-            Change::Create { .. } => CREATE_RECORDS,
-            Change::Delete { .. } => DELETE_RECORDS,
-            Change::Resize { .. } => RESIZE_RECORDS,
-            Change::Write { .. } => WRITE_RECORDS,
+            // Root and entry.
+            Change::Create { .. } => records(0, 2),
+            Change::Delete { .. } => records(0, 2 + MOST_TABLE_SECTORS),
+            // The entry. What a growing one writes is shorter.
+            Change::Resize { .. } => records(0, 1 + MOST_TABLE_SECTORS),
+            Change::Write { .. } => records(MOST_DATA_SECTORS, 2),
         };
         let mut bytes = vec![0; records * RECORD];
         let (image, list) = (&self.bytes, &mut bytes[..]);
@@ -140,7 +157,7 @@ impl Image {
 
     /// The list that finishes a change that was cut; empty if none was.
     pub fn recovery(&self) -> Result<List, Refusal> {
-        let mut bytes = vec![0; RECOVERY_RECORDS * RECORD];
+        let mut bytes = vec![0; recovery_records(MOST_JOURNAL_ENTRIES) * RECORD];
         let answer = crate::recover(&self.bytes, &mut bytes);
         Refusal::judge(answer.code, 0, 0)?;
         bytes.truncate(answer.length as usize);
@@ -189,6 +206,13 @@ impl Image {
     }
 }
 
+/// The barriers of every format.
+pub(crate) const FORMAT_BARRIERS: u64 = 3;
+
+fn records_of_format(geometry: &Summary) -> u64 {
+    2 + 1 + geometry.files + geometry.table_sectors() + FORMAT_BARRIERS
+}
+
 /// The arguments of a format.
 #[derive(Clone, Copy, Debug, PartialEq, Eq)]
 pub struct Format {
@@ -207,18 +231,10 @@ impl Format {
         Ok(claimed(&first[8..]))
     }
 
-    /// How many records it has, barriers included.
+    /// How many records it has, barriers included: the superblock twice, the root, the directory, the
+    /// allocation table and three barriers.
     pub fn records(&self) -> Result<u64, Refusal> {
-        // Superblock twice, root, three barriers, at most 1,024 entries and 512 table sectors.
-        let (mut least, mut most) = (0, 6 + 1_024 + 512);
-        while least < most {
-            let middle = (least + most) / 2;
-            match self.record(middle)? {
-                Some(_) => least = middle + 1,
-                None => most = middle,
-            }
-        }
-        Ok(least)
+        Ok(records_of_format(&self.geometry()?))
     }
 
     /// The record at this position; none past the last.
@@ -238,5 +254,45 @@ impl Format {
             Err(refusal) => Err(refusal),
             Ok(()) => Ok(Some(record)),
         }
+    }
+}
+
+#[cfg(test)]
+mod tests {
+    use super::*;
+    use crate::image::State;
+
+    /// The lengths that the rules of the volume name: a first create, the longest delete, and a write
+    /// of 65,536 bytes into an empty file.
+    #[test]
+    fn records_of_changes() {
+        assert_eq!(records(0, 2), 11);
+        assert_eq!(records(0, 2 + MOST_TABLE_SECTORS), 1_051);
+        assert_eq!(records(LONGEST_TRANSFER / SECTOR, 2), 139);
+        assert_eq!(MOST_JOURNAL_ENTRIES, 1_024);
+    }
+
+    #[test]
+    fn records_of_formats() {
+        for (sectors, files) in [(1_313, 255), (8_389_408, 255), (8_390_177, 1_024)] {
+            let format = Format {
+                sectors,
+                files,
+                id: 1,
+                mode: 0,
+                time: 0,
+            };
+            let records = format.records().unwrap();
+            assert!(format.record(records - 1).unwrap().is_some());
+            assert!(format.record(records).unwrap().is_none());
+        }
+        // More files than a format takes today: no bound of them stands in the count.
+        let geometry = Summary {
+            files: 65_535,
+            extents: 65_535,
+            extent_sectors: 128,
+            state: State::Clean,
+        };
+        assert_eq!(records_of_format(&geometry), 6 + 65_535 + 512);
     }
 }

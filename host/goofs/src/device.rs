@@ -1,11 +1,12 @@
-//! What a volume can stand on: a `Device` reads sectors, writes a sector and puts up a barrier. Here
-//! are an image in memory and a file or block device.
+//! What a volume can stand on: a `Device` reads and writes sectors and puts up a barrier. Here are an
+//! image in memory and a file or block device.
 
 use std::fs::{File, TryLockError};
 use std::io::{self, Seek, SeekFrom};
 use std::os::unix::fs::FileExt;
 
 use crate::map::Map;
+use crate::system;
 
 /// Bytes of a sector.
 pub const SECTOR: usize = 512;
@@ -17,15 +18,48 @@ pub trait Device {
     /// Fills whole sectors from this one on.
     fn read(&self, first: u64, into: &mut [u8]) -> io::Result<()>;
 
-    /// Writes one sector. It may reach the medium at any time, or only with the next barrier.
-    fn write(&mut self, sector: u64, contents: &[u8; SECTOR]) -> io::Result<()>;
+    /// Writes whole sectors from this one on. Each may reach the medium at any time, or only with the
+    /// next barrier.
+    fn write(&mut self, first: u64, contents: &[u8]) -> io::Result<()>;
 
-    /// Comes back when all writes before it are on the medium.
+    /// Comes back when all writes before it are on the medium. If it fails, each of them is on it or
+    /// not, and a later barrier that succeeds says nothing of those that are not.
     fn barrier(&mut self) -> io::Result<()>;
+
+    /// Forgets, as far as that can be had, what is kept of the medium elsewhere, so that reads from
+    /// now on show the medium itself.
+    fn forget(&mut self) {}
 
     /// A map of the first bytes into memory. A device that has none is read instead.
     fn map(&self, _length: u64) -> Option<Map> {
         None
+    }
+}
+
+/// A lent device: what is opened on it gives it back, also where the opening fails.
+impl<D: Device> Device for &mut D {
+    fn length(&self) -> u64 {
+        D::length(self)
+    }
+
+    fn read(&self, first: u64, into: &mut [u8]) -> io::Result<()> {
+        D::read(self, first, into)
+    }
+
+    fn write(&mut self, first: u64, contents: &[u8]) -> io::Result<()> {
+        D::write(self, first, contents)
+    }
+
+    fn barrier(&mut self) -> io::Result<()> {
+        D::barrier(self)
+    }
+
+    fn forget(&mut self) {
+        D::forget(self)
+    }
+
+    fn map(&self, length: u64) -> Option<Map> {
+        D::map(self, length)
     }
 }
 
@@ -68,8 +102,8 @@ impl Device for Memory {
         Ok(())
     }
 
-    fn write(&mut self, sector: u64, contents: &[u8; SECTOR]) -> io::Result<()> {
-        let (start, end) = span(sector, SECTOR, self.length())?;
+    fn write(&mut self, first: u64, contents: &[u8]) -> io::Result<()> {
+        let (start, end) = span(first, contents.len(), self.length())?;
         self.bytes[start as usize..end as usize].copy_from_slice(contents);
         Ok(())
     }
@@ -114,6 +148,48 @@ impl Disk {
         }
         Ok(())
     }
+
+    /// Gives the first bytes of a file their blocks on the disk, so that no write into them can fail
+    /// for want of room; a shorter file becomes so long. If there is no room, the file has its old
+    /// length. A block device stays as it is.
+    pub fn allocate(&mut self, length: u64) -> io::Result<()> {
+        if !self.file.metadata()?.is_file() {
+            return Ok(());
+        }
+        let before = self.length;
+        let allocated = system::allocate(&self.file, length).and_then(|asked| match asked {
+            true => Ok(()),
+            false => self.fill(before, length),
+        });
+        if let Err(error) = allocated {
+            // Best effort; the failure is told anyway.
+            let _ = self.file.set_len(before);
+            return Err(error);
+        }
+        self.length = self.length.max(length);
+        Ok(())
+    }
+
+    /// Writes zeros there. What a file has before them keeps its holes.
+    fn fill(&self, start: u64, end: u64) -> io::Result<()> {
+        const PIECE: usize = 1 << 20;
+        let zeros = vec![0; PIECE];
+        let mut at = start;
+        while at < end {
+            let count = (end - at).min(PIECE as u64) as usize;
+            self.file.write_all_at(&zeros[..count], at)?;
+            at += count as u64;
+        }
+        Ok(())
+    }
+}
+
+impl Disk {
+    /// The first byte from this one on that may not be zero, or the length if there is none.
+    pub fn next_data(&self, from: u64) -> u64 {
+        let found = system::next_data(&self.file, from).unwrap_or(self.length);
+        found.min(self.length)
+    }
 }
 
 fn unlocked(attempt: Result<(), TryLockError>) -> io::Result<()> {
@@ -137,14 +213,19 @@ impl Device for Disk {
     }
 
     /// One positioned write. One that a signal interrupts is taken up again.
-    fn write(&mut self, sector: u64, contents: &[u8; SECTOR]) -> io::Result<()> {
-        let (start, _) = span(sector, SECTOR, self.length)?;
+    fn write(&mut self, first: u64, contents: &[u8]) -> io::Result<()> {
+        let (start, _) = span(first, contents.len(), self.length)?;
         self.file.write_all_at(contents, start)
     }
 
     /// An fdatasync.
     fn barrier(&mut self) -> io::Result<()> {
         self.file.sync_data()
+    }
+
+    /// The system's pages of the file. Those of a device below it, as of a loop device's file, stay.
+    fn forget(&mut self) {
+        system::forget_pages(&self.file);
     }
 
     fn map(&self, length: u64) -> Option<Map> {

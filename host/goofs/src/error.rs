@@ -84,7 +84,7 @@ impl fmt::Display for Refusal {
             Refusal::AlreadyThere => "the name or the id is already in use",
             Refusal::DirectoryFull => "the directory has no free entry",
             Refusal::PastTheEnd => "the offset is greater than the file's size",
-            Refusal::NoRoom => "one more extent is needed and none is free",
+            Refusal::NoRoom => "more extents are needed than are free",
             Refusal::BufferTooShort => "the lent buffer is too short for the answer",
         })
     }
@@ -182,6 +182,11 @@ pub enum Error {
     DeviceTooShort { needed: u64, present: u64 },
     /// The device could not be read. Nothing was written.
     Unreadable(io::Error),
+    /// A write or barrier failed when the volume was opened, so it isn't known whether what the device
+    /// shows is on the medium. No byte was changed.
+    Unsettled(io::Error),
+    /// The caller stopped between two changes. These are done; nothing was written of the others.
+    Stopped { changes_done: usize },
     /// A write or a barrier failed in the middle of a list.
     Interrupted(Interrupted),
     /// An earlier change was interrupted, so what stands on the device isn't known here any more.
@@ -195,8 +200,9 @@ pub struct Interrupted {
     pub writes: u64,
     /// Sector writes that passed a barrier: they are on the medium.
     pub landed: u64,
-    /// Sector writes after those which the device took. They may be on the medium or not.
-    pub taken: u64,
+    /// Sector writes after those that were sent to the device, the one that failed among them. Each
+    /// may be on the medium or not.
+    pub sent: u64,
     /// The changes before this one that went through whole.
     pub changes_done: usize,
     pub cause: io::Error,
@@ -215,11 +221,18 @@ impl fmt::Display for Error {
                 "the medium has {present} bytes and the format needs {needed}"
             ),
             Error::Unreadable(cause) => write!(f, "the medium could not be read: {cause}"),
+            Error::Unsettled(cause) => write!(
+                f,
+                "the medium failed at the opening ({cause}), so it is not known what stands on it"
+            ),
+            Error::Stopped { changes_done } => {
+                write!(f, "stopped after {changes_done} changes, each done whole")
+            }
             Error::Interrupted(cut) => write!(
                 f,
                 "the medium failed ({}): of {} sector writes {} are on it, {} more may be; \
                  {} changes before went through whole",
-                cut.cause, cut.writes, cut.landed, cut.taken, cut.changes_done
+                cut.cause, cut.writes, cut.landed, cut.sent, cut.changes_done
             ),
             Error::OpenAgain => f.write_str("a change was interrupted: open the volume again"),
         }
@@ -230,7 +243,7 @@ impl std::error::Error for Error {
     fn source(&self) -> Option<&(dyn std::error::Error + 'static)> {
         match self {
             Error::Refused(refusal) => Some(refusal),
-            Error::Unreadable(cause) => Some(cause),
+            Error::Unreadable(cause) | Error::Unsettled(cause) => Some(cause),
             Error::Interrupted(cut) => Some(&cut.cause),
             _ => None,
         }

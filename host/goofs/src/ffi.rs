@@ -1,4 +1,4 @@
-//! The C interface: its results, its declarations, and one safe function around each call.
+//! The C interface: its results, and for each call a declaration with a safe function around it.
 //!
 //! The calls are proved for every pointer and length that belong together, and a Rust slice is such
 //! a pair. So nothing is tested here.
@@ -45,254 +45,99 @@ results! {
     FormatRecordAnswer { code, length }
 }
 
-extern "C" {
-    fn goofs_summary(image: *const u8, image_length: usize) -> SummaryAnswer;
-    fn goofs_check(image: *const u8, image_length: usize) -> CheckAnswer;
-    fn goofs_find(
-        image: *const u8,
-        image_length: usize,
-        name: *const u8,
-        name_length: usize,
-    ) -> FindAnswer;
-    fn goofs_list(
-        image: *const u8,
-        image_length: usize,
-        index: u64,
-        output: *mut u8,
-        output_length: usize,
-    ) -> ListAnswer;
-    fn goofs_read(
-        image: *const u8,
-        image_length: usize,
-        name: *const u8,
-        name_length: usize,
-        offset: u64,
-        count: u64,
-        output: *mut u8,
-        output_length: usize,
+/// Declares a call and puts a safe function around it. In C a slice is a pointer and a length, which
+/// its function takes apart; numbers go through as they are.
+macro_rules! calls {
+    ($(
+        $(#[$about:meta])*
+        $call:ident is $symbol:ident($($argument:ident: $kind:ident),*) -> $answer:ty;
+    )*) => {$(
+        calls! { @ [$(#[$about])*] $call $symbol $answer; [] [] []; $($argument: $kind,)* }
+    )*};
+    (@ $about:tt $call:ident $symbol:ident $answer:ty;
+        [$($type:ty,)*] [$($parameter:tt)*] [$($given:expr,)*];
+        $slice:ident: bytes, $($rest:tt)*) => {
+        calls! { @ $about $call $symbol $answer;
+            [$($type,)* *const u8, usize,]
+            [$($parameter)* $slice: &[u8],]
+            [$($given,)* $slice.as_ptr(), $slice.len(),];
+            $($rest)* }
+    };
+    (@ $about:tt $call:ident $symbol:ident $answer:ty;
+        [$($type:ty,)*] [$($parameter:tt)*] [$($given:expr,)*];
+        $slice:ident: buffer, $($rest:tt)*) => {
+        calls! { @ $about $call $symbol $answer;
+            [$($type,)* *mut u8, usize,]
+            [$($parameter)* $slice: &mut [u8],]
+            [$($given,)* $slice.as_mut_ptr(), $slice.len(),];
+            $($rest)* }
+    };
+    (@ $about:tt $call:ident $symbol:ident $answer:ty;
+        [$($type:ty,)*] [$($parameter:tt)*] [$($given:expr,)*];
+        $number:ident: $width:ident, $($rest:tt)*) => {
+        calls! { @ $about $call $symbol $answer;
+            [$($type,)* $width,] [$($parameter)* $number: $width,] [$($given,)* $number,];
+            $($rest)* }
+    };
+    (@ [$(#[$about:meta])*] $call:ident $symbol:ident $answer:ty;
+        [$($type:ty,)*] [$($parameter:tt)*] [$($given:expr,)*];) => {
+        extern "C" {
+            fn $symbol($(_: $type),*) -> $answer;
+        }
+        $(#[$about])*
+        #[allow(clippy::too_many_arguments)] // as many as the call has
+        pub fn $call($($parameter)*) -> $answer {
+            unsafe { $symbol($($given),*) }
+        }
+    };
+}
+
+calls! {
+    /// The geometry and the state.
+    summary is goofs_summary(image: bytes) -> SummaryAnswer;
+
+    /// Whether the volume is clean and has no fault.
+    check is goofs_check(image: bytes) -> CheckAnswer;
+
+    /// The index and the fields of the file of this name.
+    find is goofs_find(image: bytes, name: bytes) -> FindAnswer;
+
+    /// The fields of the entry with this index; its name is copied to the output.
+    list is goofs_list(image: bytes, index: u64, output: buffer) -> ListAnswer;
+
+    /// Copies at most `count` bytes of the file from this offset on to the output.
+    read is goofs_read(
+        image: bytes, name: bytes, offset: u64, count: u64, output: buffer
     ) -> ReadAnswer;
-    fn goofs_create(
-        image: *const u8,
-        image_length: usize,
-        name: *const u8,
-        name_length: usize,
-        id: u64,
-        mode: u32,
-        time: u32,
-        list: *mut u8,
-        list_length: usize,
+
+    /// A new empty file in the lowest free entry.
+    create is goofs_create(
+        image: bytes, name: bytes, id: u64, mode: u32, time: u32, list: buffer
     ) -> ChangeAnswer;
-    fn goofs_delete(
-        image: *const u8,
-        image_length: usize,
-        name: *const u8,
-        name_length: usize,
-        time: u32,
-        list: *mut u8,
-        list_length: usize,
+
+    /// Frees the file's entry and its extents.
+    delete is goofs_delete(image: bytes, name: bytes, time: u32, list: buffer) -> ChangeAnswer;
+
+    /// Gives the file another size; what is added at its end is zero.
+    resize is goofs_resize(
+        image: bytes, name: bytes, size: u64, time: u32, list: buffer
     ) -> ChangeAnswer;
-    fn goofs_resize(
-        image: *const u8,
-        image_length: usize,
-        name: *const u8,
-        name_length: usize,
-        size: u64,
-        time: u32,
-        list: *mut u8,
-        list_length: usize,
+
+    /// Writes the data at an offset up to the size.
+    write is goofs_write(
+        image: bytes, name: bytes, offset: u64, data: bytes, time: u32, list: buffer
     ) -> ChangeAnswer;
-    fn goofs_write(
-        image: *const u8,
-        image_length: usize,
-        name: *const u8,
-        name_length: usize,
-        offset: u64,
-        data: *const u8,
-        data_length: usize,
-        time: u32,
-        list: *mut u8,
-        list_length: usize,
-    ) -> ChangeAnswer;
-    fn goofs_recover(
-        image: *const u8,
-        image_length: usize,
-        list: *mut u8,
-        list_length: usize,
-    ) -> RecoverAnswer;
-    fn goofs_format_record(
-        sectors: u64,
-        files: u64,
-        id: u64,
-        mode: u32,
-        time: u32,
-        position: u64,
-        output: *mut u8,
-        output_length: usize,
+
+    /// The list that finishes an interrupted change; empty for a clean volume.
+    recover is goofs_recover(image: bytes, list: buffer) -> RecoverAnswer;
+
+    /// The record at this position of the format of a medium with so many sectors.
+    format_record is goofs_format_record(
+        sectors: u64, files: u64, id: u64, mode: u32, time: u32, position: u64, output: buffer
     ) -> FormatRecordAnswer;
-    fn goofs_carry_out(
-        image: *mut u8,
-        image_length: usize,
-        list: *const u8,
-        list_length: usize,
-    ) -> u64;
-}
 
-/// The geometry and the state.
-pub fn summary(image: &[u8]) -> SummaryAnswer {
-    unsafe { goofs_summary(image.as_ptr(), image.len()) }
-}
-
-/// Whether the volume is clean and has no fault.
-pub fn check(image: &[u8]) -> CheckAnswer {
-    unsafe { goofs_check(image.as_ptr(), image.len()) }
-}
-
-/// The index and the fields of the file of this name.
-pub fn find(image: &[u8], name: &[u8]) -> FindAnswer {
-    unsafe { goofs_find(image.as_ptr(), image.len(), name.as_ptr(), name.len()) }
-}
-
-/// The fields of the entry with this index; its name is copied to the output.
-pub fn list(image: &[u8], index: u64, output: &mut [u8]) -> ListAnswer {
-    unsafe {
-        goofs_list(
-            image.as_ptr(),
-            image.len(),
-            index,
-            output.as_mut_ptr(),
-            output.len(),
-        )
-    }
-}
-
-/// Copies at most `count` bytes of the file from this offset on to the output.
-pub fn read(image: &[u8], name: &[u8], offset: u64, count: u64, output: &mut [u8]) -> ReadAnswer {
-    unsafe {
-        goofs_read(
-            image.as_ptr(),
-            image.len(),
-            name.as_ptr(),
-            name.len(),
-            offset,
-            count,
-            output.as_mut_ptr(),
-            output.len(),
-        )
-    }
-}
-
-/// A new empty file in the lowest free entry.
-pub fn create(
-    image: &[u8],
-    name: &[u8],
-    id: u64,
-    mode: u32,
-    time: u32,
-    list: &mut [u8],
-) -> ChangeAnswer {
-    unsafe {
-        goofs_create(
-            image.as_ptr(),
-            image.len(),
-            name.as_ptr(),
-            name.len(),
-            id,
-            mode,
-            time,
-            list.as_mut_ptr(),
-            list.len(),
-        )
-    }
-}
-
-/// Frees the file's entry and its extents.
-pub fn delete(image: &[u8], name: &[u8], time: u32, list: &mut [u8]) -> ChangeAnswer {
-    unsafe {
-        goofs_delete(
-            image.as_ptr(),
-            image.len(),
-            name.as_ptr(),
-            name.len(),
-            time,
-            list.as_mut_ptr(),
-            list.len(),
-        )
-    }
-}
-
-/// Gives the file another size; what is added at its end is zero.
-pub fn resize(image: &[u8], name: &[u8], size: u64, time: u32, list: &mut [u8]) -> ChangeAnswer {
-    unsafe {
-        goofs_resize(
-            image.as_ptr(),
-            image.len(),
-            name.as_ptr(),
-            name.len(),
-            size,
-            time,
-            list.as_mut_ptr(),
-            list.len(),
-        )
-    }
-}
-
-/// Writes the data at an offset up to the size.
-pub fn write(
-    image: &[u8],
-    name: &[u8],
-    offset: u64,
-    data: &[u8],
-    time: u32,
-    list: &mut [u8],
-) -> ChangeAnswer {
-    unsafe {
-        goofs_write(
-            image.as_ptr(),
-            image.len(),
-            name.as_ptr(),
-            name.len(),
-            offset,
-            data.as_ptr(),
-            data.len(),
-            time,
-            list.as_mut_ptr(),
-            list.len(),
-        )
-    }
-}
-
-/// The list that finishes an interrupted change; empty for a clean volume.
-pub fn recover(image: &[u8], list: &mut [u8]) -> RecoverAnswer {
-    unsafe { goofs_recover(image.as_ptr(), image.len(), list.as_mut_ptr(), list.len()) }
-}
-
-/// The record at this position of the format of a medium with so many sectors.
-pub fn format_record(
-    sectors: u64,
-    files: u64,
-    id: u64,
-    mode: u32,
-    time: u32,
-    position: u64,
-    output: &mut [u8],
-) -> FormatRecordAnswer {
-    unsafe {
-        goofs_format_record(
-            sectors,
-            files,
-            id,
-            mode,
-            time,
-            position,
-            output.as_mut_ptr(),
-            output.len(),
-        )
-    }
-}
-
-/// Does all the writes of a list in their order, or none: 1 for the image, 8 for the list.
-pub fn carry_out(image: &mut [u8], list: &[u8]) -> u64 {
-    unsafe { goofs_carry_out(image.as_mut_ptr(), image.len(), list.as_ptr(), list.len()) }
+    /// Does all the writes of a list in their order, or none: 1 for the image, 8 for the list.
+    carry_out is goofs_carry_out(image: buffer, list: bytes) -> u64;
 }
 
 #[cfg(test)]

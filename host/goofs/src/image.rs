@@ -13,8 +13,9 @@ pub const LONGEST_NAME: usize = 476;
 /// The most bytes that one read or write moves.
 pub const LONGEST_TRANSFER: usize = 65_536;
 
-const JOURNAL_SECTORS: u64 = 32;
-const ENTRIES_IN_TABLE_SECTOR: u64 = 128;
+pub(crate) const JOURNAL_SECTORS: u64 = 32;
+pub(crate) const ENTRIES_IN_TABLE_SECTOR: u64 = 128;
+const DIRECTORY_AT: usize = 2;
 const NO_FILE: [u8; 2] = [255, 255];
 const FREE: [u8; 2] = [0, 0];
 
@@ -136,6 +137,23 @@ pub struct Entry {
     pub mode: u32,
     pub access_time: u32,
     pub change_time: u32,
+}
+
+impl Entry {
+    /// What a directory sector of a sound volume says.
+    fn of(index: u64, sector: &[u8]) -> Entry {
+        let name_length = number(&sector[34..36]) as usize;
+        Entry {
+            index,
+            name: sector[36..36 + name_length].to_vec(),
+            size: number(&sector[2..10]),
+            version: number(&sector[10..14]) as u32,
+            id: number(&sector[14..22]),
+            mode: number(&sector[22..26]) as u32,
+            access_time: number(&sector[26..30]) as u32,
+            change_time: number(&sector[30..34]) as u32,
+        }
+    }
 }
 
 fn number(bytes: &[u8]) -> u64 {
@@ -274,32 +292,32 @@ impl Image {
         })
     }
 
-    /// All files, in the directory's order.
+    /// All files, in the directory's order. The volume is judged once: a call for each entry would
+    /// judge it anew each time.
     pub fn entries(&self) -> Result<Vec<Entry>, Refusal> {
         self.check()?;
-        let mut entries = Vec::new();
-        let mut name = [0; LONGEST_NAME];
-        for index in 0..self.summary().files {
-            // In a sound volume the mark 0 says that the entry is free. Each call judges the volume
-            // anew, so asking for free entries too would take most of the time.
-            let at = (2 + index as usize) * SECTOR;
-            if self.bytes[at..at + 2] == FREE {
-                continue;
-            }
-            let answer = crate::list(&self.bytes, index, &mut name);
-            Refusal::judge(answer.code, answer.fault, answer.place)?;
-            entries.push(Entry {
-                index,
-                name: name[..answer.name_length as usize].to_vec(),
-                size: answer.size,
-                version: answer.version as u32,
-                id: answer.id,
-                mode: answer.mode as u32,
-                access_time: answer.access_time as u32,
-                change_time: answer.change_time as u32,
-            });
-        }
-        Ok(entries)
+        let files = self.summary().files;
+        let directory = self.bytes.chunks_exact(SECTOR).skip(DIRECTORY_AT);
+        Ok((0..files)
+            .zip(directory)
+            // In a sound volume any other mark says that the entry is occupied.
+            .filter(|(_, sector)| sector[..2] != FREE)
+            .map(|(index, sector)| Entry::of(index, sector))
+            .collect())
+    }
+
+    /// An id for a new file, beside others with these ids that are not on the volume yet: the number
+    /// after the greatest in use, or the lowest that no one has.
+    pub fn unused_id(&self, new_ids: &[u64]) -> Result<u64, Refusal> {
+        let mut ids: Vec<u64> = self.entries()?.iter().map(|entry| entry.id).collect();
+        ids.extend(new_ids);
+        ids.push(self.root().id);
+        ids.sort_unstable();
+        let greatest = ids.last().copied().unwrap_or(0);
+        Ok(greatest
+            .checked_add(1)
+            .or_else(|| (1..u64::MAX).find(|id| ids.binary_search(id).is_err()))
+            .expect("a directory has fewer entries than there are ids"))
     }
 
     /// Fills the start of the output with bytes of the file, and says how many.

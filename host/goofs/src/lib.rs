@@ -7,6 +7,12 @@
 //!   list of sector writes;
 //! - `format_record` gives the records of a format one at a time;
 //! - `carry_out` does the writes of a list, and is the only call that changes an image.
+//!
+//! A call takes up to 322 KiB of stack and no heap (measured; see `bench/README.md`): a thread that
+//! makes calls needs a stack of at least 512 KiB.
+//!
+//! The static library is looked for in the repository that this crate stands in, or in the folder
+//! that the environment variable GOOFS_LIB_DIR names when the crate is built.
 
 #![deny(unsafe_code)]
 
@@ -20,6 +26,8 @@ pub mod error;
 pub mod image;
 #[allow(unsafe_code)]
 pub mod map;
+#[allow(unsafe_code)]
+pub mod system;
 pub mod volume;
 
 pub use ffi::{

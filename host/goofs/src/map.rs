@@ -1,5 +1,5 @@
 //! A private, copy-on-write map of a file into memory, and how a program ends whose map can't be
-//! read. All unsafe code of this library but the calls themselves stands here.
+//! read.
 //!
 //! Why it is sound:
 //! - A map owns its addresses: the system chose them, nothing else refers to them, and they are
@@ -21,15 +21,8 @@ use std::os::fd::AsRawFd;
 use std::ptr::{null_mut, NonNull};
 use std::sync::OnceLock;
 
-/// The numbers below are those of these systems. Elsewhere there is no map, and images are read.
-const MAPS: bool = cfg!(all(
-    target_os = "linux",
-    any(
-        target_arch = "x86_64",
-        target_arch = "aarch64",
-        target_arch = "riscv64"
-    )
-));
+use crate::system::{signal, KNOWN};
+
 const PROT_READ: c_int = 1;
 const PROT_WRITE: c_int = 2;
 const MAP_PRIVATE: c_int = 2;
@@ -48,7 +41,6 @@ extern "C" {
         offset: i64,
     ) -> *mut c_void;
     fn munmap(address: *mut c_void, length: usize) -> c_int;
-    fn signal(number: c_int, handler: extern "C" fn(c_int)) -> usize;
     fn write(file: c_int, bytes: *const c_void, length: usize) -> isize;
     fn _exit(status: c_int) -> !;
 }
@@ -70,7 +62,7 @@ impl Map {
     /// None if the system doesn't map the file, or not so much of it. The caller holds a lock on the
     /// file, and the file has at least this length.
     pub(crate) fn new(file: &File, length: usize) -> Option<Map> {
-        if !MAPS || length == 0 || length > isize::MAX as usize {
+        if !KNOWN || length == 0 || length > isize::MAX as usize {
             return None;
         }
         let file = file.try_clone().ok()?;
@@ -132,7 +124,7 @@ extern "C" fn end(_: c_int) {
 /// From now on, if a map can't be read, the program writes these words to the standard error and ends
 /// with status 1. Otherwise it would end by a signal, without a word. They can be set once.
 pub fn end_if_unreadable(last_words: &'static str) {
-    if MAPS && LAST_WORDS.set(last_words).is_ok() {
-        unsafe { signal(SIGBUS, end) };
+    if KNOWN && LAST_WORDS.set(last_words).is_ok() {
+        unsafe { signal(SIGBUS, end as *const () as usize) };
     }
 }

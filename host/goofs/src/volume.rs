@@ -1,12 +1,13 @@
 //! A volume on a device: its image is loaded once and kept in step with what is written. Every change
-//! goes to the device record by record, and waits at each barrier until the medium has all of it.
+//! goes to the device group by group, and waits at each barrier until the medium has all of it.
 
 use std::io;
+use std::ops::ControlFlow;
 
-use crate::change::{step, Change, Format, List, Step};
+use crate::change::{step, Change, Format, List, Step, FORMAT_BARRIERS};
 use crate::device::{Device, SECTOR};
 use crate::error::{Error, Interrupted};
-use crate::image::Image;
+use crate::image::{Image, State};
 
 #[derive(Debug)]
 pub struct Volume<D> {
@@ -26,11 +27,24 @@ pub enum Stage {
 impl<D: Device> Volume<D> {
     /// Reads the volume. One of any state is taken; 1 to 3 are refused.
     ///
-    /// The barrier comes first: what a program that broke off has written, and the image shows, may
-    /// not be on the medium yet, and no change may rest on it before it is.
+    /// What the device shows need not be on the medium: a program may have been ended in the middle of
+    /// a list, or a barrier has failed, and then a system that holds writes back may show writes that
+    /// it has given up. Those are of one group, as a list stops where a barrier fails. Any part of a
+    /// group may be missing without harm, but for the two groups that are a mark: a change that rests
+    /// on a mark that isn't there is lost with the next cut. So the superblock is sent again as it was
+    /// read, with a barrier that covers this write. All that a superblock stands for passed a barrier
+    /// before it was sent the first time.
+    ///
+    /// An unfinished or damaged volume is left alone: no change can be made to it.
     pub fn open(mut device: D) -> Result<Volume<D>, Error> {
-        device.barrier().map_err(Error::Unreadable)?;
+        device.forget();
         let image = Image::load(&device)?;
+        if let State::Clean | State::Waiting(_) = image.summary().state {
+            device
+                .write(0, &image.bytes()[..SECTOR])
+                .and_then(|()| device.barrier())
+                .map_err(Error::Unsettled)?;
+        }
         Ok(Volume {
             device,
             image,
@@ -55,21 +69,32 @@ impl<D: Device> Volume<D> {
 impl<D: Device> Volume<D> {
     /// Does the changes one after the other; each is on the medium before the next starts.
     /// Several are first tried in memory, so that a refusal of any of them comes before the first
-    /// byte is written. `progress` hears how many are tried, and how many done.
-    pub fn apply(
+    /// byte is written.
+    pub fn apply(&mut self, changes: &[Change]) -> Result<(), Error> {
+        self.apply_telling(changes, &mut |_, _| ControlFlow::Continue(()))
+    }
+
+    /// As `apply`. `progress` hears how many changes are tried, and how many done, and may stop before
+    /// the next one.
+    pub fn apply_telling(
         &mut self,
         changes: &[Change],
-        progress: &mut dyn FnMut(Stage, usize),
+        progress: &mut dyn FnMut(Stage, usize) -> ControlFlow<()>,
     ) -> Result<(), Error> {
         self.image()?;
+        let mut stopped = false;
         if changes.len() > 1 {
-            self.image
-                .try_out(changes, &mut |tried| progress(Stage::Tried, tried))?;
+            self.image.try_out(changes, &mut |tried| {
+                stopped |= progress(Stage::Tried, tried).is_break();
+            })?;
         }
         for (done, change) in changes.iter().enumerate() {
+            if stopped {
+                return Err(Error::Stopped { changes_done: done });
+            }
             let list = self.image.list_of(change)?;
             self.carry_out(&list, done)?;
-            progress(Stage::Done, done + 1);
+            stopped = progress(Stage::Done, done + 1).is_break();
         }
         Ok(())
     }
@@ -86,54 +111,87 @@ impl<D: Device> Volume<D> {
         self.image.carry_out(list)?;
         self.unknown = true;
         let writes = list.steps().filter(|step| *step != Step::Barrier).count();
-        let mut sent = Sent::default();
+        let mut sending = Sending::new(&mut self.device);
         for step in list.steps() {
-            sent.send(&mut self.device, step)
-                .map_err(|cause| sent.broken_off(writes as u64, changes_done, cause))?;
+            sending
+                .step(step)
+                .map_err(|cause| sending.broken_off(writes as u64, changes_done, cause))?;
         }
         self.unknown = false;
         Ok(())
     }
 }
 
-/// How far a list has come.
-#[derive(Clone, Copy, Default)]
-struct Sent {
-    /// Writes before the last barrier.
+/// At most so many bytes go out in one write.
+const LONGEST_RUN: usize = 1 << 18;
+
+/// A list on its way. Sectors of a group that follow one another go out in one write: within a group
+/// any of them may land without the others.
+struct Sending<'d, D> {
+    device: &'d mut D,
+    /// Sectors that are not sent yet, and the first one's number.
+    run: Vec<u8>,
+    first: u64,
+    /// Sectors sent before the last barrier.
     landed: u64,
-    /// Writes after it.
-    taken: u64,
+    /// Sectors sent after it.
+    sent: u64,
 }
 
-impl Sent {
-    fn send(&mut self, device: &mut impl Device, step: Step) -> io::Result<()> {
+impl<'d, D: Device> Sending<'d, D> {
+    fn new(device: &'d mut D) -> Sending<'d, D> {
+        Sending {
+            device,
+            run: Vec::new(),
+            first: 0,
+            landed: 0,
+            sent: 0,
+        }
+    }
+
+    fn step(&mut self, step: Step) -> io::Result<()> {
         match step {
             Step::Write(write) => {
-                device.write(write.sector, write.contents)?;
-                self.taken += 1;
+                let next = self.first + (self.run.len() / SECTOR) as u64;
+                if write.sector != next || self.run.len() >= LONGEST_RUN {
+                    self.send_run()?;
+                }
+                if self.run.is_empty() {
+                    self.first = write.sector;
+                }
+                self.run.extend_from_slice(write.contents);
             }
             Step::Barrier => {
-                device.barrier()?;
-                self.landed += self.taken;
-                self.taken = 0;
+                self.send_run()?;
+                self.device.barrier()?;
+                self.landed += self.sent;
+                self.sent = 0;
             }
         }
         Ok(())
     }
 
-    fn broken_off(self, writes: u64, changes_done: usize, cause: io::Error) -> Error {
+    fn send_run(&mut self) -> io::Result<()> {
+        if self.run.is_empty() {
+            return Ok(());
+        }
+        // Counted before: of a write that fails, a part may land.
+        self.sent += (self.run.len() / SECTOR) as u64;
+        self.device.write(self.first, &self.run)?;
+        self.run.clear();
+        Ok(())
+    }
+
+    fn broken_off(&self, writes: u64, changes_done: usize, cause: io::Error) -> Error {
         Error::Interrupted(Interrupted {
             writes,
             landed: self.landed,
-            taken: self.taken,
+            sent: self.sent,
             changes_done,
             cause,
         })
     }
 }
-
-/// The barriers of every format.
-const FORMAT_BARRIERS: u64 = 3;
 
 /// Formats a device. Until the last record has landed, the volume on it is unfinished.
 /// `progress` hears how many records are done.
@@ -151,11 +209,12 @@ pub fn format(
         });
     }
     let writes = format.records()? - FORMAT_BARRIERS;
-    let mut sent = Sent::default();
+    let mut sending = Sending::new(device);
     let mut position = 0;
     while let Some(record) = format.record(position)? {
-        sent.send(device, step(&record))
-            .map_err(|cause| sent.broken_off(writes, 0, cause))?;
+        sending
+            .step(step(&record))
+            .map_err(|cause| sending.broken_off(writes, 0, cause))?;
         position += 1;
         progress(position);
     }
@@ -201,9 +260,9 @@ mod tests {
             self.medium.read(first, into)
         }
 
-        fn write(&mut self, sector: u64, contents: &[u8; SECTOR]) -> io::Result<()> {
+        fn write(&mut self, first: u64, contents: &[u8]) -> io::Result<()> {
             self.step()?;
-            self.medium.write(sector, contents)
+            self.medium.write(first, contents)
         }
 
         fn barrier(&mut self) -> io::Result<()> {
@@ -217,7 +276,7 @@ mod tests {
         medium
     }
 
-    /// A create has 11 records. Whatever fails, the report counts what landed, the volume must be
+    /// Whatever fails of a create, the report counts what landed, the volume must be
     /// opened again, and recovery makes it as before or as after.
     #[test]
     fn a_failing_device() {
@@ -228,44 +287,144 @@ mod tests {
             mode: 0,
             time: 2,
         };
-        // The writes that have passed a barrier and the writes after it, for each record that fails.
+        // The sectors that have passed a barrier and those sent after it, for each write and barrier
+        // that fails: two copies, which follow one another, the journal, a barrier; the start mark, a
+        // barrier; root and entry, which follow one another, too, a barrier; the end mark, a barrier.
         let counts = [
-            (0, 0),
-            (0, 1),
             (0, 2),
             (0, 3),
-            (3, 0),
+            (0, 3),
             (3, 1),
-            (4, 0),
-            (4, 1),
+            (3, 1),
             (4, 2),
-            (6, 0),
+            (4, 2),
+            (6, 1),
             (6, 1),
         ];
-        for (left, (landed, taken)) in counts.into_iter().enumerate() {
-            // One step more: a volume is opened behind a barrier.
+        for (left, (landed, sent)) in counts.into_iter().enumerate() {
+            // Two steps more: the opening sends the superblock, with a barrier.
             let device = Failing {
                 medium: before.clone(),
-                left: left as u64 + 1,
+                left: left as u64 + 2,
             };
             let mut volume = Volume::open(device).unwrap();
-            let Err(Error::Interrupted(cut)) = volume.apply(&[create], &mut |_, _| ()) else {
+            let Err(Error::Interrupted(cut)) = volume.apply(&[create]) else {
                 panic!("the device failed");
             };
-            assert_eq!((cut.writes, cut.landed, cut.taken), (7, landed, taken));
+            assert_eq!((cut.writes, cut.landed, cut.sent), (7, landed, sent));
             assert!(matches!(volume.image(), Err(Error::OpenAgain)));
             assert!(matches!(volume.recover(), Err(Error::OpenAgain)));
 
             let mut again = Volume::open(volume.into_device().medium).unwrap();
             let was_cut = again.recover().unwrap();
             // From the start mark to the end mark there is something to do.
-            assert_eq!(was_cut, (5..10).contains(&left), "{left}");
+            assert_eq!(was_cut, (4..8).contains(&left), "{left}");
             let image = again.image().unwrap();
             image.check().unwrap();
             let there = image.find(b"f").is_ok();
-            assert_eq!(there, left >= 5, "{left}");
+            assert_eq!(there, left >= 4, "{left}");
             assert_eq!(again.into_device().bytes.len(), before.bytes.len());
         }
+    }
+
+    /// A medium that counts the writes and barriers that come to it.
+    struct Counting {
+        medium: Memory,
+        writes: usize,
+        barriers: usize,
+    }
+
+    impl Device for Counting {
+        fn length(&self) -> u64 {
+            self.medium.length()
+        }
+
+        fn read(&self, first: u64, into: &mut [u8]) -> io::Result<()> {
+            self.medium.read(first, into)
+        }
+
+        fn write(&mut self, first: u64, contents: &[u8]) -> io::Result<()> {
+            self.writes += 1;
+            self.medium.write(first, contents)
+        }
+
+        fn barrier(&mut self) -> io::Result<()> {
+            self.barriers += 1;
+            Ok(())
+        }
+    }
+
+    /// 65,536 bytes into a new file are 135 sectors: 128 of data, two copies, the journal, the start
+    /// mark, entry and table, the end mark. Barriers stay; sectors that follow one another go together.
+    #[test]
+    fn runs_of_sectors_go_out_in_one_write() {
+        let mut counting = Counting {
+            medium: formatted(),
+            writes: 0,
+            barriers: 0,
+        };
+        let mut volume = Volume::open(&mut counting).unwrap();
+        let create = Change::Create {
+            name: b"f",
+            id: 1,
+            mode: 0,
+            time: 2,
+        };
+        volume.apply(&[create]).unwrap();
+        drop(volume);
+        // The superblock at the opening; copies, journal, start mark, root with entry, end mark.
+        assert_eq!((counting.writes, counting.barriers), (1 + 5, 1 + 4));
+        let mut volume = Volume::open(&mut counting).unwrap();
+        let write = Change::Write {
+            name: b"f",
+            offset: 0,
+            data: &[7; 65_536],
+            time: 3,
+        };
+        volume.apply(&[write]).unwrap();
+        let held = volume.image().unwrap().bytes().to_vec();
+        drop(volume);
+        assert_eq!((counting.writes, counting.barriers), (6 + 1 + 7, 5 + 1 + 4));
+        assert!(counting.medium.bytes[..held.len()] == held);
+    }
+
+    /// The caller may stop between two changes; what was done is done.
+    #[test]
+    fn changes_are_stopped() {
+        let create = |name| Change::Create {
+            name,
+            id: u64::from(name[0]),
+            mode: 0,
+            time: 2,
+        };
+        let changes = [create(b"a"), create(b"b"), create(b"c")];
+        for (stage, stop, left) in [
+            (Stage::Tried, 2, 0),
+            (Stage::Done, 1, 1),
+            (Stage::Done, 2, 2),
+        ] {
+            let mut volume = Volume::open(formatted()).unwrap();
+            let outcome = volume.apply_telling(&changes, &mut |at, count| match (at, count)
+                == (stage, stop)
+            {
+                true => ControlFlow::Break(()),
+                false => ControlFlow::Continue(()),
+            });
+            assert!(
+                matches!(outcome, Err(Error::Stopped { changes_done }) if changes_done == left)
+            );
+            let files = volume.image().unwrap().entries().unwrap().len();
+            assert_eq!(files, left);
+            let again = Volume::open(volume.into_device()).unwrap();
+            assert_eq!(again.image().unwrap().entries().unwrap().len(), left);
+        }
+        // After the last there is nothing to stop.
+        let mut volume = Volume::open(formatted()).unwrap();
+        let outcome = volume.apply_telling(&changes, &mut |at, count| match (at, count) {
+            (Stage::Done, 3) => ControlFlow::Break(()),
+            _ => ControlFlow::Continue(()),
+        });
+        assert!(outcome.is_ok());
     }
 
     /// The image in memory stays what the device holds, and a refused batch writes nothing.
@@ -286,15 +445,15 @@ mod tests {
             data: &data,
             time: 3,
         };
-        volume.apply(&[create, write(0)], &mut |_, _| ()).unwrap();
+        volume.apply(&[create, write(0)]).unwrap();
         let full = [write(65_536), write(131_072), write(196_608)];
         let held = volume.image().unwrap().bytes().to_vec();
         assert!(matches!(
-            volume.apply(&full, &mut |_, _| ()),
+            volume.apply(&full),
             Err(Error::Refused(Refusal::NoRoom))
         ));
         assert!(volume.image().unwrap().bytes() == held);
-        volume.apply(&full[..2], &mut |_, _| ()).unwrap();
+        volume.apply(&full[..2]).unwrap();
         let held = volume.image().unwrap().bytes().to_vec();
         let device = volume.into_device();
         assert!(device.bytes[..held.len()] == held);

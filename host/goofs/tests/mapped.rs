@@ -66,8 +66,8 @@ impl Device for Unsynced {
         self.0.read(first, into)
     }
 
-    fn write(&mut self, sector: u64, contents: &[u8; SECTOR]) -> io::Result<()> {
-        self.0.write(sector, contents)
+    fn write(&mut self, first: u64, contents: &[u8]) -> io::Result<()> {
+        self.0.write(first, contents)
     }
 
     fn barrier(&mut self) -> io::Result<()> {
@@ -164,15 +164,12 @@ fn image_and_file_in_step() {
     let mut refused = 0;
     for batch in batches {
         let held = fs::read(&file.0).unwrap();
-        let outcomes = [
-            on_file.apply(batch, &mut |_, _| ()),
-            in_memory.apply(batch, &mut |_, _| ()),
-        ]
-        .map(|outcome| match outcome {
-            Ok(()) => None,
-            Err(Error::Refused(refusal)) => Some(refusal),
-            Err(other) => panic!("{other}"),
-        });
+        let outcomes =
+            [on_file.apply(batch), in_memory.apply(batch)].map(|outcome| match outcome {
+                Ok(()) => None,
+                Err(Error::Refused(refusal)) => Some(refusal),
+                Err(other) => panic!("{other}"),
+            });
         assert_eq!(outcomes[0], outcomes[1]);
         let now = fs::read(&file.0).unwrap();
         if let Some(refusal) = outcomes[0] {
@@ -276,7 +273,7 @@ fn a_volume_of_600_gib() {
     for i in 0..FILES {
         let (name, contents) = (name(i), contents(i));
         let batch = [create(&name, i + 1), write(&name, 0, &contents)];
-        volume.apply(&batch, &mut |_, _| ()).unwrap();
+        volume.apply(&batch).unwrap();
     }
     disk = volume.into_device().0;
 
@@ -320,7 +317,7 @@ impl Device for Endless {
         Ok(())
     }
 
-    fn write(&mut self, _: u64, _: &[u8; SECTOR]) -> io::Result<()> {
+    fn write(&mut self, _: u64, _: &[u8]) -> io::Result<()> {
         unreachable!("it is only read")
     }
 
@@ -369,7 +366,7 @@ fn a_file_cut_short_under_its_map() {
     let mut volume = Volume::open(formatted(&file, 1_313, 255)).unwrap();
     let data = [1; 5_000];
     volume
-        .apply(&[create(b"f", 1), write(b"f", 0, &data)], &mut |_, _| ())
+        .apply(&[create(b"f", 1), write(b"f", 0, &data)])
         .unwrap();
     drop(volume);
     let output = Command::new(std::env::current_exe().unwrap())

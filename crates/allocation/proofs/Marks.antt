@@ -1,5 +1,5 @@
 -- Laws of the arrays: how the starts follow one another, and what one more extent changes. Assumes nothing.
-use Prim.Native.Nat.{ℕ, _+_, _≤_, _<_}
+use Prim.Native.Nat.{ℕ, zero, suc, _+_, _≤_, _<_}
 use mathlib.Core.Path.{_≡_, refl, sym, ap, _∙_}
 use mathlib.Core.Logic.{_≢_, _⊎_, inl, inr, ⊎-elim}
 use mathlib.Core.Bool.{Bool, true, false, _||_}
@@ -14,10 +14,10 @@ use borrow.Author.Tests.{eq-eqb, ne-eqb, eqb-true, eqb-false, le-leb, lt-leb}
 use Rattle.model.specs.declared.Geometry.{Geometry}
 use Rattle.model.specs.Search.{some}
 use Rattle.model.specs.Disk.{Disk}
-use Rattle.model.specs.Table.{tableFile, tableOffset}
+use Rattle.model.specs.Table.{freeFile, tableFile, tableOffset}
 use Rattle.laws.proofs.Booleans.{or-right}
 use Rattle.laws.proofs.Search.{some-more}
-use Rattle.allocation.specs.Marks.{bit, needed, startOf, holds, isExtra, Starts, Marks}
+use Rattle.allocation.specs.Marks.{bit, needed, startOf, holds, isExtra, Rising, Starts, Marks}
 use Rattle.allocation.proofs.Sums.{sumTo-next, sumTo-step}
 
 some-stays : (p : ℕ → Bool) (k : ℕ) → p k ≡ false → some p k ≡ some p (k + 1)
@@ -70,17 +70,21 @@ module _ (g : Geometry) (d : Disk) where
     omega (arith, S .fits, apart f m l),
   )
 
-  -- by the array, no file's bytes end past the extents
-  pub starts-within : (m n : ℕ) (starts : List ℕ) → Starts g d m starts → g .extents ≤ n → (i : ℕ) → i ≤ m → getD starts i 0 ≤ n
-  starts-within m n starts S l i h = omega (arith, S .at i h, S .fits, start-mono i m h)
+  -- by the array, no file's bytes end before they begin or past the extents
+  pub starts-rise : (m n : ℕ) (starts : List ℕ) → Starts g d m starts → g .extents ≤ n → Rising starts m n
+  starts-rise m n starts S l = record {
+    rises = λ i h. omega (arith, S .at i (omega arith), S .at (i + 1) (omega arith), start-mono i (i + 1) (omega arith));
+    last = λ i h. omega (arith, S .at i h, S .at m (omega arith), start-mono i m h);
+    within = omega (arith, S .at m (omega arith), S .fits);
+  }
 
   -- an array of zeros has no mark
   pub no-marks : (m : ℕ) (starts seen : List ℕ) → Starts g d m starts → g .extents ≤ length seen → ((p : ℕ) → p < length seen → getD seen p 0 ≡ 0)
       → (m < g .files → g .extents < startOf g d (m + 1)) → Marks g d 0 m seen
   unfolding some
-  no-marks m starts seen S room zero why = record {
+  no-marks m starts seen S room unmarked why = record {
     size = room;
-    seen-at = λ i li o lo. zero (startOf g d i + o) (omega (arith, S .fits, apart i m li));
+    seen-at = λ i li o lo. unmarked (startOf g d i + o) (omega (arith, S .fits, apart i m li));
     none = λ i li. refl;
     why = λ l. inr (why l);
   }
@@ -173,7 +177,7 @@ module _ (g : Geometry) (d : Disk) where
         past h = let r = range m f starts S l in mark-large l (omega arith)
 
         module _ (h : getD starts f 0 + o < getD starts (f + 1) 0) where
-          inside : o < needed g d f
+          pub inside : o < needed g d f
           inside = let r = range m f starts S l in omega arith
 
           pub again : getD seen (getD starts f 0 + o) 0 ≡ 1 → Marks g d (k + 1) f seen
@@ -183,3 +187,10 @@ module _ (g : Geometry) (d : Disk) where
           new e =
               let r = range m f starts S l in
               rw (r .0) (mark-new l inside (omega (arith, inside, M .size)) (rw (r .0) at e))
+
+  -- free extents leave the marks as they are
+  pub marks-over : (k m w : ℕ) (seen : List ℕ) → m ≤ freeFile → ((j : ℕ) → j < w → tableFile g d (k + j) ≡ freeFile) → Marks g d k m seen → Marks g d (k + w) m seen
+  marks-over k m zero seen l h M = let z : k ≡ k + 0 = omega arith in rw z at M
+  marks-over k m (suc w) seen l h M =
+      let z : k + w + 1 ≡ k + suc w = omega arith in
+      rw z at (mark-later (k + w) m seen (marks-over k m w seen l (λ j q. h j (omega arith)) M) freeFile (sym (h w (omega arith))) l)

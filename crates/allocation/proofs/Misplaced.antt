@@ -1,8 +1,10 @@
 -- Fault 25 in the terms that the code tests. Assumes nothing.
-use Prim.Native.Nat.{ℕ, _<_}
-use mathlib.Core.Path.{_≡_, refl}
+use Prim.Native.Nat.{ℕ, _≤_, _<_}
+use mathlib.Core.Path.{_≡_, refl, sym, _∙_}
 use mathlib.Core.Bool.{Bool, true, false, not, _&&_, _||_}
+use native.Mathlib.Omega.{arith}
 use lib.Dec.{eqb, leb, ltb}
+use borrow.Author.Tests.{eq-eqb, ne-eqb, lt-ltb}
 use Rattle.model.specs.declared.Geometry.{Geometry}
 use Rattle.model.specs.Geometry.{usable, entryAt}
 use Rattle.model.specs.Disk.{Disk}
@@ -12,12 +14,34 @@ use Rattle.model.specs.Table.{freeFile, tableFile}
 use Rattle.model.specs.Catalogue.{catalogueOf}
 use Rattle.model.specs.Faults.{fault25}
 use Rattle.laws.proofs.Catalogue.{fault25-is}
+use Rattle.allocation.specs.Marks.{needed}
 
 pub or-true : (b : Bool) → (b || true) ≡ true
 or-true true = refl
 or-true false = refl
 
+pub needs-none : (g : Geometry) (d : Disk) (i : ℕ) → isOccupied (d (entryAt i)) ≡ false → needed g d i ≡ 0
+unfolding needed
+needs-none g d i e = rw e
+
+-- a file that needs extents is occupied
+occupied : (g : Geometry) (d : Disk) (i : ℕ) → 0 < needed g d i → isOccupied (d (entryAt i)) ≡ true
+occupied g d i l = go (isOccupied (d (entryAt i))) refl
+  where
+    go : (b : Bool) → isOccupied (d (entryAt i)) ≡ b → b ≡ true
+    go true e = refl
+    go false e = absurd (omega (arith, needs-none g d i e))
+
 module _ (d : Disk) (g : Geometry) (is : g ≡ geometryIn (d 0)) where
   pub fault25-on : (e : ℕ) → e < g .extents
       → fault25 (catalogueOf d) e ≡ (not (eqb (tableFile g d e) freeFile) && (not (ltb (tableFile g d e) (g .files) && isOccupied (d (entryAt (tableFile g d e)))) || leb (usable g) e))
   fault25-on e l = rw is (fault25-is d e (rw is at l))
+
+  pub free-sound : (e : ℕ) → e < g .extents → tableFile g d e ≡ freeFile → fault25 (catalogueOf d) e ≡ false
+  free-sound e l q = rw (fault25-on e l, eq-eqb (tableFile g d e) freeFile q)
+
+  -- an extent of a file that needs extents is only misplaced in the reserve
+  pub needed-fault : (e f : ℕ) → e < g .extents → f ≡ tableFile g d e → f < g .files → g .files ≤ freeFile → 0 < needed g d f
+      → leb (usable g) e ≡ fault25 (catalogueOf d) e
+  needed-fault e f l q h few n =
+      sym (fault25-on e l ∙ rw (← q, ne-eqb f freeFile (λ z. omega arith), lt-ltb f (g .files) h, occupied g d f n))

@@ -24,8 +24,8 @@ use Rattle.model.specs.Catalogue.{catalogueOf}
 use Rattle.model.specs.Faults.{exact, fault25, fault26, orElse}
 use Rattle.laws.proofs.Search.{some-ext, some-no, first-ext, first-missed}
 use Rattle.laws.proofs.Catalogue.{fault26-is, exact-is}
-use Rattle.allocation.proofs.Misplaced.{fault25-on}
-use Rattle.allocation.specs.Marks.{tableFault, bit, needed, startOf, owns, holds, isExtra, Starts, Marks}
+use Rattle.allocation.proofs.Misplaced.{fault25-on, needs-none}
+use Rattle.allocation.specs.Marks.{tableFault, bit, needed, startOf, owns, holds, isExtra, lacks, Starts, Marks}
 use Rattle.laws.proofs.Seeking.{first-found, first-there}
 use Rattle.laws.proofs.Count.{count-le}
 use Rattle.allocation.proofs.Sums.{by-value, sumTo-mono}
@@ -43,10 +43,6 @@ not-not false = refl
 same-and : (b x y : Bool) → (b ≡ true → x ≡ y) → (b && not x) ≡ (b && not y)
 same-and true x y h = ap not (h refl)
 same-and false x y h = refl
-
--- file i lacks an extent, by the arrays
-abbrev pub lacks : List ℕ → List ℕ → ℕ → Bool
-lacks starts seen i = some (λ k. eqb (getD seen (getD starts i 0 + k) 0) 0) (getD starts (i + 1) 0 - getD starts i 0)
 
 -- file i has exactly c extents, of the offsets 0 to c - 1
 abbrev right : Geometry → Disk → ℕ → ℕ → Bool
@@ -66,16 +62,12 @@ module _ (g : Geometry) (d : Disk) (is : g ≡ geometryIn (d 0)) (small : g .fil
   fault26-on : (i : ℕ) → i < g .files → fault26 (catalogueOf d) i ≡ (isOccupied (d (entryAt i)) && not (right g d i (needed g d i)))
   fault26-on i l = rw is (fault26-of d i (rw is at l) (omega arith))
 
-  needs-none : (i : ℕ) → isOccupied (d (entryAt i)) ≡ false → needed g d i ≡ 0
-  unfolding needed
-  needs-none i e = rw e
-
   -- a file that isn't at fault has as many extents as it needs
   has-enough : (i : ℕ) → i < g .files → fault26 (catalogueOf d) i ≡ false → needed g d i ≤ count (owns g d i) (g .extents)
   has-enough i l e = go (isOccupied (d (entryAt i))) refl (right g d i (needed g d i)) refl
     where
       go : (a : Bool) → isOccupied (d (entryAt i)) ≡ a → (b : Bool) → right g d i (needed g d i) ≡ b → needed g d i ≤ count (owns g d i) (g .extents)
-      go false s b t = omega (arith, needs-none i s)
+      go false s b t = omega (arith, needs-none g d i s)
       go true s true t = omega (arith, exactly-count (owns g d i) (tableOffset g d) (g .extents) (needed g d i) t)
       go true s false t = absurd (true≢false (sym (fault26-on i l ∙ rw (s, t)) ∙ e))
 
@@ -141,7 +133,7 @@ module _ (g : Geometry) (d : Disk) (is : g ≡ geometryIn (d 0)) (small : g .fil
           go true s =
               ap not (exact-unless (owns g d i) (tableOffset g d) (g .extents) (needed g d i) (M .none i l))
               ∙ not-not (some (λ k. not (some (holds g d i k) (g .extents))) (needed g d i))
-          go false s = rw (needs-none i s)
+          go false s = rw (needs-none g d i s)
 
       same-first : first (lacks starts seen) m ≡ first (fault26 (catalogueOf d)) m
       same-first = first-ext (lacks starts seen) (fault26 (catalogueOf d)) m judged

@@ -1,6 +1,6 @@
 -- The first fault of the allocation table, and what the arrays of fault 26's test hold: a byte stands for each extent that an occupied
 -- file needs, file after file; it is 1 once a table entry with that file and offset was met.
-use Prim.Native.Nat.{ℕ, zero, suc, _+_, _≤_, _<_}
+use Prim.Native.Nat.{ℕ, zero, suc, _+_, _-_, _≤_, _<_}
 use mathlib.Core.Path.{_≡_}
 use mathlib.Core.Logic.{_⊎_}
 use mathlib.Core.Bool.{Bool, true, false, cond, _&&_, _||_}
@@ -8,10 +8,12 @@ use mathlib.Core.List.{List}
 use lib.Dec.{eqb, leb}
 use lib.ListN.{length, getD}
 use Rattle.model.specs.declared.Geometry.{Geometry}
+use Rattle.model.specs.declared.Place.{Place}
+use Rattle.model.specs.declared.Place.the-variants.{Nowhere}
 use Rattle.model.specs.declared.Soundness.{Soundness}
 use Rattle.model.specs.declared.Soundness.the-variants.{Sound}
 use Rattle.model.specs.Bytes.{numberIn}
-use Rattle.model.specs.Search.{first, some}
+use Rattle.model.specs.Search.{scan, first, some}
 use Rattle.model.specs.Geometry.{FileNumber, ExtentNumber, entryAt, extentsFor}
 use Rattle.model.specs.Disk.{Disk}
 use Rattle.model.specs.Entry.{entryField, isOccupied}
@@ -64,3 +66,19 @@ module _ (g : Geometry) (d : Disk) where
     pub seen-at : (i : FileNumber) → i < m → (o : ℕ) → o < needed i → getD seen (startOf i + o) 0 ≡ bit (some (holds i o) k)
     pub none : (i : FileNumber) → i < m → some (isExtra i) k ≡ false
     pub why : m < g .files → (some (isExtra m) k ≡ true) ⊎ (g .extents < startOf (m + 1))
+
+  -- a pass over the extents from one to another: the first with fault 25 among them, or none, and the marks of all so far
+  pub record Passed (from to f : ℕ) (misplaced : Place) (reached : ℕ) (seen : List ℕ) : Type 0 where
+    pub found : misplaced ≡ scan (fault25 (catalogueOf d)) (to - from) from
+    pub marks : misplaced ≡ Nowhere → Marks to reached seen
+    pub lower : misplaced ≡ Nowhere → reached ≤ f
+
+-- the starts up to m rise, to n at most
+pub record Rising (starts : List ℕ) (m n : ℕ) : Type 0 where
+  pub rises : (i : ℕ) → i < m → getD starts i 0 ≤ getD starts (i + 1) 0
+  pub last : (i : ℕ) → i ≤ m → getD starts i 0 ≤ getD starts m 0
+  pub within : getD starts m 0 ≤ n
+
+-- file i lacks an extent, by the arrays
+abbrev pub lacks : List ℕ → List ℕ → FileNumber → Bool
+lacks starts seen i = some (λ k. eqb (getD seen (getD starts i 0 + k) 0) 0) (getD starts (i + 1) 0 - getD starts i 0)

@@ -9,14 +9,13 @@ ghost use mathlib.Core.Path.{_≡_};
 ghost use Prim.Native.Nat.{ℕ, _+_, _-_, _≤_, _<_};
 ghost use lib.Dec.{eqb};
 ghost use lib.ListN.{length, getD};
-ghost use Rattle.model.specs.declared.Place.the-variants.{Nowhere};
 ghost use Rattle.model.specs.Search.{first, some};
 ghost use Rattle.model.specs.Geometry.{usable};
 ghost use Rattle.model.specs.Disk.{view};
 ghost use Rattle.model.specs.Opened.{Opened};
 ghost use Rattle.model.specs.Catalogue.{catalogueOf};
 ghost use Rattle.model.specs.Faults.{fault25};
-ghost use Rattle.allocation.specs.Marks.{tableFault, needed, startOf, Starts, Marks};
+ghost use Rattle.allocation.specs.Marks.{tableFault, needed, startOf, lacks, Rising, Starts, Marks, Passed};
 
 // How many extents entry i's size needs; a free entry needs none.
 fn needed(img: &[u8], g: Geometry, i: FileIndex) -> u64
@@ -54,30 +53,6 @@ fn fill_starts(img: &[u8], g: Geometry, starts: &mut [u16]) -> usize
     f
 }
 
-// Extent e is marked, unless its file is m or later. Where its offset is too large or was met before, its file is the next m.
-fn mark(img: &[u8], g: Geometry, e: Extent, starts: &[u16], m: usize, seen: &mut [u8]) -> usize
-    requires { ⌜ Opened (now img) g ⌝ }
-    requires { ⌜ e .0 < g .extents ⌝ }
-    requires { ⌜ Starts g (view (now img)) m (now starts) ⌝ }
-    requires { ⌜ Marks g (view (now img)) (e .0) m (now seen) ⌝ }
-    ensures { λ r. ⌜ Marks g (view (now (img .entry))) (e .0 + 1) r (now (seen .exit)) ⌝ }
-    ensures { λ r. ⌜ r ≤ m ⌝ }
-{
-    let f = table::table_file(img, g, e) as usize;
-    if m <= f {
-        return m;
-    }
-    let p = starts[f] as usize + table::table_offset(img, g, e) as usize;
-    if starts[f + 1] as usize <= p {
-        return f;
-    }
-    if seen[p] == 1 {
-        return f;
-    }
-    seen[p] = 1;
-    m
-}
-
 // Extent e's entry names no occupied file and isn't free, or is the reserve's and isn't free; u extents are usable.
 fn is_misplaced(img: &[u8], g: Geometry, u: u64, e: Extent) -> bool
     requires { ⌜ Opened (now img) g ⌝ }
@@ -100,6 +75,60 @@ fn is_misplaced(img: &[u8], g: Geometry, u: u64, e: Extent) -> bool
     true
 }
 
+// What one more extent changes.
+struct Marked {
+    // the extent has fault 25
+    misplaced: bool,
+    // the files below this one have no extent too many
+    reached: usize,
+}
+
+// Extent e is judged, and marked unless its file is m or later. Where its offset is too large or was met before, its file is the
+// next m. A file with a byte for the offset needs that extent, so it is occupied: the directory, a sector for each file, isn't read.
+fn mark(
+    img: &[u8],
+    g: Geometry,
+    u: u64,
+    e: Extent,
+    starts: &[u16],
+    m: usize,
+    seen: &mut [u8],
+) -> Marked
+    requires { ⌜ Opened (now img) g ⌝ }
+    requires { ⌜ (u ≡ usable g) × (e .0 < g .extents) ⌝ }
+    requires { ⌜ Starts g (view (now img)) m (now starts) ⌝ }
+    requires { ⌜ Marks g (view (now img)) (e .0) m (now seen) ⌝ }
+    ensures { λ r. ⌜ r .misplaced ≡ fault25 (catalogueOf (view (now (img .entry)))) (e .0) ⌝ }
+    ensures { λ r. ⌜ Marks g (view (now (img .entry))) (e .0 + 1) (r .reached) (now (seen .exit)) ⌝ }
+    ensures { λ r. ⌜ r .reached ≤ m ⌝ }
+{
+    let f = table::table_file(img, g, e) as usize;
+    if m <= f {
+        return Marked {
+            misplaced: is_misplaced(img, g, u, e),
+            reached: m,
+        };
+    }
+    let p = starts[f] as usize + table::table_offset(img, g, e) as usize;
+    if starts[f + 1] as usize <= p {
+        return Marked {
+            misplaced: is_misplaced(img, g, u, e),
+            reached: f,
+        };
+    }
+    if seen[p] == 1 {
+        return Marked {
+            misplaced: u <= e.0,
+            reached: f,
+        };
+    }
+    seen[p] = 1;
+    Marked {
+        misplaced: u <= e.0,
+        reached: m,
+    }
+}
+
 // What the pass over the table has met.
 struct Pass {
     // the lowest extent of fault 25
@@ -108,25 +137,34 @@ struct Pass {
     reached: usize,
 }
 
-fn pass_over(img: &[u8], g: Geometry, starts: &[u16], f: usize, seen: &mut [u8]) -> Pass
+// The extents from `from` to `to` - 1, one by one.
+fn pass_part(
+    img: &[u8],
+    g: Geometry,
+    from: u64,
+    to: u64,
+    starts: &[u16],
+    f: usize,
+    seen: &mut [u8],
+) -> Pass
     requires { ⌜ Opened (now img) g ⌝ }
+    requires { ⌜ (from ≤ to) × (to ≤ g .extents) ⌝ }
     requires { ⌜ Starts g (view (now img)) f (now starts) ⌝ }
-    requires { ⌜ Marks g (view (now img)) 0 f (now seen) ⌝ }
-    ensures { λ r. ⌜ r .misplaced ≡ first (fault25 (catalogueOf (view (now (img .entry))))) (g .extents) ⌝ }
-    ensures { λ r. ⌜ (r .misplaced ≡ Nowhere → Marks g (view (now (img .entry))) (g .extents) (r .reached) (now (seen .exit)) × (r .reached ≤ f)) ⌝ }
+    requires { ⌜ Marks g (view (now img)) from f (now seen) ⌝ }
+    ensures { λ r. ⌜ Passed g (view (now (img .entry))) from to f (r .misplaced) (r .reached) (now (seen .exit)) ⌝ }
 {
     let u = g.usable();
-    let n = g.extents as usize;
     let mut m = f;
-    let mut e: usize = 0;
-    while e < n {
-        if is_misplaced(img, g, u, Extent(e as u64)) {
+    let mut e = from;
+    while e < to {
+        let s = mark(img, g, u, Extent(e), starts, m, seen);
+        if s.misplaced {
             return Pass {
-                misplaced: Place::At(e),
+                misplaced: Place::At(e as usize),
                 reached: m,
             };
         }
-        m = mark(img, g, Extent(e as u64), starts, m, seen);
+        m = s.reached;
         e += 1;
     }
     Pass {
@@ -135,26 +173,61 @@ fn pass_over(img: &[u8], g: Geometry, starts: &[u16], f: usize, seen: &mut [u8])
     }
 }
 
+// The 128 extents of a table sector, from e on. Free ones have no fault 25 and leave no mark.
+fn pass_sector(img: &[u8], g: Geometry, e: u64, starts: &[u16], f: usize, seen: &mut [u8]) -> Pass
+    requires { ⌜ Opened (now img) g ⌝ }
+    requires { ⌜ e + 128 ≤ g .extents ⌝ }
+    requires { ⌜ Starts g (view (now img)) f (now starts) ⌝ }
+    requires { ⌜ Marks g (view (now img)) e f (now seen) ⌝ }
+    ensures { λ r. ⌜ Passed g (view (now (img .entry))) e (e + 128) f (r .misplaced) (r .reached) (now (seen .exit)) ⌝ }
+{
+    if table::all_free(img, g, e) {
+        return Pass {
+            misplaced: Place::Nowhere,
+            reached: f,
+        };
+    }
+    pass_part(img, g, e, e + 128, starts, f, seen)
+}
+
+// All extents, a table sector at a time.
+fn pass_over(img: &[u8], g: Geometry, starts: &[u16], f: usize, seen: &mut [u8]) -> Pass
+    requires { ⌜ Opened (now img) g ⌝ }
+    requires { ⌜ Starts g (view (now img)) f (now starts) ⌝ }
+    requires { ⌜ Marks g (view (now img)) 0 f (now seen) ⌝ }
+    ensures { λ r. ⌜ Passed g (view (now (img .entry))) 0 (g .extents) f (r .misplaced) (r .reached) (now (seen .exit)) ⌝ }
+{
+    let n = g.extents;
+    let mut m = f;
+    let mut e: u64 = 0;
+    while e + 128 <= n {
+        let p = pass_sector(img, g, e, starts, m, seen);
+        let misplaced = p.misplaced;
+        if let Place::At(k) = misplaced {
+            return Pass {
+                misplaced: Place::At(k),
+                reached: m,
+            };
+        }
+        m = p.reached;
+        e += 128;
+    }
+    pass_part(img, g, e, n, starts, m, seen)
+}
+
 // A byte from a to b - 1 is 0.
 fn has_unseen(seen: &[u8], a: usize, b: usize) -> bool
-    requires { ⌜ b ≤ length (now seen) ⌝ }
+    requires { ⌜ (a ≤ b) × (b ≤ length (now seen)) ⌝ }
     ensures { λ r. ⌜ r ≡ some (λ k. eqb (getD (now (seen .entry)) (a + k) 0) 0) (b - a) ⌝ }
 {
-    let mut p = a;
-    while p < b {
-        if seen[p] == 0 {
-            return true;
-        }
-        p += 1;
-    }
-    false
+    fields::has_zero(&seen[a..b])
 }
 
 // The lowest file below m that lacks an extent.
-fn first_lacking(starts: &[u16], seen: &[u8], m: usize) -> Place
+fn lowest_lacking(starts: &[u16], seen: &[u8], m: usize) -> Place
     requires { ⌜ m < length (now starts) ⌝ }
-    requires { ⌜ ((i : ℕ) → i ≤ m → getD (now starts) i 0 ≤ length (now seen)) ⌝ }
-    ensures { λ r. ⌜ r ≡ first (λ i. some (λ k. eqb (getD (now (seen .entry)) (getD (now (starts .entry)) i 0 + k) 0) 0) (getD (now (starts .entry)) (i + 1) 0 - getD (now (starts .entry)) i 0)) m ⌝ }
+    requires { ⌜ Rising (now starts) m (length (now seen)) ⌝ }
+    ensures { λ r. ⌜ r ≡ first (lacks (now (starts .entry)) (now (seen .entry))) m ⌝ }
 {
     let mut i: usize = 0;
     while i < m {
@@ -162,6 +235,18 @@ fn first_lacking(starts: &[u16], seen: &[u8], m: usize) -> Place
             return Place::At(i);
         }
         i += 1;
+    }
+    Place::Nowhere
+}
+
+// The same; mostly none lacks one, so the bytes of all are looked at first.
+fn first_lacking(starts: &[u16], seen: &[u8], m: usize) -> Place
+    requires { ⌜ m < length (now starts) ⌝ }
+    requires { ⌜ Rising (now starts) m (length (now seen)) ⌝ }
+    ensures { λ r. ⌜ r ≡ first (lacks (now (starts .entry)) (now (seen .entry))) m ⌝ }
+{
+    if has_unseen(seen, 0, starts[m] as usize) {
+        return lowest_lacking(starts, seen, m);
     }
     Place::Nowhere
 }
@@ -191,11 +276,21 @@ fn faults_in(img: &[u8], g: Geometry, starts: &mut [u16], seen: &mut [u8]) -> So
 
 fn faults_of_few(img: &[u8], g: Geometry) -> Soundness
     requires { ⌜ Opened (now img) g ⌝ }
-    requires { ⌜ (g .files < 4096) × (g .extents ≤ 4096) ⌝ }
+    requires { ⌜ (g .files ≤ 1024) × (g .extents ≤ 4096) ⌝ }
     ensures { λ r. ⌜ r ≡ tableFault g (view (now (img .entry))) ⌝ }
 {
-    let mut starts = [0u16; 4096];
+    let mut starts = [0u16; 1025];
     let mut seen = [0u8; 4096];
+    faults_in(img, g, &mut starts, &mut seen)
+}
+
+fn faults_of_more(img: &[u8], g: Geometry) -> Soundness
+    requires { ⌜ Opened (now img) g ⌝ }
+    requires { ⌜ g .files ≤ 1024 ⌝ }
+    ensures { λ r. ⌜ r ≡ tableFault g (view (now (img .entry))) ⌝ }
+{
+    let mut starts = [0u16; 1025];
+    let mut seen = [0u8; 65536];
     faults_in(img, g, &mut starts, &mut seen)
 }
 
@@ -208,17 +303,29 @@ fn faults_of_many(img: &[u8], g: Geometry) -> Soundness
     faults_in(img, g, &mut starts, &mut seen)
 }
 
-// The first of the faults 25 and 26. Arrays for 65,535 files and extents (192 KB of stack) cost more to clear than a small table
-// costs to judge.
+// By way of arrays for `room` extents, or for 16 times as many. A function that calls itself is never made part of its caller, nor
+// are its callees' arrays made part of its own frame: a volume takes stack for the arrays of its class alone.
+fn faults_with(img: &[u8], g: Geometry, room: u64) -> Soundness
+    requires { ⌜ Opened (now img) g ⌝ }
+    requires { ⌜ 0 < room ⌝ }
+    ensures { λ r. ⌜ r ≡ tableFault g (view (now (img .entry))) ⌝ }
+{
+    if g.extents <= room {
+        if g.files <= 1024 {
+            if room <= 4096 {
+                return faults_of_few(img, g);
+            }
+            return faults_of_more(img, g);
+        }
+        return faults_of_many(img, g);
+    }
+    faults_with(img, g, room * 16)
+}
+
+// The first of the faults 25 and 26.
 pub fn faults(img: &[u8], g: Geometry) -> Soundness
     requires { ⌜ Opened (now img) g ⌝ }
     ensures { λ r. ⌜ r ≡ tableFault g (view (now (img .entry))) ⌝ }
 {
-    if g.files < 4096 {
-        if g.extents <= 4096 {
-            return faults_of_few(img, g);
-        }
-        return faults_of_many(img, g);
-    }
-    faults_of_many(img, g)
+    faults_with(img, g, 4096)
 }

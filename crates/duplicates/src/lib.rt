@@ -186,11 +186,11 @@ fn first_in(img: &[u8], g: Geometry, key: Key, head: &mut [u16], next: &mut [u16
 fn first_of_few(img: &[u8], g: Geometry, key: Key) -> Place
     requires { ⌜ Opened (now img) g ⌝ }
     requires { ⌜ KeysFit key (view (now img)) (g .files) ⌝ }
-    requires { ⌜ g .files ≤ 4096 ⌝ }
+    requires { ⌜ g .files ≤ 1024 ⌝ }
     ensures { λ r. ⌜ r ≡ first (isFaulty key (view (now (img .entry)))) (g .files) ⌝ }
 {
-    let mut head = [0u16; 4096];
-    let mut next = [0u16; 4096];
+    let mut head = [0u16; 1024];
+    let mut next = [0u16; 1024];
     first_in(img, g, key, &mut head, &mut next)
 }
 
@@ -205,16 +205,29 @@ fn first_of_many(img: &[u8], g: Geometry, key: Key) -> Place
     first_in(img, g, key, &mut head, &mut next)
 }
 
-// Chains for 65,535 entries cost more to clear than a small directory costs to search.
+// By way of chains with room for so many entries, or for 64 times as many. A function that calls itself keeps its callees' arrays
+// out of its own frame, so a small directory never pays for the large chains.
+fn first_with(img: &[u8], g: Geometry, key: Key, room: u64) -> Place
+    requires { ⌜ Opened (now img) g ⌝ }
+    requires { ⌜ KeysFit key (view (now img)) (g .files) ⌝ }
+    requires { ⌜ 0 < room ⌝ }
+    ensures { λ r. ⌜ r ≡ first (isFaulty key (view (now (img .entry)))) (g .files) ⌝ }
+{
+    if g.files <= room {
+        if room <= 1024 {
+            return first_of_few(img, g, key);
+        }
+        return first_of_many(img, g, key);
+    }
+    first_with(img, g, key, room * 64)
+}
+
 fn first_faulty(img: &[u8], g: Geometry, key: Key) -> Place
     requires { ⌜ Opened (now img) g ⌝ }
     requires { ⌜ KeysFit key (view (now img)) (g .files) ⌝ }
     ensures { λ r. ⌜ r ≡ first (isFaulty key (view (now (img .entry)))) (g .files) ⌝ }
 {
-    if g.files <= 4096 {
-        return first_of_few(img, g, key);
-    }
-    first_of_many(img, g, key)
+    first_with(img, g, key, 1024)
 }
 
 // Fault 22 bounds the names, so each ends in its sector.

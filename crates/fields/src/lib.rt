@@ -1,7 +1,7 @@
 // Leaves on byte slices: big-endian numbers, runs of bytes copied and compared, sectors by value.
 use model::Sector;
 ghost use mathlib.Core.Path.{_≡_};
-ghost use Prim.Native.Nat.{_+_, _*_, _≤_, _<_, _^_};
+ghost use Prim.Native.Nat.{_+_, _*_, _≤_, _<_, _^_, min};
 ghost use lib.ListN.{length};
 ghost use Rattle.model.specs.Bytes.{beAt, beBytes, run, put};
 ghost use Rattle.model.specs.Disk.{view};
@@ -107,16 +107,24 @@ pub fn starts_with(part: &[u8], text: &[u8]) -> bool
     true
 }
 
-// Whether a byte of the name is 0.
-pub fn has_zero(name: &[u8]) -> bool
-    ensures { λ r. ⌜ r ≡ hasZero (now (name .entry)) ⌝ }
+fn lesser(a: u8, b: u8) -> u8
+    ensures { λ r. ⌜ r ≡ min a b ⌝ }
 {
+    if a <= b {
+        return a;
+    }
+    b
+}
+
+// Whether one of the bytes is 0: the least of them tells, without a test for each.
+pub fn has_zero(bytes: &[u8]) -> bool
+    ensures { λ r. ⌜ r ≡ hasZero (now (bytes .entry)) ⌝ }
+{
+    let mut least: u8 = 255;
     let mut i: usize = 0;
-    while i < name.len() {
-        if name[i] == 0 {
-            return true;
-        }
+    while i < bytes.len() {
+        least = lesser(least, bytes[i]);
         i += 1;
     }
-    false
+    least == 0
 }

@@ -88,3 +88,17 @@ module _ (p : ℕ → Bool) where
         let s : n - 0 ≡ m - 0 + suc (n - m - 1) = omega arith in
         let z : 0 + (m - 0) ≡ m = omega arith in
         rw (s, scan-append (m - 0) (suc (n - m - 1)) 0, e, z, t)
+
+-- ---- a search that passes w indexes at once
+
+module _ {p : ℕ → Bool} {n i : ℕ} (S : Seeking p n i) (w : ℕ) (l : i + w ≤ n) where
+  parted : orFound (scan p w i) (scan p (n - (i + w)) (i + w)) ≡ first p n
+  parted =
+      let s : n - i ≡ w + (n - (i + w)) = omega arith in
+      sym (scan-append p w (n - (i + w)) i) ∙ rw s at (S .rest)
+
+  pub seek-found : {k : ℕ} → At k ≡ scan p w i → At k ≡ first p n
+  seek-found {k} e = rw (← e) at parted
+
+  pub seek-over : Nowhere ≡ scan p w i → Seeking p n (i + w)
+  seek-over e = record { within = l; rest = rw (← e) at parted }

@@ -9,18 +9,25 @@ use native.Mathlib.Nat.{div-add-mod', div-lt-iff-lt-mul, mul-le-mul-left, suc-mu
 use native.Mathlib.Omega.{arith}
 use lib.Arith.{digits-div}
 use lib.Dec.{eqb, leb}
-use borrow.Author.Tests.{le-ltb, eqb-true, ne-eqb}
+use borrow.Author.Tests.{le-ltb, eq-eqb, ne-eqb, eqb-true, eqb-false}
 use Rattle.model.specs.declared.Geometry.{Geometry}
 use Rattle.model.specs.Bytes.{beAt, put}
-use Rattle.model.specs.Search.{first, count, indexOf}
+use Rattle.model.specs.declared.Place.the-variants.{Nowhere}
+use Rattle.model.specs.Search.{scan, some, first, count, indexOf}
 use Rattle.model.specs.Geometry.{usable, tableAt, tableSectors}
 use Rattle.model.specs.Disk.{Disk, view}
 use Rattle.model.specs.Superblock.{geometryIn}
 use Rattle.model.specs.Table.{freeFile, tableFile, tableOffset, tableEntryBytes, freedIn}
 use Rattle.model.specs.Catalogue.{Owner, catalogueOf, isFree, isPart, isBeyond, freeExtent, extentOf, holdsBeyond, sectorsBeyond}
 use Rattle.laws.proofs.Disk.{beAt-view}
-use Rattle.laws.proofs.Search.{first-ext}
+use Rattle.laws.proofs.Search.{first-ext, scan-none, none-at}
 use Rattle.laws.proofs.Catalogue.{table-on, part-is}
+use Rattle.table.specs.Word.{swapped, entryWord}
+
+-- where the test holds of none of n indexes from i on, the search of them finds nothing
+pub nowhere-from : (p : ℕ → Bool) (i n : ℕ) → some (λ k. p (i + k)) n ≡ false → Nowhere ≡ scan p n i
+nowhere-from p i n e =
+    sym (scan-none p n i (λ k a b. let z : i + (k - i) ≡ k = omega arith in rw z at (none-at (λ j. p (i + j)) n e (k - i) (omega arith))))
 
 vacant : (b : Bool) (w : Owner) → isFree (cond (not b) (just w) none) ≡ b
 vacant true w = refl
@@ -101,3 +108,38 @@ module _ (img : List ℕ) (g : Geometry) (e : ℕ) where
   offset-at =
       let k : 512 * (tableAt g + e / 128) + (4 * (e % 128) + 2) ≡ 512 * tableAt g + 4 * e + 2 = omega arith in
       sym (beAt-view img (tableAt g + e / 128) (4 * (e % 128) + 2) 2 (omega arith) ∙ ap (λ n. beAt img n 2) k)
+
+-- ---- entries as words
+
+swapped-small : (v : ℕ) → v < 65536 → swapped v < 65536
+swapped-small v l = omega arith
+
+swapped-same : (v w : ℕ) → swapped v ≡ swapped w → v < 65536 → w < 65536 → v ≡ w
+swapped-same v w e l m = omega arith
+
+halves : (x y z t : ℕ) → x < 65536 → z < 65536 → x + 65536 * y ≡ z + 65536 * t → (x ≡ z) × (y ≡ t)
+halves x y z t l m e = (omega arith, omega arith)
+
+digits-mod : (x y : ℕ) → x < 65536 → (x + 65536 * y) % 65536 ≡ x
+digits-mod x y l = omega arith
+
+pub word-is : (f o i p : ℕ) → f < 65536 → o < 65536 → i < 65536 → p < 65536 → eqb (entryWord f o) (entryWord i p) ≡ (eqb f i && eqb o p)
+word-is f o i p a b c d = go (eqb f i) refl (eqb o p) refl
+  where
+    both : entryWord f o ≡ entryWord i p → (swapped f ≡ swapped i) × (swapped o ≡ swapped p)
+    both = halves (swapped f) (swapped o) (swapped i) (swapped p) (swapped-small f a) (swapped-small i c)
+
+    go : (x : Bool) → eqb f i ≡ x → (y : Bool) → eqb o p ≡ y → eqb (entryWord f o) (entryWord i p) ≡ (x && y)
+    go true q true r = eq-eqb (entryWord f o) (entryWord i p) (rw (eqb-true f i q, eqb-true o p r))
+    go true q false r = ne-eqb (entryWord f o) (entryWord i p) (λ e. eqb-false o p r (swapped-same o p (both e .1) b d))
+    go false q y r = ne-eqb (entryWord f o) (entryWord i p) (λ e. eqb-false f i q (swapped-same f i (both e .0) a c))
+
+pub word-free : (f o : ℕ) → f < 65536 → eqb (entryWord f o % 65536) 65535 ≡ eqb f freeFile
+word-free f o l = go (eqb f freeFile) refl
+  where
+    low : entryWord f o % 65536 ≡ swapped f
+    low = digits-mod (swapped f) (swapped o) (swapped-small f l)
+
+    go : (x : Bool) → eqb f freeFile ≡ x → eqb (entryWord f o % 65536) 65535 ≡ x
+    go true q = eq-eqb (entryWord f o % 65536) 65535 (low ∙ ap swapped (eqb-true f freeFile q))
+    go false q = ne-eqb (entryWord f o % 65536) 65535 (λ e. eqb-false f freeFile q (swapped-same f 65535 (sym low ∙ e) l (omega arith)))

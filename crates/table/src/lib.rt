@@ -4,15 +4,18 @@ use model::FileIndex;
 use model::Geometry;
 use model::Place;
 ghost use mathlib.Core.Path.{_≡_};
-ghost use mathlib.Core.Bool.{cond};
-ghost use Prim.Native.Nat.{_+_, _*_, _≤_, _<_};
+ghost use mathlib.Core.Bool.{cond, _&&_, _||_};
+ghost use Prim.Native.Nat.{_+_, _-_, _*_, _≤_, _<_};
+ghost use lib.Dec.{eqb};
 ghost use lib.ListN.{length};
-ghost use Rattle.model.specs.Bytes.{put};
-ghost use Rattle.model.specs.Geometry.{tableAt, tableSectors, extentsFor};
+ghost use Rattle.model.specs.Bytes.{put, beAt};
+ghost use Rattle.model.specs.Search.{some, every, scan, indexOf};
+ghost use Rattle.model.specs.Geometry.{usable, tableAt, tableSectors, extentsFor};
 ghost use Rattle.model.specs.Disk.{view};
 ghost use Rattle.model.specs.Opened.{Bounded, Opened};
 ghost use Rattle.model.specs.Table.{tableFile, tableOffset, tableEntryBytes, freeFile, freedIn};
 ghost use Rattle.model.specs.Catalogue.{catalogueOf, freeExtent, extentOf, isPart, isBeyond, holdsBeyond, sectorsBeyond};
+ghost use Rattle.table.specs.Word.{swapped, entryWord};
 
 // The file that extent e's entry names; 65535 where it is free.
 pub fn table_file(img: &[u8], g: Geometry, e: Extent) -> u64
@@ -34,43 +37,165 @@ pub fn table_offset(img: &[u8], g: Geometry, e: Extent) -> u64
     fields::be(img, g.table_entry_at(e) + 2, 2)
 }
 
-// The lowest usable free extent.
-pub fn free_extent(img: &[u8], g: Geometry) -> Place
-    requires { ⌜ Opened (now img) g ⌝ }
-    ensures { λ r. ⌜ r ≡ freeExtent (catalogueOf (view (now (img .entry)))) ⌝ }
+// ---- searches, a table sector at a time
+// Their loops over a sector's 128 entries have no early exit and read an entry as one number, lowest byte first: so the compiler takes
+// several entries at once.
+
+// A number below 65536 with its bytes in the other order.
+fn swapped(v: u64) -> u32
+    requires { ⌜ v < 65536 ⌝ }
+    ensures { λ r. ⌜ r ≡ swapped v ⌝ }
 {
-    let n = g.usable() as usize;
-    let mut e: usize = 0;
+    (v / 256 + 256 * (v % 256)) as u32
+}
+
+// The two bytes at `at`, lowest first.
+fn pair(s: &[u8], at: usize) -> u32
+    requires { ⌜ at + 2 ≤ length (now s) ⌝ }
+    ensures { λ r. ⌜ r ≡ swapped (beAt (now (s .entry)) at 2) ⌝ }
+    ensures { λ _. ⌜ beAt (now (s .entry)) at 2 < 65536 ⌝ }
+{
+    (s[at] as u32) + 256 * (s[at + 1] as u32)
+}
+
+// Extent e's entry, lowest byte first.
+fn entry_word(img: &[u8], g: Geometry, e: Extent) -> u32
+    requires { ⌜ Opened (now img) g ⌝ }
+    requires { ⌜ e .0 < g .extents ⌝ }
+    ensures { λ r. ⌜ r ≡ entryWord (tableFile g (view (now (img .entry))) (e .0)) (tableOffset g (view (now (img .entry))) (e .0)) ⌝ }
+    ensures { λ _. ⌜ (tableFile g (view (now (img .entry))) (e .0) < 65536) × (tableOffset g (view (now (img .entry))) (e .0) < 65536) ⌝ }
+{
+    let at = g.table_entry_at(e);
+    pair(img, at) + 65536 * pair(img, at + 2)
+}
+
+// Extent e is free.
+fn is_free(img: &[u8], g: Geometry, e: Extent) -> bool
+    requires { ⌜ Opened (now img) g ⌝ }
+    requires { ⌜ e .0 < g .extents ⌝ }
+    ensures { λ r. ⌜ r ≡ eqb (tableFile g (view (now (img .entry))) (e .0)) freeFile ⌝ }
+{
+    entry_word(img, g, e) % 65536 == 65535
+}
+
+fn either(a: bool, b: bool) -> bool
+    ensures { λ r. ⌜ r ≡ (a || b) ⌝ }
+{
+    if a {
+        return true;
+    }
+    b
+}
+
+fn both(a: bool, b: bool) -> bool
+    ensures { λ r. ⌜ r ≡ (a && b) ⌝ }
+{
+    if a {
+        return b;
+    }
+    false
+}
+
+// The 128 extents from e on are all free.
+pub fn all_free(img: &[u8], g: Geometry, e: u64) -> bool
+    requires { ⌜ Opened (now img) g ⌝ }
+    requires { ⌜ e + 128 ≤ g .extents ⌝ }
+    ensures { λ r. ⌜ r ≡ every (λ k. eqb (tableFile g (view (now (img .entry))) (e + k)) freeFile) 128 ⌝ }
+{
+    let mut all = true;
+    let mut k: u64 = 0;
+    while k < 128 {
+        all = both(is_free(img, g, Extent(e + k)), all);
+        k += 1;
+    }
+    all
+}
+
+// One of the 128 extents from e on is free.
+fn holds_free(img: &[u8], g: Geometry, e: u64) -> bool
+    requires { ⌜ Opened (now img) g ⌝ }
+    requires { ⌜ e + 128 ≤ g .extents ⌝ }
+    ensures { λ r. ⌜ r ≡ some (λ k. eqb (tableFile g (view (now (img .entry))) (e + k)) freeFile) 128 ⌝ }
+{
+    let mut found = false;
+    let mut k: u64 = 0;
+    while k < 128 {
+        found = either(is_free(img, g, Extent(e + k)), found);
+        k += 1;
+    }
+    found
+}
+
+// The lowest usable free extent from `from` on.
+fn free_from(img: &[u8], g: Geometry, from: u64) -> Place
+    requires { ⌜ Opened (now img) g ⌝ }
+    requires { ⌜ from ≤ usable g ⌝ }
+    ensures { λ r. ⌜ r ≡ scan (λ e. eqb (tableFile g (view (now (img .entry))) e) freeFile) (usable g - from) from ⌝ }
+{
+    let n = g.usable();
+    let mut e = from;
     while e < n {
-        if table_file(img, g, Extent(e as u64)) == 65535 {
-            return Place::At(e);
+        if is_free(img, g, Extent(e)) {
+            return Place::At(e as usize);
         }
         e += 1;
     }
     Place::Nowhere
 }
 
-// Extent e is file i's, of offset o.
+// The lowest usable free extent. A sector with no free entry is passed over whole.
+pub fn free_extent(img: &[u8], g: Geometry) -> Place
+    requires { ⌜ Opened (now img) g ⌝ }
+    ensures { λ r. ⌜ r ≡ freeExtent (catalogueOf (view (now (img .entry)))) ⌝ }
+{
+    let n = g.usable();
+    let mut e: u64 = 0;
+    while e + 128 <= n {
+        if holds_free(img, g, e) {
+            return free_from(img, g, e);
+        }
+        e += 128;
+    }
+    free_from(img, g, e)
+}
+
+// Extent e is file i's, of offset o. Both numbers are compared at once; an offset past 65535 is no entry's.
 fn is_part(img: &[u8], g: Geometry, i: FileIndex, o: u64, e: Extent) -> bool
     requires { ⌜ Opened (now img) g ⌝ }
     requires { ⌜ (i .0 < freeFile) × (e .0 < g .extents) ⌝ }
     ensures { λ r. ⌜ r ≡ isPart (i .0) o (catalogueOf (view (now (img .entry))) .table (e .0)) ⌝ }
 {
-    if table_file(img, g, e) == i.0 {
-        return table_offset(img, g, e) == o;
+    let word = entry_word(img, g, e);
+    if o < 65536 {
+        return word == swapped(i.0) + 65536 * swapped(o);
     }
     false
 }
 
-// File i's extent of offset o; extent 0 where it has none.
-pub fn extent_of(img: &[u8], g: Geometry, i: FileIndex, o: u64) -> Extent
+// One of the 128 extents from e on is file i's, of offset o.
+fn holds_part(img: &[u8], g: Geometry, i: FileIndex, o: u64, e: u64) -> bool
     requires { ⌜ Opened (now img) g ⌝ }
-    requires { ⌜ i .0 < freeFile ⌝ }
-    ensures { λ r. ⌜ r .0 ≡ extentOf (catalogueOf (view (now (img .entry)))) (i .0) o ⌝ }
+    requires { ⌜ (i .0 < freeFile) × (e + 128 ≤ g .extents) ⌝ }
+    ensures { λ r. ⌜ r ≡ some (λ k. isPart (i .0) o (catalogueOf (view (now (img .entry))) .table (e + k))) 128 ⌝ }
+{
+    let mut found = false;
+    let mut k: u64 = 0;
+    while k < 128 {
+        found = either(is_part(img, g, i, o, Extent(e + k)), found);
+        k += 1;
+    }
+    found
+}
+
+// The lowest usable one from `from` on.
+fn part_from(img: &[u8], g: Geometry, i: FileIndex, o: u64, from: u64) -> Extent
+    requires { ⌜ Opened (now img) g ⌝ }
+    requires { ⌜ (i .0 < freeFile) × (from ≤ usable g) ⌝ }
+    ensures { λ r. ⌜ r .0 ≡ indexOf (scan (λ e. isPart (i .0) o (catalogueOf (view (now (img .entry))) .table e)) (usable g - from) from) ⌝ }
     ensures { λ r. ⌜ r .0 < g .extents ⌝ }
 {
     let n = g.usable();
-    let mut e: u64 = 0;
+    let mut e = from;
     while e < n {
         if is_part(img, g, i, o, Extent(e)) {
             return Extent(e);
@@ -79,6 +204,26 @@ pub fn extent_of(img: &[u8], g: Geometry, i: FileIndex, o: u64) -> Extent
     }
     Extent(0)
 }
+
+// File i's extent of offset o; extent 0 where it has none. A sector that does not hold it is passed over whole.
+pub fn extent_of(img: &[u8], g: Geometry, i: FileIndex, o: u64) -> Extent
+    requires { ⌜ Opened (now img) g ⌝ }
+    requires { ⌜ i .0 < freeFile ⌝ }
+    ensures { λ r. ⌜ r .0 ≡ extentOf (catalogueOf (view (now (img .entry)))) (i .0) o ⌝ }
+    ensures { λ r. ⌜ r .0 < g .extents ⌝ }
+{
+    let n = g.usable();
+    let mut e: u64 = 0;
+    while e + 128 <= n {
+        if holds_part(img, g, i, o, e) {
+            return part_from(img, g, i, o, e);
+        }
+        e += 128;
+    }
+    part_from(img, g, i, o, e)
+}
+
+// ---- a file's extents from an offset on
 
 // Extent e is file i's, of offset o or more. Past the last extent stands table padding, which is no file's.
 fn is_beyond(img: &[u8], g: Geometry, i: FileIndex, o: u64, e: Extent) -> bool

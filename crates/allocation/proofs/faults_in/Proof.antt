@@ -2,7 +2,7 @@
 use mathlib.Core.Path.{sym, _∙_}
 use native.Mathlib.Omega.{arith}
 use Rattle.model.specs.Disk.{view}
-use Rattle.allocation.proofs.Marks.{no-marks, starts-down, starts-within}
+use Rattle.allocation.proofs.Marks.{no-marks, starts-down, starts-rise}
 use Rattle.allocation.proofs.Verdict.{misplaced-at, lacking-at, stopped-at, nowhere}
 use borrow.Author.Needs.{needs}
 use Rattle.allocation.proofs.faults_in.Statement.{statement}
@@ -29,7 +29,7 @@ same-length-2 c = search needs
 returns : tie.Need-returns
 returns c =
     let s = c .before .before .before .before .before .before .before .before .before .before .before .before .before .before .before in
-    misplaced-at (s .args .g) (view (s .args .img .now)) (s .pre .0 .is) (omega arith) (c .before .misplaced .given .0 .0) (sym (c .before .misplaced .given .1) ∙ c .before .before .before .before .before .pass-over .ensures .0)
+    misplaced-at (s .args .g) (view (s .args .img .now)) (s .pre .0 .is) (omega arith) (c .before .misplaced .given .0 .0) (sym (c .before .misplaced .given .1) ∙ c .before .before .before .before .before .pass-over .ensures .found)
 
 enum-told : tie.Need-enum-told
 enum-told c = search needs
@@ -41,10 +41,11 @@ first-lacking-requires c κs =
     let d = view (s .args .img .now) in
     let f = c .before .before .before .before .before .before .before .before .before .before .before .fill-starts in
     let p = c .before .before .before .before .before .before .pass-over in
-    let sound = sym (p .ensures .0) ∙ c .before .before .enum-told .given .1 in
-    let marks = p .ensures .1 (c .before .before .enum-told .given .1) in
-    let starts = starts-down g d (f .result) (p .result .reached) (f .last .1 .1 .0) (f .ensures .0) (marks .1) in
-    (omega (arith, starts .size, starts .files), starts-within g d (p .result .reached) _ (f .last .1 .1 .0) starts (marks .0 .size))
+    let sound = sym (p .ensures .found) ∙ c .before .before .enum-told .given .1 in
+    let marks = p .ensures .marks (c .before .before .enum-told .given .1) in
+    let lower = p .ensures .lower (c .before .before .enum-told .given .1) in
+    let starts = starts-down g d (f .result) (p .result .reached) (f .last .1 .1 .0) (f .ensures .0) lower in
+    (omega (arith, starts .size, starts .files), starts-rise g d (p .result .reached) _ (f .last .1 .1 .0) starts (marks .size))
 
 enum-known-i : tie.Need-enum-known-i
 enum-known-i c = search needs
@@ -62,10 +63,11 @@ returns-2 c =
     let d = view (s .args .img .now) in
     let f = c .before .before .before .before .before .before .before .before .before .before .before .before .before .before .before .fill-starts in
     let p = c .before .before .before .before .before .before .before .before .before .before .pass-over in
-    let sound = sym (p .ensures .0) ∙ c .before .before .before .before .before .before .enum-told .given .1 in
-    let marks = p .ensures .1 (c .before .before .before .before .before .before .enum-told .given .1) in
-    let starts = starts-down g d (f .result) (p .result .reached) (f .last .1 .1 .0) (f .ensures .0) (marks .1) in
-    lacking-at g d (s .pre .0 .is) (omega arith) sound (p .result .reached) (f .last .1 .1 .0) (p .last .1 .1 .1 .1 .0) starts (marks .0) (c .before .i .given .0 .0) (sym (c .before .i .given .1) ∙ c .before .before .before .first-lacking .ensures)
+    let sound = sym (p .ensures .found) ∙ c .before .before .before .before .before .before .enum-told .given .1 in
+    let marks = p .ensures .marks (c .before .before .before .before .before .before .enum-told .given .1) in
+    let lower = p .ensures .lower (c .before .before .before .before .before .before .enum-told .given .1) in
+    let starts = starts-down g d (f .result) (p .result .reached) (f .last .1 .1 .0) (f .ensures .0) lower in
+    lacking-at g d (s .pre .0 .is) (omega arith) sound (p .result .reached) (f .last .1 .1 .0) (p .last .1 .1 .1 .1 .0) starts marks (c .before .i .given .0 .0) (sym (c .before .i .given .1) ∙ c .before .before .before .first-lacking .ensures)
 
 enum-told-2 : tie.Need-enum-told-2
 enum-told-2 c = search needs
@@ -83,10 +85,11 @@ returns-3 c =
     let d = view (s .args .img .now) in
     let f = c .before .before .before .before .before .before .before .before .before .before .before .before .before .before .before .fill-starts in
     let p = c .before .before .before .before .before .before .before .before .before .before .pass-over in
-    let sound = sym (p .ensures .0) ∙ c .before .before .before .before .before .before .enum-told .given .1 in
-    let marks = p .ensures .1 (c .before .before .before .before .before .before .enum-told .given .1) in
-    let starts = starts-down g d (f .result) (p .result .reached) (f .last .1 .1 .0) (f .ensures .0) (marks .1) in
-    stopped-at g d (s .pre .0 .is) (omega arith) sound (p .result .reached) (f .last .1 .1 .0) (p .last .1 .1 .1 .1 .0) starts (marks .0) (sym (c .before .enum-told2 .given .1) ∙ c .before .before .before .first-lacking .ensures) (c .if1 .taken)
+    let sound = sym (p .ensures .found) ∙ c .before .before .before .before .before .before .enum-told .given .1 in
+    let marks = p .ensures .marks (c .before .before .before .before .before .before .enum-told .given .1) in
+    let lower = p .ensures .lower (c .before .before .before .before .before .before .enum-told .given .1) in
+    let starts = starts-down g d (f .result) (p .result .reached) (f .last .1 .1 .0) (f .ensures .0) lower in
+    stopped-at g d (s .pre .0 .is) (omega arith) sound (p .result .reached) (f .last .1 .1 .0) (p .last .1 .1 .1 .1 .0) starts marks (sym (c .before .enum-told2 .given .1) ∙ c .before .before .before .first-lacking .ensures) (c .if1 .taken)
 
 same-length-7 : tie.Need-same-length-7
 same-length-7 c = search needs
@@ -101,10 +104,11 @@ returns-4 c =
     let d = view (s .args .img .now) in
     let f = c .before .before .before .before .before .before .before .before .before .before .before .before .before .before .before .fill-starts in
     let p = c .before .before .before .before .before .before .before .before .before .before .pass-over in
-    let sound = sym (p .ensures .0) ∙ c .before .before .before .before .before .before .enum-told .given .1 in
-    let marks = p .ensures .1 (c .before .before .before .before .before .before .enum-told .given .1) in
-    let starts = starts-down g d (f .result) (p .result .reached) (f .last .1 .1 .0) (f .ensures .0) (marks .1) in
-    nowhere g d (s .pre .0 .is) (omega arith) sound (p .result .reached) (f .last .1 .1 .0) (p .last .1 .1 .1 .1 .0) starts (marks .0) (sym (c .before .enum-told2 .given .1) ∙ c .before .before .before .first-lacking .ensures) (c .if1 .left)
+    let sound = sym (p .ensures .found) ∙ c .before .before .before .before .before .before .enum-told .given .1 in
+    let marks = p .ensures .marks (c .before .before .before .before .before .before .enum-told .given .1) in
+    let lower = p .ensures .lower (c .before .before .before .before .before .before .enum-told .given .1) in
+    let starts = starts-down g d (f .result) (p .result .reached) (f .last .1 .1 .0) (f .ensures .0) lower in
+    nowhere g d (s .pre .0 .is) (omega arith) sound (p .result .reached) (f .last .1 .1 .0) (p .last .1 .1 .1 .1 .0) starts marks (sym (c .before .enum-told2 .given .1) ∙ c .before .before .before .first-lacking .ensures) (c .if1 .left)
 
 pub faults-in-spec : {M : Type 1} → statement M
 faults-in-spec =

@@ -17,6 +17,7 @@ faults-in-requires : tie.Need-faults-in-requires
 faults-in-requires c κs =
     let s = c .before .before .before in
     let n = length-replicate {A = ℕ} 4096 0 in
+    let k = length-replicate {A = ℕ} 1025 0 in
     (s .pre .0, ((omega arith, omega arith), λ p l. zeros-at 4096 p))
 
 returns : tie.Need-returns

@@ -1,78 +1,51 @@
--- `allocation::first_lacking` meets its contract. The loop's invariant: the search has passed the files below i.
-use Prim.Native.Nat.{_+_, _-_}
-use mathlib.Core.Path.{sym, _∙_}
+-- `allocation::first_lacking` meets its contract. Where no byte of all is 0, none of a file's is.
+use Prim.Native.Nat.{ℕ, _+_, _-_}
+use mathlib.Core.Path.{_≡_, sym, ap, _∙_}
 use native.Mathlib.Omega.{arith}
-use Rattle.laws.proofs.Seeking.{Seeking, seek-start, seek-here, seek-next, seek-end}
-use Rattle.allocation.proofs.Verdict.{lacks}
+use lib.Dec.{eqb}
+use lib.ListN.{getD}
+use Rattle.laws.proofs.Search.{first-none, some-no, none-at}
+use Rattle.allocation.specs.Marks.{lacks}
 use borrow.Author.Needs.{needs}
 use Rattle.allocation.proofs.first_lacking.Statement.{statement}
 use Rattle.allocation.proofs.first_lacking.Tie as tie
 
-abbrev Inv-loop : tie.InvT-loop
-Inv-loop starts seen m i₀ i = Seeking (lacks starts seen) m i
-
-abbrev μ-loop : tie.MeasureT-loop
-μ-loop starts seen m i₀ i = m - i
-
-loop-holds : tie.Need-loop-holds Inv-loop μ-loop
-loop-holds c = seek-start
-
-mul-has-unseen : tie.Need-mul-has-unseen Inv-loop μ-loop
+mul-has-unseen : tie.Need-mul-has-unseen
 mul-has-unseen c = search needs
 
-shared-slice-read-has-unseen : tie.Need-shared-slice-read-has-unseen Inv-loop μ-loop
+shared-slice-read-has-unseen : tie.Need-shared-slice-read-has-unseen
 shared-slice-read-has-unseen c = search needs
 
-cast-has-unseen : tie.Need-cast-has-unseen Inv-loop μ-loop
-cast-has-unseen c = omega (arith, c .before .before .before .before .before .pre .1 (c .before .before .loop .i) (omega arith))
+cast-has-unseen : tie.Need-cast-has-unseen
+cast-has-unseen c = search needs
 
-add-has-unseen : tie.Need-add-has-unseen Inv-loop μ-loop
-add-has-unseen c = search needs
+has-unseen-requires : tie.Need-has-unseen-requires
+has-unseen-requires c κs = search needs
 
-mul-has-unseen-2 : tie.Need-mul-has-unseen-2 Inv-loop μ-loop
-mul-has-unseen-2 c = search needs
+lowest-lacking-requires : tie.Need-lowest-lacking-requires
+lowest-lacking-requires c κs = search needs
 
-shared-slice-read-has-unseen-2 : tie.Need-shared-slice-read-has-unseen-2 Inv-loop μ-loop
-shared-slice-read-has-unseen-2 c = search needs
+returns : tie.Need-returns
+returns c = search needs
 
-cast-has-unseen-2 : tie.Need-cast-has-unseen-2 Inv-loop μ-loop
-cast-has-unseen-2 c = omega (arith, c .before .before .before .before .before .before .pre .1 (c .before .before .before .loop .i + 1) (omega arith))
-
-has-unseen-requires : tie.Need-has-unseen-requires Inv-loop μ-loop
-has-unseen-requires c κs = c .before .before .before .before .before .before .pre .1 (c .before .before .before .loop .i + 1) (omega arith)
-
-returns : tie.Need-returns Inv-loop μ-loop
-returns c = seek-here (c .before .before .before .before .before .loop .inv) (c .before .before .before .before .loop-test .taken) (sym (c .before .has-unseen .ensures) ∙ c .if1 .taken)
-
-add-i : tie.Need-add-i Inv-loop μ-loop
-add-i c = search needs
-
-loop-less : tie.Need-loop-less Inv-loop μ-loop
-loop-less c = search needs
-
-loop-again : tie.Need-loop-again Inv-loop μ-loop
-loop-again c = seek-next (c .before .before .before .before .before .loop .inv) (c .before .before .before .before .loop-test .taken) (sym (c .before .has-unseen .ensures) ∙ c .if1 .left)
-
-returns-2 : tie.Need-returns-2 Inv-loop μ-loop
-returns-2 c = seek-end (c .before .loop .inv) (c .loop-test .left)
+returns-2 : tie.Need-returns-2
+returns-2 c =
+    let s = c .before .before .before .before .before in
+    let a = s .args in
+    let none = none-at (λ k. eqb (getD (a .seen .now) (0 + k) 0) 0) (getD (a .starts .now) (a .m) 0 - 0) (sym (c .before .has-unseen .ensures) ∙ c .if1 .left) in
+    sym (first-none (lacks (a .starts .now) (a .seen .now)) (a .m) (λ i l.
+    some-no (λ k. eqb (getD (a .seen .now) (getD (a .starts .now) i 0 + k) 0) 0) (getD (a .starts .now) (i + 1) 0 - getD (a .starts .now) i 0) (λ k h.
+    let z : 0 + (getD (a .starts .now) i 0 + k) ≡ getD (a .starts .now) i 0 + k = omega arith in
+    rw z at (none (getD (a .starts .now) i 0 + k) (omega (arith, s .pre .1 .last (i + 1) (omega arith)))))))
 
 pub first-lacking-spec : {M : Type 1} → statement M
 first-lacking-spec =
     tie.close
     (tie.spec
-    Inv-loop
-    μ-loop
-    loop-holds
     mul-has-unseen
     shared-slice-read-has-unseen
     cast-has-unseen
-    add-has-unseen
-    mul-has-unseen-2
-    shared-slice-read-has-unseen-2
-    cast-has-unseen-2
     has-unseen-requires
+    lowest-lacking-requires
     returns
-    add-i
-    loop-less
-    loop-again
     returns-2)

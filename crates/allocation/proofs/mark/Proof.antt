@@ -1,7 +1,10 @@
 -- `allocation::mark` meets its contract. Each return is a law of what one more extent changes.
 use native.Mathlib.Omega.{arith}
+use mathlib.Core.Path.{_∙_}
 use Rattle.model.specs.Disk.{view}
-use Rattle.allocation.proofs.Marks.{range, mark-later, past, again, new}
+use Rattle.allocation.specs.Marks.{Starts}
+use Rattle.allocation.proofs.Marks.{range, mark-later, past, inside, again, new}
+use Rattle.allocation.proofs.Misplaced.{needed-fault}
 use borrow.Author.Needs.{needs}
 use Rattle.allocation.proofs.mark.Statement.{statement}
 use Rattle.allocation.proofs.mark.Tie as tie
@@ -9,13 +12,15 @@ use Rattle.allocation.proofs.mark.Tie as tie
 table-file-requires : tie.Need-table-file-requires
 table-file-requires c κs = search needs
 
+is-misplaced-requires : tie.Need-is-misplaced-requires
+is-misplaced-requires c κs = search needs
+
 returns : tie.Need-returns
 returns c =
-    let s = c .before .before .before .before .before in
+    let s = c .before .before .before .before .before .before in
     let a = s .args in
-    let d = view (a .img .now) in
-    let f = c .before .table-file in
-    (mark-later (a .g) d (a .e .0) (a .m) (a .seen .now) (s .pre .1 .1 .1) (f .result) (f .ensures .0) (c .if1 .taken), omega arith)
+    let f = c .before .before .table-file in
+    (c .is-misplaced .ensures, (mark-later (a .g) (view (a .img .now)) (a .e .0) (a .m) (a .seen .now) (s .pre .1 .1 .1) (f .result) (f .ensures .0) (c .before .if1 .taken), omega arith))
 
 mul-p : tie.Need-mul-p
 mul-p c = search needs
@@ -62,14 +67,16 @@ cast-if2 c =
     let r = range (a .g) d (a .m) (f .result) (a .starts .now) (s .pre .1 .1 .0) (c .before .before .before .if1 .left) in
     omega arith
 
+is-misplaced-requires-2 : tie.Need-is-misplaced-requires-2
+is-misplaced-requires-2 c κs = search needs
+
 returns-2 : tie.Need-returns-2
 returns-2 c =
-    let s = c .before .before .before .before .before .before .before .before .before in
+    let s = c .before .before .before .before .before .before .before .before .before .before in
     let a = s .args in
-    let d = view (a .img .now) in
-    let f = c .before .before .before .before .before .table-file in
-    let o = c .before .before .table-offset in
-    (past (a .g) d (a .e .0) (a .m) (a .seen .now) (s .pre .1 .1 .1) (f .result) (f .ensures .0) (o .result) (o .ensures .0) (a .starts .now) (s .pre .1 .1 .0) (c .before .before .before .before .if1 .left) (omega arith), omega arith)
+    let f = c .before .before .before .before .before .before .table-file in
+    let o = c .before .before .before .table-offset in
+    (c .is-misplaced2 .ensures, (past (a .g) (view (a .img .now)) (a .e .0) (a .m) (a .seen .now) (s .pre .1 .1 .1) (f .result) (f .ensures .0) (o .result) (o .ensures .0) (a .starts .now) (s .pre .1 .1 .0) (c .before .before .before .before .before .if1 .left) (omega arith), omega arith))
 
 slice-read-if3 : tie.Need-slice-read-if3
 slice-read-if3 c =
@@ -82,12 +89,16 @@ slice-read-if3 c =
 
 returns-3 : tie.Need-returns-3
 returns-3 c =
-    let s = c .before .before .before .before .before .before .before .before .before .before .before in
+    let s = c .before .before .before .before .before .before .before .before .before .before .before .before in
     let a = s .args in
     let d = view (a .img .now) in
-    let f = c .before .before .before .before .before .before .before .table-file in
-    let o = c .before .before .before .before .table-offset in
-    (again (a .g) d (a .e .0) (a .m) (a .seen .now) (s .pre .1 .1 .1) (f .result) (f .ensures .0) (o .result) (o .ensures .0) (a .starts .now) (s .pre .1 .1 .0) (c .before .before .before .before .before .before .if1 .left) (omega arith) (omega arith), omega arith)
+    let f = c .before .before .before .before .before .before .before .before .table-file in
+    let o = c .before .before .before .before .before .table-offset in
+    let l = c .before .before .before .before .before .before .before .if1 .left in
+    let i = inside (a .g) d (a .e .0) (a .m) (a .seen .now) (s .pre .1 .1 .1) (f .result) (f .ensures .0) (o .result) (o .ensures .0) (a .starts .now) (s .pre .1 .1 .0) l (omega arith) in (
+      rw (s .pre .1 .0 .0) (needed-fault d (a .g) (s .pre .0 .is) (a .e .0) (f .result) (s .pre .1 .0 .1) (f .ensures .0) (omega (arith, s .pre .1 .1 .0 .files)) (omega (arith, s .pre .0 .bounded .files-high)) (omega (arith, i))),
+      (again (a .g) d (a .e .0) (a .m) (a .seen .now) (s .pre .1 .1 .1) (f .result) (f .ensures .0) (o .result) (o .ensures .0) (a .starts .now) (s .pre .1 .1 .0) l (omega arith) (omega arith), omega arith),
+    )
 
 slice-write-seen : tie.Need-slice-write-seen
 slice-write-seen c =
@@ -103,18 +114,23 @@ same-length c = search needs
 
 returns-4 : tie.Need-returns-4
 returns-4 c =
-    let s = c .before .before .before .before .before .before .before .before .before .before .before in
+    let s = c .before .before .before .before .before .before .before .before .before .before .before .before in
     let a = s .args in
     let d = view (a .img .now) in
-    let f = c .before .before .before .before .before .before .before .table-file in
-    let o = c .before .before .before .before .table-offset in
-    (new (a .g) d (a .e .0) (a .m) (a .seen .now) (s .pre .1 .1 .1) (f .result) (f .ensures .0) (o .result) (o .ensures .0) (a .starts .now) (s .pre .1 .1 .0) (c .before .before .before .before .before .before .if1 .left) (omega arith) (c .if3 .left), omega arith)
+    let f = c .before .before .before .before .before .before .before .before .table-file in
+    let o = c .before .before .before .before .before .table-offset in
+    let l = c .before .before .before .before .before .before .before .if1 .left in
+    let i = inside (a .g) d (a .e .0) (a .m) (a .seen .now) (s .pre .1 .1 .1) (f .result) (f .ensures .0) (o .result) (o .ensures .0) (a .starts .now) (s .pre .1 .1 .0) l (omega arith) in (
+      rw (s .pre .1 .0 .0) (needed-fault d (a .g) (s .pre .0 .is) (a .e .0) (f .result) (s .pre .1 .0 .1) (f .ensures .0) (omega (arith, s .pre .1 .1 .0 .files)) (omega (arith, s .pre .0 .bounded .files-high)) (omega (arith, i))),
+      (new (a .g) d (a .e .0) (a .m) (a .seen .now) (s .pre .1 .1 .1) (f .result) (f .ensures .0) (o .result) (o .ensures .0) (a .starts .now) (s .pre .1 .1 .0) l (omega arith) (c .before .if3 .left), omega arith),
+    )
 
 pub mark-spec : {M : Type 1} → statement M
 mark-spec =
     tie.close
     (tie.spec
     table-file-requires
+    is-misplaced-requires
     returns
     mul-p
     shared-slice-read-p
@@ -125,6 +141,7 @@ mark-spec =
     mul-if2
     shared-slice-read-if2
     cast-if2
+    is-misplaced-requires-2
     returns-2
     slice-read-if3
     returns-3

@@ -1,6 +1,6 @@
 -- `allocation::pass_over` meets its contract. The loop's invariant: the search for fault 25 has passed the extents below e, and the
 -- marks are those of these extents.
-use Prim.Native.Nat.{ℕ, _-_, _≤_}
+use Prim.Native.Nat.{ℕ, _+_, _-_, _≤_}
 use mathlib.Core.Path.{_≡_, refl, sym, _∙_}
 use mathlib.Core.Bool.{Bool}
 use mathlib.Core.List.{List}
@@ -9,7 +9,7 @@ use lib.ListN.{length}
 use Rattle.model.specs.Disk.{view}
 use Rattle.model.specs.Catalogue.{catalogueOf}
 use Rattle.model.specs.Faults.{fault25}
-use Rattle.laws.proofs.Seeking.{at-nowhere, Seeking, seek-start, seek-here, seek-next, seek-end}
+use Rattle.laws.proofs.Seeking.{at-nowhere, Seeking, seek-start, seek-found, seek-over}
 use Rattle.allocation.specs.Marks.{Marks}
 use Rattle.allocation.proofs.Marks.{starts-down}
 use borrow.Author.Needs.{needs}
@@ -20,36 +20,42 @@ abbrev hit : List ℕ → ℕ → Bool
 hit img = fault25 (catalogueOf (view img))
 
 abbrev Inv-loop : tie.InvT-loop
-Inv-loop img g starts f seen₀ u n m₀ e₀ seen m e =
+Inv-loop img g starts f seen₀ n m₀ e₀ seen m e =
     (m ≤ f) × (length seen ≡ length seen₀) × Marks g (view img) e m seen × Seeking (hit img) n e
 
 abbrev μ-loop : tie.MeasureT-loop
-μ-loop img g starts f seen₀ u n m₀ e₀ seen m e = n - e
-
-usable-requires : tie.Need-usable-requires Inv-loop μ-loop
-usable-requires c κs = search needs
+μ-loop img g starts f seen₀ n m₀ e₀ seen m e = n - e
 
 loop-holds : tie.Need-loop-holds Inv-loop μ-loop
-loop-holds c = (omega arith, refl, c .before .before .before .before .pre .1 .1, seek-start)
+loop-holds c = (omega arith, refl, c .before .before .before .pre .1 .1, seek-start)
 
-is-misplaced-requires : tie.Need-is-misplaced-requires Inv-loop μ-loop
-is-misplaced-requires c κs = search needs
+add-loop : tie.Need-add-loop Inv-loop μ-loop
+add-loop c = search needs
+
+pass-sector-requires : tie.Need-pass-sector-requires Inv-loop μ-loop
+pass-sector-requires c κs =
+    let l = c .before .before .loop in
+    let s = c .before .before .before .before .before .before in
+    let a = s .args in
+    (s .pre .0, (c .before .loop-test .taken, (starts-down (a .g) (view (a .img .now)) (a .f) (l .m) (a .starts .now) (s .pre .1 .0) (l .inv .0), l .inv .2)))
+
+enum-known-misplaced : tie.Need-enum-known-misplaced Inv-loop μ-loop
+enum-known-misplaced c = search needs
 
 same-length : tie.Need-same-length Inv-loop μ-loop
 same-length c = search needs
 
 returns : tie.Need-returns Inv-loop μ-loop
-returns c = (
-  seek-here (c .before .before .before .loop .inv .3) (c .before .before .loop-test .taken) (sym (c .before .is-misplaced .ensures) ∙ c .if1 .taken),
-  λ e. absurd (at-nowhere e),
-)
+returns c =
+    let l = c .before .before .before .before .before .before .before .before .loop in
+    let z : l .e + 128 - l .e ≡ 128 = omega arith in record {
+      found = seek-found (l .inv .3) 128 (c .before .before .before .before .before .before .before .loop-test .taken) (sym (c .before .misplaced .given .1) ∙ rw z at (c .before .before .before .before .before .pass-sector .ensures .found));
+      marks = λ q. absurd (at-nowhere q);
+      lower = λ q. absurd (at-nowhere q);
+    }
 
-mark-requires : tie.Need-mark-requires Inv-loop μ-loop
-mark-requires c κs =
-    let l = c .before .before .before .before .loop in
-    let s = c .before .before .before .before .before .before .before .before .before in
-    let a = s .args in
-    (s .pre .0, (c .before .before .before .loop-test .taken, (starts-down (a .g) (view (a .img .now)) (a .f) (l .m) (a .starts .now) (s .pre .1 .0) (l .inv .0), l .inv .2)))
+enum-told : tie.Need-enum-told Inv-loop μ-loop
+enum-told c = search needs
 
 add-e : tie.Need-add-e Inv-loop μ-loop
 add-e c = search needs
@@ -60,21 +66,33 @@ loop-less c = search needs
 loop-again : tie.Need-loop-again Inv-loop μ-loop
 loop-again c =
     let l = c .before .before .before .before .before .before .before .loop in
-    let m = c .before .before .mark in (
-      omega arith,
-      m .kept .1 .1 .1 .1 .1 .0 ∙ l .inv .1,
-      m .ensures .0,
-      seek-next (l .inv .3) (c .before .before .before .before .before .before .loop-test .taken) (sym (c .before .before .before .before .before .is-misplaced .ensures) ∙ c .before .before .before .before .if1 .left),
+    let p = c .before .before .before .before .pass-sector in
+    let none = c .enum-told .given .1 in
+    let z : l .e + 128 - l .e ≡ 128 = omega arith in (
+      omega (arith, p .ensures .lower none),
+      p .kept .1 .1 .1 .1 .1 .0 ∙ l .inv .1,
+      p .ensures .marks none,
+      seek-over (l .inv .3) 128 (c .before .before .before .before .before .before .loop-test .taken) (sym none ∙ rw z at (p .ensures .found)),
     )
+
+pass-part-requires : tie.Need-pass-part-requires Inv-loop μ-loop
+pass-part-requires c κs =
+    let l = c .before .before .loop in
+    let s = c .before .before .before .before .before .before in
+    let a = s .args in
+    (s .pre .0, ((l .inv .3 .within, omega arith), (starts-down (a .g) (view (a .img .now)) (a .f) (l .m) (a .starts .now) (s .pre .1 .0) (l .inv .0), l .inv .2)))
 
 same-length-2 : tie.Need-same-length-2 Inv-loop μ-loop
 same-length-2 c = search needs
 
 returns-2 : tie.Need-returns-2 Inv-loop μ-loop
 returns-2 c =
-    let l = c .before .loop in
-    let e : l .e ≡ c .before .before .before .before .before .before .args .g .extents = omega (arith, l .inv .3 .within) in
-    (seek-end (l .inv .3) (c .loop-test .left), λ q. (rw e at (l .inv .2), l .inv .0))
+    let l = c .before .before .before .before .before .loop in
+    let p = c .before .before .pass-part .ensures in record {
+      found = p .found ∙ l .inv .3 .rest;
+      marks = p .marks;
+      lower = λ q. omega (arith, p .lower q, l .inv .0);
+    }
 
 pub pass-over-spec : {M : Type 1} → statement M
 pass-over-spec =
@@ -82,14 +100,16 @@ pass-over-spec =
     (tie.spec
     Inv-loop
     μ-loop
-    usable-requires
     loop-holds
-    is-misplaced-requires
+    add-loop
+    pass-sector-requires
+    enum-known-misplaced
     same-length
     returns
-    mark-requires
+    enum-told
     add-e
     loop-less
     loop-again
+    pass-part-requires
     same-length-2
     returns-2)

@@ -16,8 +16,8 @@ slice-aggregate-first-in-2 c = search needs
 first-in-requires : tie.Need-first-in-requires
 first-in-requires c κs =
     let s = c .before .before .before in
-    let n = length-replicate {A = ℕ} 4096 0 in
-    (s .pre .0, (s .pre .1 .0, ((omega arith, omega arith, omega arith, omega arith), λ b l. zeros-at 4096 b)))
+    let n = length-replicate {A = ℕ} 1024 0 in
+    (s .pre .0, (s .pre .1 .0, ((omega arith, omega arith, omega arith, omega arith), λ b l. zeros-at 1024 b)))
 
 returns : tie.Need-returns
 returns c = search needs

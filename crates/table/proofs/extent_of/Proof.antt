@@ -1,14 +1,14 @@
--- `table::extent_of` meets its contract. The loop's invariant: the search from e on gives what the whole search gives.
-use Prim.Native.Nat.{ℕ, _-_, _≤_}
+-- `table::extent_of` meets its contract. The loop's invariant: the search has passed the extents below e.
+use Prim.Native.Nat.{ℕ, _+_, _-_}
 use mathlib.Core.Path.{_≡_, sym, ap, _∙_}
 use mathlib.Core.Bool.{Bool}
 use mathlib.Core.List.{List}
 use native.Mathlib.Omega.{arith}
-use Rattle.model.specs.Search.{scan, first, indexOf}
+use Rattle.model.specs.Search.{indexOf}
 use Rattle.model.specs.Disk.{view}
 use Rattle.model.specs.Catalogue.{catalogueOf, isPart}
-use Rattle.laws.proofs.Search.{scan-here, scan-next, scan-end}
-use Rattle.table.proofs.Laws.{extent-of-is}
+use Rattle.laws.proofs.Seeking.{Seeking, seek-start, seek-over}
+use Rattle.table.proofs.Laws.{extent-of-is, nowhere-from}
 use borrow.Author.Needs.{needs}
 use Rattle.table.proofs.extent_of.Statement.{statement}
 use Rattle.table.proofs.extent_of.Tie as tie
@@ -17,7 +17,7 @@ abbrev hit : List ℕ → ℕ → ℕ → ℕ → Bool
 hit img i o e = isPart i o (catalogueOf (view img) .table e)
 
 abbrev Inv-loop : tie.InvT-loop
-Inv-loop img g i o n e₀ e = (e ≤ n) × (scan (hit img (i .0) o) (n - e) e ≡ first (hit img (i .0) o) n)
+Inv-loop img g i o n e₀ e = Seeking (hit img (i .0) o) n e
 
 abbrev μ-loop : tie.MeasureT-loop
 μ-loop img g i o n e₀ e = n - e
@@ -26,19 +26,25 @@ usable-requires : tie.Need-usable-requires Inv-loop μ-loop
 usable-requires c κs = search needs
 
 loop-holds : tie.Need-loop-holds Inv-loop μ-loop
-loop-holds c = search needs
+loop-holds c = seek-start
 
-is-part-requires : tie.Need-is-part-requires Inv-loop μ-loop
-is-part-requires c κs = search needs
+add-loop : tie.Need-add-loop Inv-loop μ-loop
+add-loop c = search needs
+
+holds-part-requires : tie.Need-holds-part-requires Inv-loop μ-loop
+holds-part-requires c κs = search needs
+
+part-from-requires : tie.Need-part-from-requires Inv-loop μ-loop
+part-from-requires c κs = search needs
 
 returns : tie.Need-returns Inv-loop μ-loop
 returns c =
-    let b = c .before .before .before in
+    let b = c .before .before .before .before in
     let s = b .before .before .before in
     let a = s .args in (
       rw (extent-of-is (view (a .img .now)) (a .g) (s .pre .0 .is) (a .i .0) (a .o), ← b .before .usable .ensures)
-          (ap indexOf (sym (scan-here (hit (a .img .now) (a .i .0) (a .o)) (b .before .usable .result) (b .loop .e) (omega arith) (sym (c .before .is-part .ensures) ∙ c .if1 .taken)) ∙ b .loop .inv .1)),
-      omega arith,
+          (rw (← b .before .usable .ensures) at (c .part-from .ensures .0) ∙ ap indexOf (b .loop .inv .rest)),
+      c .part-from .ensures .1,
     )
 
 add-e : tie.Need-add-e Inv-loop μ-loop
@@ -51,16 +57,19 @@ loop-again : tie.Need-loop-again Inv-loop μ-loop
 loop-again c =
     let b = c .before .before .before in
     let a = b .before .before .before .args in
-    (omega arith, sym (scan-next (hit (a .img .now) (a .i .0) (a .o)) (b .before .usable .result) (b .loop .e) (omega arith) (sym (c .before .is-part .ensures) ∙ c .if1 .left)) ∙ b .loop .inv .1)
+    seek-over (b .loop .inv) 128 (omega arith) (nowhere-from (hit (a .img .now) (a .i .0) (a .o)) (b .loop .e) 128 (sym (c .before .holds-part .ensures) ∙ c .if1 .left))
+
+part-from-requires-2 : tie.Need-part-from-requires-2 Inv-loop μ-loop
+part-from-requires-2 c κs = search needs
 
 returns-2 : tie.Need-returns-2 Inv-loop μ-loop
 returns-2 c =
-    let b = c .before in
+    let b = c .before .before in
     let s = b .before .before .before in
     let a = s .args in (
       rw (extent-of-is (view (a .img .now)) (a .g) (s .pre .0 .is) (a .i .0) (a .o), ← b .before .usable .ensures)
-          (ap indexOf (sym (scan-end (hit (a .img .now) (a .i .0) (a .o)) (b .before .usable .result) (b .loop .e) (omega arith)) ∙ b .loop .inv .1)),
-      omega arith,
+          (rw (← b .before .usable .ensures) at (c .part-from2 .ensures .0) ∙ ap indexOf (b .loop .inv .rest)),
+      c .part-from2 .ensures .1,
     )
 
 pub extent-of-spec : {M : Type 1} → statement M
@@ -71,9 +80,12 @@ extent-of-spec =
     μ-loop
     usable-requires
     loop-holds
-    is-part-requires
+    add-loop
+    holds-part-requires
+    part-from-requires
     returns
     add-e
     loop-less
     loop-again
+    part-from-requires-2
     returns-2)

@@ -7,7 +7,8 @@ use oracle::FormatRequest;
 
 use crate::comparing::{Compared, Comparisons};
 use crate::images::{self, assert_sound};
-use crate::text::{digits, nanoseconds};
+use crate::memory::MOST_STACK;
+use crate::text::{digits, nanoseconds, ratios};
 use crate::timing::median_alone;
 use crate::write_list::{counts, up_to_start_mark, written_places, Counts};
 
@@ -16,29 +17,35 @@ const LONGEST_SPAN: usize = 65_536;
 /// The longest list: the format of the largest volume.
 const LONGEST_LIST: usize = 1_542 * RECORD;
 
-pub fn print(comparisons: &mut Comparisons) {
+/// The rows on which `MOST_STACK` bounds the stack.
+const SAMPLE: &str = "sample";
+
+/// Prints the table and gives the rows that took more stack than they may.
+pub fn print(comparisons: &mut Comparisons) -> Vec<String> {
     println!("### Calls");
     println!();
     println!(
-        "| Call | Input | Rattle ns | plain Rust ns | ratio | sectors | barriers | bytes |\n\
-         |---|---|---:|---:|---:|---:|---:|---:|"
+        "| Call | Input | Rattle ns | plain Rust ns | ratio | of the rounds | sectors | barriers | bytes |\n\
+         |---|---|---:|---:|---:|---:|---:|---:|---:|"
     );
     let mut table = CallTable {
         comparisons,
         list: vec![0; LONGEST_LIST],
         output: vec![0; LONGEST_SPAN],
-        above_twice: Vec::new(),
+        slower: Vec::new(),
+        too_much_stack: Vec::new(),
     };
     sample(&mut table);
     nearly_empty(&mut table);
     full(&mut table);
     almost_full(&mut table);
     one_file(&mut table);
-    table.print_above_twice();
+    table.print_slower();
+    table.too_much_stack
 }
 
 fn sample(table: &mut CallTable) {
-    let input = "sample";
+    let input = SAMPLE;
     let mut image = images::sample();
     let name = b"calibration";
     table.format(input, images::SAMPLE_SECTORS, 255);
@@ -145,7 +152,8 @@ struct CallTable<'c> {
     comparisons: &'c mut Comparisons,
     list: Vec<u8>,
     output: Vec<u8>,
-    above_twice: Vec<String>,
+    slower: Vec<String>,
+    too_much_stack: Vec<String>,
 }
 
 impl CallTable<'_> {
@@ -225,7 +233,7 @@ impl CallTable<'_> {
             0
         });
         println!(
-            "| memory copy, 65,536 bytes | | | {} | | | | {} |",
+            "| memory copy, 65,536 bytes | | | {} | | | | | {} |",
             nanoseconds(time),
             digits(bytes.len() as u64)
         );
@@ -377,25 +385,30 @@ impl CallTable<'_> {
         barriers: &str,
         bytes: &str,
     ) {
+        let times = &compared.times;
         println!(
-            "| {call} | {input} | {} | {} | {:.2} | {sectors} | {barriers} | {bytes} |",
-            nanoseconds(compared.rattle),
-            nanoseconds(compared.rust),
-            compared.ratio()
+            "| {call} | {input} | {} | {} | {} | {sectors} | {barriers} | {bytes} |",
+            nanoseconds(times.rattle),
+            nanoseconds(times.rust),
+            ratios(times)
         );
-        if compared.ratio() > 2.0 {
-            let row = format!("{call} ({input}, {:.2})", compared.ratio());
-            self.above_twice.push(row);
+        if times.spread.0 > 1.0 {
+            let row = format!("{call} ({input}, {:.2})", times.ratio);
+            self.slower.push(row);
+        }
+        if input == SAMPLE && compared.stack > MOST_STACK {
+            let row = format!("{call} ({} bytes)", digits(compared.stack as u64));
+            self.too_much_stack.push(row);
         }
     }
 
-    fn print_above_twice(&self) {
+    fn print_slower(&self) {
         println!();
-        if self.above_twice.is_empty() {
-            println!("No call takes more than twice the time of plain Rust.");
+        if self.slower.is_empty() {
+            println!("No call is slower than plain Rust in every round.");
         } else {
-            let rows = self.above_twice.join("; ");
-            println!("More than twice the time of plain Rust: {rows}.");
+            let rows = self.slower.join("; ");
+            println!("Slower than plain Rust in every round: {rows}.");
         }
     }
 }

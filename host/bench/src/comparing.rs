@@ -5,19 +5,13 @@ use std::slice::from_ref;
 
 use crate::memory::{taken_by, Memory};
 use crate::text::digits;
-use crate::timing::medians;
+use crate::timing::{compare, Times};
 
-/// What both sides answered, and each side's time in nanoseconds.
+/// What both sides answered, the stack that the proved side took, and the times.
 pub struct Compared {
     pub answer: u64,
-    pub rattle: f64,
-    pub rust: f64,
-}
-
-impl Compared {
-    pub fn ratio(&self) -> f64 {
-        self.rattle / self.rust
-    }
+    pub stack: usize,
+    pub times: Times,
 }
 
 /// All comparisons of a run; it remembers the most memory that each call took.
@@ -60,12 +54,10 @@ impl Comparisons {
         assert_eq!(of_rattle.answer, of_rust.answer, "{call}");
         assert!(of_rattle.left == of_rust.left, "{call}: other bytes");
         self.note(call, of_rattle.memory, of_rust.memory);
-        let answer = of_rattle.answer;
-        let (rattle, rust) = medians(buffer, rattle, rust);
         Compared {
-            answer,
-            rattle,
-            rust,
+            answer: of_rattle.answer,
+            stack: of_rattle.memory.stack,
+            times: compare(buffer, rattle, rust),
         }
     }
 

@@ -7,7 +7,7 @@ use oracle::lists::RECORD;
 
 use crate::comparing::{Compared, Comparisons};
 use crate::images::{self, assert_sound, geometry};
-use crate::text::{digits, nanoseconds, tenths};
+use crate::text::{digits, nanoseconds, ratios, tenths};
 
 /// A volume: its geometry, the entries that are occupied and the extents that are taken.
 struct Fill {
@@ -56,10 +56,10 @@ fn heading(title: &str, unit: &str) {
     println!("### {title}");
     println!();
     println!(
-        "| Call | files | occupied | extents | taken | Rattle ns | plain Rust ns | ratio \
+        "| Call | files | occupied | extents | taken | Rattle ns | plain Rust ns | ratio | of the rounds \
          | Rattle ns per {unit} | plain Rust ns per {unit} |"
     );
-    println!("|---|---:|---:|---:|---:|---:|---:|---:|---:|---:|");
+    println!("|---|---:|---:|---:|---:|---:|---:|---:|---:|---:|---:|");
 }
 
 /// A row for each of three calls; the times are also divided by a number of files or extents.
@@ -98,16 +98,17 @@ fn rows(comparisons: &mut Comparisons, fill: &Fill, units: u64) {
 }
 
 fn row(call: &str, fill: &Fill, units: u64, compared: &Compared) {
+    let times = &compared.times;
     println!(
-        "| {call} | {} | {} | {} | {} | {} | {} | {:.2} | {} | {} |",
+        "| {call} | {} | {} | {} | {} | {} | {} | {} | {} | {} |",
         digits(fill.geometry.files()),
         digits(fill.occupied),
         digits(fill.geometry.extents()),
         digits(fill.taken),
-        nanoseconds(compared.rattle),
-        nanoseconds(compared.rust),
-        compared.ratio(),
-        tenths(compared.rattle / units as f64),
-        tenths(compared.rust / units as f64),
+        nanoseconds(times.rattle),
+        nanoseconds(times.rust),
+        ratios(times),
+        tenths(times.rattle / units as f64),
+        tenths(times.rust / units as f64),
     );
 }

@@ -10,14 +10,27 @@ mod text;
 mod timing;
 mod write_list;
 
+use std::process::ExitCode;
+
 use comparing::Comparisons;
+use memory::MOST_STACK;
+use text::digits;
 
 #[global_allocator]
 static HEAP: memory::CountedHeap = memory::CountedHeap;
 
-fn main() {
+fn main() -> ExitCode {
     let mut comparisons = Comparisons::default();
-    calls::print(&mut comparisons);
+    let too_much_stack = calls::print(&mut comparisons);
     growth::print(&mut comparisons);
     comparisons.print_memory();
+    if too_much_stack.is_empty() {
+        return ExitCode::SUCCESS;
+    }
+    eprintln!(
+        "bench: calls on the sample that take more than {} bytes of stack: {}",
+        digits(MOST_STACK as u64),
+        too_much_stack.join("; ")
+    );
+    ExitCode::FAILURE
 }

@@ -11,6 +11,9 @@ const PAINTED: usize = 1 << 20;
 const THREAD_STACK: usize = 2 * PAINTED;
 const WORD: usize = size_of::<usize>();
 
+/// The most stack, in bytes, that a call on the sample may take.
+pub const MOST_STACK: usize = 16 * 1024;
+
 /// The most bytes that a call took.
 #[derive(Clone, Copy)]
 pub struct Memory {

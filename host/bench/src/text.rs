@@ -1,5 +1,7 @@
 //! Numbers as they stand in the tables.
 
+use crate::timing::Times;
+
 /// A whole number with commas between thousands.
 pub fn digits(number: u64) -> String {
     let plain = number.to_string();
@@ -16,6 +18,12 @@ pub fn digits(number: u64) -> String {
 /// A time in nanoseconds.
 pub fn nanoseconds(time: f64) -> String {
     digits(time.round() as u64)
+}
+
+/// A ratio, and its lowest and highest.
+pub fn ratios(times: &Times) -> String {
+    let (lowest, highest) = times.spread;
+    format!("{:.2} | {lowest:.2} to {highest:.2}", times.ratio)
 }
 
 /// A time's part of each file or extent, with a digit behind the point.

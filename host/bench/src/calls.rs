@@ -7,7 +7,6 @@ use oracle::FormatRequest;
 
 use crate::comparing::{Compared, Comparisons};
 use crate::images::{self, assert_sound};
-use crate::memory::MOST_STACK;
 use crate::text::{digits, nanoseconds, ratios};
 use crate::timing::median_alone;
 use crate::write_list::{counts, up_to_start_mark, written_places, Counts};
@@ -17,11 +16,9 @@ const LONGEST_SPAN: usize = 65_536;
 /// The longest list: the format of the largest volume.
 const LONGEST_LIST: usize = 1_542 * RECORD;
 
-/// The rows on which `MOST_STACK` bounds the stack.
 const SAMPLE: &str = "sample";
 
-/// Prints the table and gives the rows that took more stack than they may.
-pub fn print(comparisons: &mut Comparisons) -> Vec<String> {
+pub fn print(comparisons: &mut Comparisons) {
     println!("### Calls");
     println!();
     println!(
@@ -33,7 +30,6 @@ pub fn print(comparisons: &mut Comparisons) -> Vec<String> {
         list: vec![0; LONGEST_LIST],
         output: vec![0; LONGEST_SPAN],
         slower: Vec::new(),
-        too_much_stack: Vec::new(),
     };
     sample(&mut table);
     nearly_empty(&mut table);
@@ -41,7 +37,6 @@ pub fn print(comparisons: &mut Comparisons) -> Vec<String> {
     almost_full(&mut table);
     one_file(&mut table);
     table.print_slower();
-    table.too_much_stack
 }
 
 fn sample(table: &mut CallTable) {
@@ -153,7 +148,6 @@ struct CallTable<'c> {
     list: Vec<u8>,
     output: Vec<u8>,
     slower: Vec<String>,
-    too_much_stack: Vec<String>,
 }
 
 impl CallTable<'_> {
@@ -396,9 +390,8 @@ impl CallTable<'_> {
             let row = format!("{call} ({input}, {:.2})", times.ratio);
             self.slower.push(row);
         }
-        if input == SAMPLE && compared.stack > MOST_STACK {
-            let row = format!("{call} ({} bytes)", digits(compared.stack as u64));
-            self.too_much_stack.push(row);
+        if input == SAMPLE {
+            self.comparisons.note_on_sample(call, compared.stack);
         }
     }
 

@@ -3,7 +3,7 @@
 use std::ops::Range;
 use std::slice::from_ref;
 
-use crate::memory::{taken_by, Memory};
+use crate::memory::{taken_by, Memory, MOST_STACK};
 use crate::text::digits;
 use crate::timing::{compare, Times};
 
@@ -22,6 +22,8 @@ pub struct Comparisons {
 
 struct CallMemory {
     call: String,
+    /// The proved side's stack on the sample.
+    on_sample: usize,
     rattle: Memory,
     rust: Memory,
 }
@@ -39,7 +41,7 @@ impl Comparisons {
         self.changing(call, buffer, from_ref(&whole), rattle, rust)
     }
 
-    /// A call that changes these places of a buffer. The call's name is what stands before a comma.
+    /// A call that changes these places of a buffer.
     pub fn changing(
         &mut self,
         call: &str,
@@ -62,32 +64,66 @@ impl Comparisons {
     }
 
     fn note(&mut self, call: &str, rattle: Memory, rust: Memory) {
-        let name = call.split(',').next().unwrap_or(call);
-        match self.memory.iter_mut().find(|noted| noted.call == name) {
+        match self.noted(call) {
             Some(noted) => {
                 noted.rattle = noted.rattle.max(rattle);
                 noted.rust = noted.rust.max(rust);
             }
             None => self.memory.push(CallMemory {
-                call: name.to_string(),
+                call: name_of(call).to_string(),
+                on_sample: 0,
                 rattle,
                 rust,
             }),
         }
     }
 
+    /// A call that was compared took this much stack on the sample.
+    pub fn note_on_sample(&mut self, call: &str, stack: usize) {
+        if let Some(noted) = self.noted(call) {
+            noted.on_sample = noted.on_sample.max(stack);
+        }
+    }
+
+    fn noted(&mut self, call: &str) -> Option<&mut CallMemory> {
+        let name = name_of(call);
+        self.memory.iter_mut().find(|noted| noted.call == name)
+    }
+
+    /// The calls that took more stack on the sample than they may.
+    pub fn above_most_stack(&self) -> Vec<String> {
+        let above = self
+            .memory
+            .iter()
+            .filter(|noted| noted.on_sample > MOST_STACK);
+        let text =
+            |noted: &CallMemory| format!("{} {}", noted.call, digits(noted.on_sample as u64));
+        above.map(text).collect()
+    }
+
     pub fn print_memory(&self) {
         println!();
         println!("### Peak stack and heap, bytes");
         println!();
-        println!("| Call | Rattle stack | plain Rust stack | Rattle heap | plain Rust heap |");
-        println!("|---|---:|---:|---:|---:|");
-        for CallMemory { call, rattle, rust } in &self.memory {
-            let figures = [rattle.stack, rust.stack, rattle.heap, rust.heap];
+        println!("| Call | Rattle stack, sample | Rattle stack | plain Rust stack | Rattle heap | plain Rust heap |");
+        println!("|---|---:|---:|---:|---:|---:|");
+        for noted in &self.memory {
+            let CallMemory {
+                call,
+                on_sample,
+                rattle,
+                rust,
+            } = noted;
+            let figures = [*on_sample, rattle.stack, rust.stack, rattle.heap, rust.heap];
             let figures = figures.map(|bytes| digits(bytes as u64));
             println!("| {call} | {} |", figures.join(" | "));
         }
     }
+}
+
+/// What stands before a comma.
+fn name_of(call: &str) -> &str {
+    call.split(',').next().unwrap_or(call)
 }
 
 /// The first run of a side, whose answer and bytes are compared.

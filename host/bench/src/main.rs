@@ -21,16 +21,17 @@ static HEAP: memory::CountedHeap = memory::CountedHeap;
 
 fn main() -> ExitCode {
     let mut comparisons = Comparisons::default();
-    let too_much_stack = calls::print(&mut comparisons);
+    calls::print(&mut comparisons);
     growth::print(&mut comparisons);
     comparisons.print_memory();
-    if too_much_stack.is_empty() {
+    let above = comparisons.above_most_stack();
+    if above.is_empty() {
         return ExitCode::SUCCESS;
     }
     eprintln!(
-        "bench: calls on the sample that take more than {} bytes of stack: {}",
+        "bench: more than {} bytes of stack on the sample: {}",
         digits(MOST_STACK as u64),
-        too_much_stack.join("; ")
+        above.join("; ")
     );
     ExitCode::FAILURE
 }

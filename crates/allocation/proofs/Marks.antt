@@ -177,7 +177,7 @@ module _ (g : Geometry) (d : Disk) where
         past h = let r = range m f starts S l in mark-large l (omega arith)
 
         module _ (h : getD starts f 0 + o < getD starts (f + 1) 0) where
-          pub inside : o < needed g d f
+          inside : o < needed g d f
           inside = let r = range m f starts S l in omega arith
 
           pub again : getD seen (getD starts f 0 + o) 0 ≡ 1 → Marks g d (k + 1) f seen

@@ -1,9 +1,11 @@
 -- Fault 25 in the terms that the code tests. Assumes nothing.
-use Prim.Native.Nat.{ℕ, _≤_, _<_}
+use Prim.Native.Nat.{ℕ, _+_, _≤_, _<_}
 use mathlib.Core.Path.{_≡_, refl, sym, _∙_}
 use mathlib.Core.Bool.{Bool, true, false, not, _&&_, _||_}
+use mathlib.Core.List.{List}
 use native.Mathlib.Omega.{arith}
 use lib.Dec.{eqb, leb, ltb}
+use lib.ListN.{getD}
 use borrow.Author.Tests.{eq-eqb, ne-eqb, lt-ltb}
 use Rattle.model.specs.declared.Geometry.{Geometry}
 use Rattle.model.specs.Geometry.{usable, entryAt}
@@ -14,7 +16,8 @@ use Rattle.model.specs.Table.{freeFile, tableFile}
 use Rattle.model.specs.Catalogue.{catalogueOf}
 use Rattle.model.specs.Faults.{fault25}
 use Rattle.laws.proofs.Catalogue.{fault25-is}
-use Rattle.allocation.specs.Marks.{needed}
+use Rattle.allocation.specs.Marks.{needed, Starts}
+use Rattle.allocation.proofs.Marks.{range}
 
 pub or-true : (b : Bool) → (b || true) ≡ true
 or-true true = refl
@@ -40,8 +43,10 @@ module _ (d : Disk) (g : Geometry) (is : g ≡ geometryIn (d 0)) where
   pub free-sound : (e : ℕ) → e < g .extents → tableFile g d e ≡ freeFile → fault25 (catalogueOf d) e ≡ false
   free-sound e l q = rw (fault25-on e l, eq-eqb (tableFile g d e) freeFile q)
 
-  -- an extent of a file that needs extents is only misplaced in the reserve
-  pub needed-fault : (e f : ℕ) → e < g .extents → f ≡ tableFile g d e → f < g .files → g .files ≤ freeFile → 0 < needed g d f
-      → leb (usable g) e ≡ fault25 (catalogueOf d) e
-  needed-fault e f l q h few n =
-      sym (fault25-on e l ∙ rw (← q, ne-eqb f freeFile (λ z. omega arith), lt-ltb f (g .files) h, occupied g d f n))
+  -- an extent whose file has a byte for its offset is only misplaced in the reserve: the file needs extents
+  pub fault-met : (e f m o u : ℕ) (starts : List ℕ) → e < g .extents → f ≡ tableFile g d e → g .files ≤ freeFile → u ≡ usable g
+      → Starts g d m starts → f < m → getD starts f 0 + o < getD starts (f + 1) 0 → leb u e ≡ fault25 (catalogueOf d) e
+  fault-met e f m o u starts l q few v S h x =
+      let r = range g d m f starts S h in
+      rw v
+      (sym (fault25-on e l ∙ rw (← q, ne-eqb f freeFile (λ z. omega (arith, S .files)), lt-ltb f (g .files) (omega (arith, S .files)), occupied g d f (omega arith))))

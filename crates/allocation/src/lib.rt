@@ -84,7 +84,7 @@ struct Marked {
 }
 
 // Extent e is judged, and marked unless its file is m or later. Where its offset is too large or was met before, its file is the
-// next m. A file with a byte for the offset needs that extent, so it is occupied: the directory, a sector for each file, isn't read.
+// next m. A file that has a byte for the offset needs extents, so it is occupied and the directory isn't read.
 fn mark(
     img: &[u8],
     g: Geometry,
@@ -157,14 +157,14 @@ fn pass_part(
     let mut m = f;
     let mut e = from;
     while e < to {
-        let s = mark(img, g, u, Extent(e), starts, m, seen);
-        if s.misplaced {
+        let next = mark(img, g, u, Extent(e), starts, m, seen);
+        if next.misplaced {
             return Pass {
                 misplaced: Place::At(e as usize),
                 reached: m,
             };
         }
-        m = s.reached;
+        m = next.reached;
         e += 1;
     }
     Pass {
@@ -239,7 +239,7 @@ fn lowest_lacking(starts: &[u16], seen: &[u8], m: usize) -> Place
     Place::Nowhere
 }
 
-// The same; mostly none lacks one, so the bytes of all are looked at first.
+// The same. In a sound volume none lacks one: the bytes of all are looked at first, at once.
 fn first_lacking(starts: &[u16], seen: &[u8], m: usize) -> Place
     requires { ⌜ m < length (now starts) ⌝ }
     requires { ⌜ Rising (now starts) m (length (now seen)) ⌝ }
@@ -303,8 +303,8 @@ fn faults_of_many(img: &[u8], g: Geometry) -> Soundness
     faults_in(img, g, &mut starts, &mut seen)
 }
 
-// By way of arrays for `room` extents, or for 16 times as many. A function that calls itself is never made part of its caller, nor
-// are its callees' arrays made part of its own frame: a volume takes stack for the arrays of its class alone.
+// By way of arrays for `room` extents, or for 16 times as many. It calls itself to keep the longer arrays out of the stack of a
+// volume that doesn't use them (docs/DECISIONS.md).
 fn faults_with(img: &[u8], g: Geometry, room: u64) -> Soundness
     requires { ⌜ Opened (now img) g ⌝ }
     requires { ⌜ 0 < room ⌝ }

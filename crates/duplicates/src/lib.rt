@@ -205,8 +205,8 @@ fn first_of_many(img: &[u8], g: Geometry, key: Key) -> Place
     first_in(img, g, key, &mut head, &mut next)
 }
 
-// By way of chains with room for so many entries, or for 64 times as many. A function that calls itself keeps its callees' arrays
-// out of its own frame, so a small directory never pays for the large chains.
+// By way of chains for `room` entries, or for 64 times as many. It calls itself to keep the longer chains out of the stack of a
+// volume that doesn't use them (docs/DECISIONS.md).
 fn first_with(img: &[u8], g: Geometry, key: Key, room: u64) -> Place
     requires { ⌜ Opened (now img) g ⌝ }
     requires { ⌜ KeysFit key (view (now img)) (g .files) ⌝ }

@@ -1,5 +1,5 @@
 // Judging a volume: the first fault, and the refusals 1 to 7 that all calls but format, summary, recovery and carrying out share.
-// The judging needs no heap and no lent scratch: 257 KiB of stack, measured.
+// The judging needs no heap and no lent scratch; bench/README.md has its stack.
 use model::Geometry;
 use model::Place;
 use model::Soundness;

@@ -1,10 +1,8 @@
 -- `allocation::mark` meets its contract. Each return is a law of what one more extent changes.
 use native.Mathlib.Omega.{arith}
-use mathlib.Core.Path.{_∙_}
 use Rattle.model.specs.Disk.{view}
-use Rattle.allocation.specs.Marks.{Starts}
-use Rattle.allocation.proofs.Marks.{range, mark-later, past, inside, again, new}
-use Rattle.allocation.proofs.Misplaced.{needed-fault}
+use Rattle.allocation.proofs.Marks.{range, mark-later, past, again, new}
+use Rattle.allocation.proofs.Misplaced.{fault-met}
 use borrow.Author.Needs.{needs}
 use Rattle.allocation.proofs.mark.Statement.{statement}
 use Rattle.allocation.proofs.mark.Tie as tie
@@ -76,7 +74,10 @@ returns-2 c =
     let a = s .args in
     let f = c .before .before .before .before .before .before .table-file in
     let o = c .before .before .before .table-offset in
-    (c .is-misplaced2 .ensures, (past (a .g) (view (a .img .now)) (a .e .0) (a .m) (a .seen .now) (s .pre .1 .1 .1) (f .result) (f .ensures .0) (o .result) (o .ensures .0) (a .starts .now) (s .pre .1 .1 .0) (c .before .before .before .before .before .if1 .left) (omega arith), omega arith))
+    let l = c .before .before .before .before .before .if1 .left in (
+      c .is-misplaced2 .ensures,
+      (past (a .g) (view (a .img .now)) (a .e .0) (a .m) (a .seen .now) (s .pre .1 .1 .1) (f .result) (f .ensures .0) (o .result) (o .ensures .0) (a .starts .now) (s .pre .1 .1 .0) l (omega arith), omega arith),
+    )
 
 slice-read-if3 : tie.Need-slice-read-if3
 slice-read-if3 c =
@@ -94,9 +95,8 @@ returns-3 c =
     let d = view (a .img .now) in
     let f = c .before .before .before .before .before .before .before .before .table-file in
     let o = c .before .before .before .before .before .table-offset in
-    let l = c .before .before .before .before .before .before .before .if1 .left in
-    let i = inside (a .g) d (a .e .0) (a .m) (a .seen .now) (s .pre .1 .1 .1) (f .result) (f .ensures .0) (o .result) (o .ensures .0) (a .starts .now) (s .pre .1 .1 .0) l (omega arith) in (
-      rw (s .pre .1 .0 .0) (needed-fault d (a .g) (s .pre .0 .is) (a .e .0) (f .result) (s .pre .1 .0 .1) (f .ensures .0) (omega (arith, s .pre .1 .1 .0 .files)) (omega (arith, s .pre .0 .bounded .files-high)) (omega (arith, i))),
+    let l = c .before .before .before .before .before .before .before .if1 .left in (
+      fault-met d (a .g) (s .pre .0 .is) (a .e .0) (f .result) (a .m) (o .result) (a .u) (a .starts .now) (s .pre .1 .0 .1) (f .ensures .0) (omega arith) (s .pre .1 .0 .0) (s .pre .1 .1 .0) l (omega arith),
       (again (a .g) d (a .e .0) (a .m) (a .seen .now) (s .pre .1 .1 .1) (f .result) (f .ensures .0) (o .result) (o .ensures .0) (a .starts .now) (s .pre .1 .1 .0) l (omega arith) (omega arith), omega arith),
     )
 
@@ -119,9 +119,8 @@ returns-4 c =
     let d = view (a .img .now) in
     let f = c .before .before .before .before .before .before .before .before .table-file in
     let o = c .before .before .before .before .before .table-offset in
-    let l = c .before .before .before .before .before .before .before .if1 .left in
-    let i = inside (a .g) d (a .e .0) (a .m) (a .seen .now) (s .pre .1 .1 .1) (f .result) (f .ensures .0) (o .result) (o .ensures .0) (a .starts .now) (s .pre .1 .1 .0) l (omega arith) in (
-      rw (s .pre .1 .0 .0) (needed-fault d (a .g) (s .pre .0 .is) (a .e .0) (f .result) (s .pre .1 .0 .1) (f .ensures .0) (omega (arith, s .pre .1 .1 .0 .files)) (omega (arith, s .pre .0 .bounded .files-high)) (omega (arith, i))),
+    let l = c .before .before .before .before .before .before .before .if1 .left in (
+      fault-met d (a .g) (s .pre .0 .is) (a .e .0) (f .result) (a .m) (o .result) (a .u) (a .starts .now) (s .pre .1 .0 .1) (f .ensures .0) (omega arith) (s .pre .1 .0 .0) (s .pre .1 .1 .0) l (omega arith),
       (new (a .g) d (a .e .0) (a .m) (a .seen .now) (s .pre .1 .1 .1) (f .result) (f .ensures .0) (o .result) (o .ensures .0) (a .starts .now) (s .pre .1 .1 .0) l (omega arith) (c .before .if3 .left), omega arith),
     )
 

@@ -1,3 +1,4 @@
+-- `duplicates::first_with` meets its contract. The measure is how many entries there is no room for.
 use borrow.Author.Needs.{needs}
 use native.Mathlib.Omega.{arith}
 use Prim.Native.Nat.{ℕ, _-_, _<_}
@@ -22,7 +23,6 @@ abbrev first-with-below : ℕ → In 1 first-with-kinds.ps
 first-with-below t =
     and 1 first-with-kinds.ps (falls 1 first-with-kinds.ps _<_ μ-first-with t) first-with.Pre
 
--- src/lib.rt:218:13
 first-with-first-of-few-requires : (t : ℕ) → first-with-lts.Need-first-of-few-requires (
   first-of-few-reads.Asked,
   first-of-few-reads.Learnt,
@@ -33,7 +33,6 @@ first-with-first-of-few-requires : (t : ℕ) → first-with-lts.Need-first-of-fe
 ) (first-with-at t) first-with.Post
 first-with-first-of-few-requires t c κs = search needs
 
--- src/lib.rt:218:13
 first-with-returns : (t : ℕ) → first-with-lts.Need-returns (
   first-of-few-reads.Asked,
   first-of-few-reads.Learnt,
@@ -44,7 +43,6 @@ first-with-returns : (t : ℕ) → first-with-lts.Need-returns (
 ) (first-with-at t) first-with.Post
 first-with-returns t c = search needs
 
--- src/lib.rt:220:9
 first-with-first-of-many-requires : (t : ℕ) → first-with-lts.Need-first-of-many-requires (
   first-of-few-reads.Asked,
   first-of-few-reads.Learnt,
@@ -55,7 +53,6 @@ first-with-first-of-many-requires : (t : ℕ) → first-with-lts.Need-first-of-m
 ) (first-with-at t) first-with.Post
 first-with-first-of-many-requires t c κs = search needs
 
--- src/lib.rt:220:9
 first-with-returns-2 : (t : ℕ) → first-with-lts.Need-returns-2 (
   first-of-few-reads.Asked,
   first-of-few-reads.Learnt,
@@ -66,7 +63,6 @@ first-with-returns-2 : (t : ℕ) → first-with-lts.Need-returns-2 (
 ) (first-with-at t) first-with.Post
 first-with-returns-2 t c = search needs
 
--- src/lib.rt:222:29
 first-with-mul-first-with : (t : ℕ) → first-with-lts.Need-mul-first-with (
   first-of-few-reads.Asked,
   first-of-few-reads.Learnt,
@@ -77,7 +73,6 @@ first-with-mul-first-with : (t : ℕ) → first-with-lts.Need-mul-first-with (
 ) (first-with-at t) first-with.Post
 first-with-mul-first-with t c = search needs
 
--- src/lib.rt:222:5
 first-with-first-with-requires : (t : ℕ) → first-with-lts.Need-first-with-requires (
   first-of-few-reads.Asked,
   first-of-few-reads.Learnt,
@@ -90,7 +85,6 @@ first-with-first-with-requires t c κs =
     let p = c .before .before .before .pre .1 in
     (omega arith, (p .0, (p .1 .0, omega arith)))
 
--- src/lib.rt:210:1
 first-with-returns-3 : (t : ℕ) → first-with-lts.Need-returns-3 (
   first-of-few-reads.Asked,
   first-of-few-reads.Learnt,

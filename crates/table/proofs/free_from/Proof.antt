@@ -13,10 +13,6 @@ use Rattle.laws.proofs.Search.{scan-here, scan-next, scan-end}
 use borrow.Author.Needs.{needs}
 use Rattle.table.proofs.free_from.Statement.{statement}
 use Rattle.table.proofs.free_from.Tie as tie
-use Rattle.table.proofs.free_from.Reads as reads
-use Rattle.table.proofs.free_from.Lts as lts
-use Rattle.model.proofs.Geometry.usable.Reads as usable-reads
-use Rattle.table.proofs.is_free.Reads as is-free-reads
 
 abbrev hit : List ℕ → Geometry → ℕ → Bool
 hit img g e = eqb (tableFile g (view img) e) freeFile
@@ -27,19 +23,15 @@ Inv-loop img g from n e₀ e = (e ≤ n) × (scan (hit img g) (n - e) e ≡ scan
 abbrev μ-loop : tie.MeasureT-loop
 μ-loop img g from n e₀ e = n - e
 
--- src/lib.rt:86:9
 usable-requires : tie.Need-usable-requires Inv-loop μ-loop
 usable-requires c κs = search needs
 
--- src/lib.rt:88:5
 loop-holds : tie.Need-loop-holds Inv-loop μ-loop
 loop-holds c = (omega arith, refl)
 
--- src/lib.rt:89:12
 is-free-requires : tie.Need-is-free-requires Inv-loop μ-loop
 is-free-requires c κs = search needs
 
--- src/lib.rt:90:13
 returns : tie.Need-returns Inv-loop μ-loop
 returns c =
     let b = c .before .before .before in
@@ -47,22 +39,18 @@ returns c =
     rw (← b .before .usable .ensures)
     (sym (scan-here (hit (a .img .now) (a .g)) (b .before .usable .result) (b .loop .e) (omega arith) (sym (c .before .is-free .ensures) ∙ c .if1 .taken)) ∙ b .loop .inv .1)
 
--- src/lib.rt:92:9
 add-e : tie.Need-add-e Inv-loop μ-loop
 add-e c = search needs
 
--- src/lib.rt:88:5
 loop-less : tie.Need-loop-less Inv-loop μ-loop
 loop-less c = search needs
 
--- src/lib.rt:88:5
 loop-again : tie.Need-loop-again Inv-loop μ-loop
 loop-again c =
     let b = c .before .before .before in
     let a = b .before .before .before .args in
     (omega arith, sym (scan-next (hit (a .img .now) (a .g)) (b .before .usable .result) (b .loop .e) (omega arith) (sym (c .before .is-free .ensures) ∙ c .if1 .left)) ∙ b .loop .inv .1)
 
--- src/lib.rt:81:1
 returns-2 : tie.Need-returns-2 Inv-loop μ-loop
 returns-2 c =
     let b = c .before in

@@ -1,3 +1,4 @@
+-- `table::holds_free` meets its contract. The loop's invariant: whether one of the entries passed is free.
 use Prim.Native.Nat.{ℕ, _+_, _-_, _≤_}
 use mathlib.Core.Path.{_≡_, refl, sym, ap₂, _∙_}
 use mathlib.Core.Bool.{Bool, _||_}
@@ -10,10 +11,6 @@ use Rattle.laws.proofs.Search.{some-more}
 use borrow.Author.Needs.{needs}
 use Rattle.table.proofs.holds_free.Statement.{statement}
 use Rattle.table.proofs.holds_free.Tie as tie
-use Rattle.table.proofs.holds_free.Reads as reads
-use Rattle.table.proofs.holds_free.Lts as lts
-use Rattle.table.proofs.either.Reads as either-reads
-use Rattle.table.proofs.is_free.Reads as is-free-reads
 
 abbrev Inv-loop : tie.InvT-loop
 Inv-loop img g e found₀ k₀ found k = (k ≤ 128) × (found ≡ some (λ j. eqb (tableFile g (view img) (e + j)) freeFile) k)
@@ -21,39 +18,31 @@ Inv-loop img g e found₀ k₀ found k = (k ≤ 128) × (found ≡ some (λ j. e
 abbrev μ-loop : tie.MeasureT-loop
 μ-loop img g e found₀ k₀ found k = 128 - k
 
--- src/lib.rt:73:5
 loop-holds : tie.Need-loop-holds Inv-loop μ-loop
 unfolding some
 loop-holds c = (omega arith, refl)
 
--- src/lib.rt:74:47
 add-t7 : tie.Need-add-t7 Inv-loop μ-loop
 add-t7 c = search needs
 
--- src/lib.rt:74:24
 is-free-requires : tie.Need-is-free-requires Inv-loop μ-loop
 is-free-requires c κs = search needs
 
--- src/lib.rt:74:9
 either-requires : tie.Need-either-requires Inv-loop μ-loop
 either-requires c κs = search needs
 
--- src/lib.rt:75:9
 add-k : tie.Need-add-k Inv-loop μ-loop
 add-k c = search needs
 
--- src/lib.rt:73:5
 loop-less : tie.Need-loop-less Inv-loop μ-loop
 loop-less c = search needs
 
--- src/lib.rt:73:5
 loop-again : tie.Need-loop-again Inv-loop μ-loop
 loop-again c =
     let l = c .before .before .before .loop in
     let a = c .before .before .before .before .before .args in
     (omega arith, c .either .ensures ∙ ap₂ (λ (x y : Bool). x || y) (c .before .is-free .ensures) (l .inv .1) ∙ sym (some-more (λ j. eqb (tableFile (a .g) (view (a .img .now)) (a .e + j)) freeFile) (l .k)))
 
--- src/lib.rt:66:1
 returns : tie.Need-returns Inv-loop μ-loop
 returns c =
     let l = c .before .loop in

@@ -298,3 +298,41 @@ put-put l at a b e =
     go i h false q =
         let r : (leb at i && ltb i (at + length a)) ≡ false = rw e q in
         getD-put l at a i h ∙ ap (λ (t : Bool). cond t (getD a (i - at) 0) (getD l i 0)) r
+
+-- a store into a run that is stored
+pub put-in : (l : List ℕ) (at : ℕ) (a : List ℕ) (o : ℕ) (b : List ℕ) → o + length b ≤ length a → put (put l at a) (at + o) b ≡ put l at (put a o b)
+put-in l at a o b h =
+    ext-getD 0 (put (put l at a) (at + o) b) (put l at (put a o b))
+    (length-put (put l at a) (at + o) b ∙ length-put l at a ∙ sym (length-put l at (put a o b)))
+    (λ i k.
+    let r : i < length l = omega (arith, length-put (put l at a) (at + o) b, length-put l at a) in
+    let q : i < length (put l at a) = omega (arith, length-put l at a) in
+    getD-put (put l at a) (at + o) b i q ∙ go i r (leb (at + o) i && ltb i (at + o + length b)) refl)
+  where
+    within : (i : ℕ) → at ≤ i → i < at + length a → i < length l → getD (put l at (put a o b)) i 0 ≡ getD (put a o b) (i - at) 0
+    within i x y r =
+        let e : at + (i - at) ≡ i = omega arith in
+        let n : length (put a o b) ≡ length a = length-put a o b in
+        ap (λ k. getD (put l at (put a o b)) k 0) (sym e) ∙ getD-put-same l at (put a o b) (i - at) (omega arith) (omega arith)
+
+    old : (i : ℕ) → i < length l → (at + o ≤ i → i < at + o + length b → ⊥) → (t : Bool) → (leb at i && ltb i (at + length a)) ≡ t
+        → cond t (getD a (i - at) 0) (getD l i 0) ≡ getD (put l at (put a o b)) i 0
+    old i r out true e =
+        let x : at ≤ i = leb-true at i (and-left _ _ e) in
+        let y : i < at + length a = ltb-true i _ (and-right (leb at i) _ e) in
+        sym (within i x y r ∙ getD-put-other a o b (i - at) (λ p q. out (omega arith) (omega arith)))
+    old i r out false e =
+        sym (getD-put-other l at (put a o b) i (λ p q. true≢false (sym (range-yes at (at + length a) i p (omega (arith, length-put a o b))) ∙ e)))
+
+    go : (i : ℕ) → i < length l → (t : Bool) → (leb (at + o) i && ltb i (at + o + length b)) ≡ t
+        → cond t (getD b (i - (at + o)) 0) (getD (put l at a) i 0) ≡ getD (put l at (put a o b)) i 0
+    go i r true e =
+        let x : at + o ≤ i = leb-true (at + o) i (and-left _ _ e) in
+        let y : i < at + o + length b = ltb-true i _ (and-right (leb (at + o) i) _ e) in
+        let f : i - at ≡ o + (i - (at + o)) = omega arith in
+        sym
+        (within i (omega arith) (omega arith) r ∙ ap (λ k. getD (put a o b) k 0) f
+        ∙ getD-put-same a o b (i - (at + o)) (omega arith) (omega arith))
+    go i r false e =
+        getD-put l at a i r
+        ∙ old i r (λ p q. true≢false (sym (range-yes (at + o) (at + o + length b) i p q) ∙ e)) (leb at i && ltb i (at + length a)) refl

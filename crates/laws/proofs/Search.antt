@@ -236,3 +236,15 @@ pub flat-ext {ℓ} : {A : Type ℓ} (f g : ℕ → List A) (a n : ℕ) → ((t :
 unfolding flat
 flat-ext f g a zero h = refl
 flat-ext f g a (suc n) h = ap₂ (λ x y. x ++ y) (flat-ext f g a n (λ t p q. h t p (omega arith))) (h (a + n) (omega arith) (omega arith))
+
+-- a stretch that gives nothing
+pub flat-over {ℓ} : {A : Type ℓ} (f : ℕ → List A) (t u : ℕ) → t ≤ u → ((s : ℕ) → t ≤ s → s < u → f s ≡ []) → flat f 0 u ≡ flat f 0 t
+unfolding flat
+flat-over f t zero h e = let z : t ≡ 0 = omega arith in rw z
+flat-over f t (suc u) h e =
+    ⊎-elim (λ (q : t ≡ suc u). rw q)
+    (λ (l : t < suc u).
+    let z : 0 + u ≡ u = omega arith in
+    ap (λ x. flat f 0 u ++ f x) z ∙ ap (λ x. flat f 0 u ++ x) (e u (omega arith) (omega arith)) ∙ append-nil (flat f 0 u)
+    ∙ flat-over f t u (omega arith) (λ s p q. e s p (omega arith)))
+    (eq-or-lt-of-le h)

@@ -35,8 +35,12 @@ barrierNumber = 2 ^ 64 - 1
 unfoldable pub barrier : Record
 barrier = sectorWrite barrierNumber zeroSector
 
+-- a record's bytes, and where in them its contents start
 abbrev pub recordSize : ℕ
 recordSize = 520
+
+abbrev pub contentsStart : ℕ
+contentsStart = 8
 
 unfoldable pub recordBytes : Record → List ℕ
 recordBytes r = beBytes 8 (r .sector) ++ run (r .contents) 0 512

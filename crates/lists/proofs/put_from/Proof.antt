@@ -13,11 +13,11 @@ mul-at c = search needs
 put-be-requires : tie.Need-put-be-requires
 put-be-requires c κs = search needs
 
-add-copy-run : tie.Need-add-copy-run
-add-copy-run c = search needs
+add-copy-sector : tie.Need-add-copy-sector
+add-copy-sector c = search needs
 
-copy-run-requires : tie.Need-copy-run-requires
-copy-run-requires c κs = search needs
+copy-sector-requires : tie.Need-copy-sector-requires
+copy-sector-requires c κs = search needs
 
 add-result : tie.Need-add-result
 add-result c = search needs
@@ -33,4 +33,11 @@ returns c =
 pub put-from-spec : {M : Type 1} → statement M
 put-from-spec =
     tie.close
-    (tie.spec mul-at put-be-requires add-copy-run copy-run-requires add-result same-length returns)
+    (tie.spec
+    mul-at
+    put-be-requires
+    add-copy-sector
+    copy-sector-requires
+    add-result
+    same-length
+    returns)

@@ -1,20 +1,57 @@
--- `lists::put_superblock` meets its contract. The group is the superblock with the new journal length.
+-- `lists::put_superblock` meets its contract. The journal length is stored into the contents of the record.
+use mathlib.Core.Path.{_∙_}
+use native.Mathlib.Omega.{arith}
+use Rattle.model.specs.Bytes.{beBytes, run}
+use Rattle.model.specs.Disk.{view}
+use Rattle.model.specs.Superblock.{withJournalLength}
+use Rattle.laws.proofs.Bytes.{length-run, length-beBytes}
+use Rattle.laws.proofs.WriteList.{emit-patched, emitted-then}
 use borrow.Author.Needs.{needs}
 use Rattle.lists.proofs.put_superblock.Statement.{statement}
 use Rattle.lists.proofs.put_superblock.Tie as tie
 
-with-journal-length-requires : tie.Need-with-journal-length-requires
-with-journal-length-requires c κs = search needs
+put-from-requires : tie.Need-put-from-requires
+put-from-requires c κs = search needs
 
-put-closed-requires : tie.Need-put-closed-requires
-put-closed-requires c κs = search needs
+mul-put-be : tie.Need-mul-put-be
+mul-put-be c = search needs
+
+add-put-be : tie.Need-add-put-be
+add-put-be c = search needs
+
+add-put-be-2 : tie.Need-add-put-be-2
+add-put-be-2 c = search needs
+
+put-be-requires : tie.Need-put-be-requires
+put-be-requires c κs = search needs
+
+put-barrier-requires : tie.Need-put-barrier-requires
+put-barrier-requires c κs = search needs
 
 same-length : tie.Need-same-length
 same-length c = search needs
 
 returns : tie.Need-returns
-returns c = rw (← c .before .before .before .before .with-journal-length .ensures) (c .before .before .put-closed .ensures)
+unfolding view withJournalLength
+returns c =
+    let a = c .before .before .before .before .before .before .before .before .before .before .before .before .before .before .args in
+    let copied = c .before .before .before .before .before .before .before .before .before .before .put-from .ensures in
+    let patched = rw (copied .holds) at (c .before .before .before .before .before .before .put-be .ensures) in
+    let new =
+    patched
+    ∙ emit-patched (a .list .now) (a .k) 0 (run (a .img .now) 0 512) 18 (beBytes 2 (a .n)) (length-run (a .img .now) 0 512)
+    (omega (arith, length-beBytes 2 (a .n))) in
+    emitted-then (record { holds = new; next = copied .next }) (c .before .before .put-barrier .ensures)
 
 pub put-superblock-spec : {M : Type 1} → statement M
 put-superblock-spec =
-    tie.close (tie.spec with-journal-length-requires put-closed-requires same-length returns)
+    tie.close
+    (tie.spec
+    put-from-requires
+    mul-put-be
+    add-put-be
+    add-put-be-2
+    put-be-requires
+    put-barrier-requires
+    same-length
+    returns)

@@ -95,6 +95,9 @@ offset-split g b offset =
 pub offset-within : (g : Geometry) → Bounded g → (offset : ℕ) → offset % extentBytes g < extentBytes g
 offset-within g b offset = mod-lt offset (omega (arith, b .extent-low))
 
+pub sector-within : (g : Geometry) → Bounded g → (s : ℕ) → s % extentSectors g < extentSectors g
+sector-within g b s = mod-lt s (omega (arith, b .extent-low))
+
 -- ---- the piece of a span that lies in one extent x, which starts at sector start
 
 module _ (img : List ℕ) (g : Geometry) (h : Opened img g) (i offset x start : ℕ)

@@ -15,7 +15,7 @@ ghost use Rattle.model.specs.Search.{tab};
 ghost use Rattle.model.specs.Disk.{view};
 ghost use Rattle.model.specs.Table.{freeFile};
 ghost use Rattle.model.specs.Catalogue.{catalogueOf, fileBytes, extentOf};
-ghost use Rattle.model.specs.WriteList.{sectorWrite, Emitted};
+ghost use Rattle.model.specs.WriteList.{sectorWrite, recordSize, Emitted};
 ghost use Rattle.model.specs.Write.{spliced, dataSector};
 ghost use Rattle.model.specs.Opened.{Opened};
 ghost use Rattle.spans.specs.Touched.{Touched, Lent};
@@ -98,7 +98,7 @@ fn put_data_sector(
     bytes: &[u8],
     s: u64,
 ) -> usize
-    requires { ⌜ (k + 1) * 520 ≤ length (now list) ⌝ }
+    requires { ⌜ (k + 1) * recordSize ≤ length (now list) ⌝ }
     requires { ⌜ 512 * place .0 + 512 ≤ length (now img) ⌝ }
     requires { ⌜ Touched offset (length (now bytes)) s 1 ⌝ }
     ensures { λ r. ⌜ Emitted (now (list .entry)) k (sectorWrite (place .0) (spliced offset (now (bytes .entry)) s (view (now (img .entry)) (place .0))) ∷ []) (now (list .exit)) r ⌝ }
@@ -131,7 +131,7 @@ fn put_piece(
     s: u64,
     n: u64,
 ) -> usize
-    requires { ⌜ (k + n) * 520 ≤ length (now list) ⌝ }
+    requires { ⌜ (k + n) * recordSize ≤ length (now list) ⌝ }
     requires { ⌜ 512 * (start .0 + n) ≤ length (now img) ⌝ }
     requires { ⌜ Touched offset (length (now bytes)) s n ⌝ }
     ensures { λ r. ⌜ r ≡ k + n ⌝ }
@@ -158,6 +158,36 @@ fn extent_for(img: &[u8], g: Geometry, i: FileIndex, held: u64, next: Extent, o:
     next
 }
 
+// Those of the n data sectors of the span from file sector s on that lie in one extent, in file order; the answer is how many.
+fn put_in_extent(
+    list: &mut [u8],
+    k: usize,
+    img: &[u8],
+    g: Geometry,
+    i: FileIndex,
+    held: u64,
+    next: Extent,
+    offset: u64,
+    bytes: &[u8],
+    s: u64,
+    n: u64,
+) -> u64
+    requires { ⌜ Opened (now img) g ⌝ }
+    requires { ⌜ Lent (now img) (i .0) held (next .0) ⌝ }
+    requires { ⌜ (k + n) * recordSize ≤ length (now list) ⌝ }
+    requires { ⌜ Touched offset (length (now bytes)) s n ⌝ }
+    requires { ⌜ 0 < n ⌝ }
+    ensures { λ r. ⌜ (0 < r) × (r ≤ n) ⌝ }
+    ensures { λ r. ⌜ Emitted (now (list .entry)) k (tab (dataSector (catalogueOf (view (now (img .entry)))) (i .0) (view (now (img .entry))) offset (now (bytes .entry))) s r) (now (list .exit)) (k + r) ⌝ }
+{
+    let size = g.extent_sectors as u64;
+    let within = s % size;
+    let m = least(size - within, n);
+    let start = g.extent_at(extent_for(img, g, i, held, next, s / size));
+    put_piece(list, k, img, Sector(start.0 + within), offset, bytes, s, m);
+    m
+}
+
 // The n data sectors of the span from file sector s on, in file order.
 pub fn put_data(
     list: &mut [u8],
@@ -174,7 +204,7 @@ pub fn put_data(
 ) -> usize
     requires { ⌜ Opened (now img) g ⌝ }
     requires { ⌜ Lent (now img) (i .0) held (next .0) ⌝ }
-    requires { ⌜ (k + n) * 520 ≤ length (now list) ⌝ }
+    requires { ⌜ (k + n) * recordSize ≤ length (now list) ⌝ }
     requires { ⌜ Touched offset (length (now bytes)) s n ⌝ }
     ensures { λ r. ⌜ r ≡ k + n ⌝ }
     ensures { λ r. ⌜ Emitted (now (list .entry)) k (tab (dataSector (catalogueOf (view (now (img .entry)))) (i .0) (view (now (img .entry))) offset (now (bytes .entry))) s n) (now (list .exit)) r ⌝ }
@@ -182,10 +212,18 @@ pub fn put_data(
     if n == 0 {
         return k;
     }
-    let size = g.extent_sectors as u64;
-    let within = s % size;
-    let m = least(size - within, n);
-    let start = g.extent_at(extent_for(img, g, i, held, next, s / size));
-    let j = put_piece(list, k, img, Sector(start.0 + within), offset, bytes, s, m);
-    put_data(list, j, img, g, i, held, next, offset, bytes, s + m, n - m)
+    let m = put_in_extent(list, k, img, g, i, held, next, offset, bytes, s, n);
+    put_data(
+        list,
+        k + m as usize,
+        img,
+        g,
+        i,
+        held,
+        next,
+        offset,
+        bytes,
+        s + m,
+        n - m,
+    )
 }

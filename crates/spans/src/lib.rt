@@ -10,7 +10,7 @@ ghost use mathlib.Core.List.{[], _∷_};
 ghost use Prim.Native.Nat.{_+_, _*_, _-_, _≤_, _<_, _^_, min, max};
 ghost use lib.Dec.{ltb};
 ghost use lib.ListN.{length};
-ghost use Rattle.model.specs.Bytes.{put};
+ghost use Rattle.model.specs.Bytes.{run, put};
 ghost use Rattle.model.specs.Search.{tab};
 ghost use Rattle.model.specs.Disk.{view};
 ghost use Rattle.model.specs.Table.{freeFile};
@@ -18,7 +18,7 @@ ghost use Rattle.model.specs.Catalogue.{catalogueOf, fileBytes, extentOf};
 ghost use Rattle.model.specs.WriteList.{sectorWrite, recordSize, Emitted};
 ghost use Rattle.model.specs.Write.{spliced, dataSector};
 ghost use Rattle.model.specs.Opened.{Opened};
-ghost use Rattle.spans.specs.Touched.{Touched, Lent};
+ghost use Rattle.spans.specs.Touched.{Touched, Lent, Source, spanOf};
 
 fn least(a: u64, b: u64) -> u64
     ensures { λ r. ⌜ r ≡ min a b ⌝ }
@@ -88,6 +88,19 @@ pub fn read_span(
 
 // ---- writing
 
+// Where n bytes of the span from its byte `at` on stand in what is lent for it.
+fn place_in(bytes: &[u8], len: u64, at: u64, n: u64) -> usize
+    requires { ⌜ Source (now bytes) len ⌝ }
+    requires { ⌜ (at + n ≤ len) × (n ≤ 512) ⌝ }
+    ensures { λ r. ⌜ r + n ≤ length (now (bytes .entry)) ⌝ }
+    ensures { λ r. ⌜ run (now (bytes .entry)) r n ≡ run (spanOf (now (bytes .entry)) len) at n ⌝ }
+{
+    if bytes.len() as u64 == len {
+        return at as usize;
+    }
+    0
+}
+
 // File sector s of the span, which stands at `place`: what the span doesn't cover keeps its old bytes.
 fn put_data_sector(
     list: &mut [u8],
@@ -96,23 +109,26 @@ fn put_data_sector(
     place: Sector,
     offset: u64,
     bytes: &[u8],
+    len: u64,
     s: u64,
 ) -> usize
     requires { ⌜ (k + 1) * recordSize ≤ length (now list) ⌝ }
     requires { ⌜ 512 * place .0 + 512 ≤ length (now img) ⌝ }
-    requires { ⌜ Touched offset (length (now bytes)) s 1 ⌝ }
-    ensures { λ r. ⌜ Emitted (now (list .entry)) k (sectorWrite (place .0) (spliced offset (now (bytes .entry)) s (view (now (img .entry)) (place .0))) ∷ []) (now (list .exit)) r ⌝ }
+    requires { ⌜ Touched offset len s 1 ⌝ }
+    requires { ⌜ Source (now bytes) len ⌝ }
+    ensures { λ r. ⌜ Emitted (now (list .entry)) k (sectorWrite (place .0) (spliced offset (spanOf (now (bytes .entry)) len) s (view (now (img .entry)) (place .0))) ∷ []) (now (list .exit)) r ⌝ }
 {
     let base = 512 * s;
     let from = most(offset, base);
-    let to = least(offset + bytes.len() as u64, base + 512);
+    let to = least(offset + len, base + 512);
+    let at = place_in(bytes, len, from - offset, to - from);
     if to - from == 512 {
-        return lists::put_from(list, k, place, bytes, (from - offset) as usize);
+        return lists::put_from(list, k, place, bytes, at);
     }
     let mut a = fields::sector(img, place);
     fields::copy_run(
         bytes,
-        (from - offset) as usize,
+        at,
         &mut a,
         (from - base) as usize,
         (to - from) as usize,
@@ -128,19 +144,30 @@ fn put_piece(
     start: Sector,
     offset: u64,
     bytes: &[u8],
+    len: u64,
     s: u64,
     n: u64,
 ) -> usize
     requires { ⌜ (k + n) * recordSize ≤ length (now list) ⌝ }
     requires { ⌜ 512 * (start .0 + n) ≤ length (now img) ⌝ }
-    requires { ⌜ Touched offset (length (now bytes)) s n ⌝ }
+    requires { ⌜ Touched offset len s n ⌝ }
+    requires { ⌜ Source (now bytes) len ⌝ }
     ensures { λ r. ⌜ r ≡ k + n ⌝ }
-    ensures { λ r. ⌜ Emitted (now (list .entry)) k (tab (λ x. sectorWrite (start .0 + (x - s)) (spliced offset (now (bytes .entry)) x (view (now (img .entry)) (start .0 + (x - s))))) s n) (now (list .exit)) r ⌝ }
+    ensures { λ r. ⌜ Emitted (now (list .entry)) k (tab (λ x. sectorWrite (start .0 + (x - s)) (spliced offset (spanOf (now (bytes .entry)) len) x (view (now (img .entry)) (start .0 + (x - s))))) s n) (now (list .exit)) r ⌝ }
 {
     let mut at = k;
     let mut j: u64 = 0;
     while j < n {
-        at = put_data_sector(list, at, img, Sector(start.0 + j), offset, bytes, s + j);
+        at = put_data_sector(
+            list,
+            at,
+            img,
+            Sector(start.0 + j),
+            offset,
+            bytes,
+            len,
+            s + j,
+        );
         j += 1;
     }
     at
@@ -169,22 +196,34 @@ fn put_in_extent(
     next: Extent,
     offset: u64,
     bytes: &[u8],
+    len: u64,
     s: u64,
     n: u64,
 ) -> u64
     requires { ⌜ Opened (now img) g ⌝ }
     requires { ⌜ Lent (now img) (i .0) held (next .0) ⌝ }
     requires { ⌜ (k + n) * recordSize ≤ length (now list) ⌝ }
-    requires { ⌜ Touched offset (length (now bytes)) s n ⌝ }
+    requires { ⌜ Touched offset len s n ⌝ }
+    requires { ⌜ Source (now bytes) len ⌝ }
     requires { ⌜ 0 < n ⌝ }
     ensures { λ r. ⌜ (0 < r) × (r ≤ n) ⌝ }
-    ensures { λ r. ⌜ Emitted (now (list .entry)) k (tab (dataSector (catalogueOf (view (now (img .entry)))) (i .0) (view (now (img .entry))) offset (now (bytes .entry))) s r) (now (list .exit)) (k + r) ⌝ }
+    ensures { λ r. ⌜ Emitted (now (list .entry)) k (tab (dataSector (catalogueOf (view (now (img .entry)))) (i .0) (view (now (img .entry))) offset (spanOf (now (bytes .entry)) len)) s r) (now (list .exit)) (k + r) ⌝ }
 {
     let size = g.extent_sectors as u64;
     let within = s % size;
     let m = least(size - within, n);
     let start = g.extent_at(extent_for(img, g, i, held, next, s / size));
-    put_piece(list, k, img, Sector(start.0 + within), offset, bytes, s, m);
+    put_piece(
+        list,
+        k,
+        img,
+        Sector(start.0 + within),
+        offset,
+        bytes,
+        len,
+        s,
+        m,
+    );
     m
 }
 
@@ -199,20 +238,22 @@ pub fn put_data(
     next: Extent,
     offset: u64,
     bytes: &[u8],
+    len: u64,
     s: u64,
     n: u64,
 ) -> usize
     requires { ⌜ Opened (now img) g ⌝ }
     requires { ⌜ Lent (now img) (i .0) held (next .0) ⌝ }
     requires { ⌜ (k + n) * recordSize ≤ length (now list) ⌝ }
-    requires { ⌜ Touched offset (length (now bytes)) s n ⌝ }
+    requires { ⌜ Touched offset len s n ⌝ }
+    requires { ⌜ Source (now bytes) len ⌝ }
     ensures { λ r. ⌜ r ≡ k + n ⌝ }
-    ensures { λ r. ⌜ Emitted (now (list .entry)) k (tab (dataSector (catalogueOf (view (now (img .entry)))) (i .0) (view (now (img .entry))) offset (now (bytes .entry))) s n) (now (list .exit)) r ⌝ }
+    ensures { λ r. ⌜ Emitted (now (list .entry)) k (tab (dataSector (catalogueOf (view (now (img .entry)))) (i .0) (view (now (img .entry))) offset (spanOf (now (bytes .entry)) len)) s n) (now (list .exit)) r ⌝ }
 {
     if n == 0 {
         return k;
     }
-    let m = put_in_extent(list, k, img, g, i, held, next, offset, bytes, s, n);
+    let m = put_in_extent(list, k, img, g, i, held, next, offset, bytes, len, s, n);
     put_data(
         list,
         k + m as usize,
@@ -223,6 +264,7 @@ pub fn put_data(
         next,
         offset,
         bytes,
+        len,
         s + m,
         n - m,
     )

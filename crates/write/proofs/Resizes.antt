@@ -33,30 +33,6 @@ use Rattle.write.specs.FileWrite.{Asked, fileConditions, fileDecision}
 use Rattle.write.specs.FileResize.{sizeConditions, sizeDecision, shrinkDecision}
 use Rattle.write.proofs.Laws.{decided-same, refusedBy, own-refusal}
 
--- the front of an array of m zeros
-module _ (m n : ℕ) (h : n ≤ m) where
-  abbrev array : List ℕ
-  array = replicate m 0
-
-  pub zeros-length : length (take n array) ≡ n
-  zeros-length = length-take-le n array (rw length-replicate h)
-
-  pub zeros-part : take n array ≡ zeros n
-  zeros-part =
-      sym (run-all (take n array) n zeros-length)
-      ∙ run-ext (take n array) [] 0 0 n
-      (λ i k. getD-take n array (0 + i) 0 (let q : 0 + i < n = omega arith in q) ∙ getD-replicate m (0 + i) 0 0 (let q : 0 + i < m = omega arith in q))
-
--- bytes that are n zeros
-module _ (img bytes : List ℕ) (n i size : ℕ) (e : bytes ≡ zeros n) where
-  pub zeros-asked : (g : Geometry) → Asked img g i size n → Asked img g i size (length bytes)
-  zeros-asked g a = rw (e, length-run) a
-
-  pub zeros-decided : (list : List ℕ) (time : ℕ) {answer : Changed} {after : List ℕ}
-      → ComesTo (view img) (fileDecision (length img) (view img) i size bytes time (length list)) list answer after
-      → ComesTo (view img) (fileDecision (length img) (view img) i size (zeros n) time (length list)) list answer after
-  zeros-decided list time r = rw e at r
-
 -- a smaller size needs no more extents
 extents-less : (g : Geometry) → Bounded g → (a b : ℕ) → a ≤ b → extentsFor g a ≤ extentsFor g b
 extents-less g b x y h =

@@ -18,6 +18,7 @@ ghost use Rattle.model.specs.WriteList.{recordSize, recordCount, groupsFor, clo
 ghost use Rattle.model.specs.Write.{touchedSectors, sizeAfter, writePlan, writeAnswer, writeList};
 ghost use Rattle.model.specs.Resize.{zeros, resizeAnswer, resizeList};
 ghost use Rattle.model.specs.Opened.{Opened};
+ghost use Rattle.spans.specs.Touched.{Source, spanOf};
 ghost use Rattle.write.specs.FileWrite.{Grown, Asked, fileDecision, roomDecision};
 ghost use Rattle.write.specs.FileResize.{shrinkDecision, sizeDecision};
 
@@ -102,18 +103,19 @@ fn put_write(
     w: Growth,
     offset: u64,
     bytes: &[u8],
+    len: u64,
     z: u64,
     time: u32,
 ) -> usize
     requires { ⌜ Opened (now img) g ⌝ }
     requires { ⌜ Grown (catalogueOf (view (now img))) (i .0) z w × (w .next .0 < g .extents) ⌝ }
-    requires { ⌜ (i .0 < g .files) × (0 < length (now bytes)) × (offset + length (now bytes) < 2 ^ 63) ⌝ }
-    requires { ⌜ z ≡ sizeAfter (catalogueOf (view (now img))) (i .0) offset (length (now bytes)) ⌝ }
-    requires { ⌜ recordCount (touchedSectors offset (length (now bytes))) (cond (w .more) 2 1) * recordSize ≤ length (now list) ⌝ }
-    ensures { λ r. ⌜ Emitted (now (list .entry)) 0 (closed (groupsFor (view (now (img .entry))) (just (writePlan (catalogueOf (view (now (img .entry)))) (i .0) (view (now (img .entry))) offset (now (bytes .entry)) time)))) (now (list .exit)) r ⌝ }
+    requires { ⌜ (i .0 < g .files) × (0 < len) × (offset + len < 2 ^ 63) × Source (now bytes) len ⌝ }
+    requires { ⌜ z ≡ sizeAfter (catalogueOf (view (now img))) (i .0) offset len ⌝ }
+    requires { ⌜ recordCount (touchedSectors offset len) (cond (w .more) 2 1) * recordSize ≤ length (now list) ⌝ }
+    ensures { λ r. ⌜ Emitted (now (list .entry)) 0 (closed (groupsFor (view (now (img .entry))) (just (writePlan (catalogueOf (view (now (img .entry)))) (i .0) (view (now (img .entry))) offset (spanOf (now (bytes .entry)) len) time)))) (now (list .exit)) r ⌝ }
 {
     let first = offset / 512;
-    let touched = (offset + bytes.len() as u64 + 511) / 512 - first;
+    let touched = (offset + len + 511) / 512 - first;
     let k = spans::put_data(
         list,
         0,
@@ -124,6 +126,7 @@ fn put_write(
         w.next,
         offset,
         bytes,
+        len,
         first,
         touched,
     );
@@ -147,28 +150,29 @@ fn put_if_room(
     w: Growth,
     offset: u64,
     bytes: &[u8],
+    len: u64,
     z: u64,
     time: u32,
 ) -> Changed
     requires { ⌜ judged (length (now img)) (view (now img)) .number ≡ 0 ⌝ }
     requires { ⌜ Opened (now img) g ⌝ }
     requires { ⌜ Grown (catalogueOf (view (now img))) (i .0) z w × (w .next .0 < g .extents) ⌝ }
-    requires { ⌜ (i .0 < g .files) × (length (now bytes) ≤ longestTransfer) × (offset + length (now bytes) < 2 ^ 63) ⌝ }
-    requires { ⌜ z ≡ sizeAfter (catalogueOf (view (now img))) (i .0) offset (length (now bytes)) ⌝ }
-    ensures { λ r. ⌜ r ≡ answerOf (view (now (img .entry))) (roomDecision (length (now (img .entry))) (view (now (img .entry))) (i .0) offset (now (bytes .entry)) time (length (now (list .entry)))) ⌝ }
-    ensures { λ _. ⌜ now (list .exit) ≡ listAfter (view (now (img .entry))) (roomDecision (length (now (img .entry))) (view (now (img .entry))) (i .0) offset (now (bytes .entry)) time (length (now (list .entry)))) (now (list .entry)) ⌝ }
+    requires { ⌜ (i .0 < g .files) × (len ≤ longestTransfer) × (offset + len < 2 ^ 63) × Source (now bytes) len ⌝ }
+    requires { ⌜ z ≡ sizeAfter (catalogueOf (view (now img))) (i .0) offset len ⌝ }
+    ensures { λ r. ⌜ r ≡ answerOf (view (now (img .entry))) (roomDecision (length (now (img .entry))) (view (now (img .entry))) (i .0) offset (spanOf (now (bytes .entry)) len) time (length (now (list .entry)))) ⌝ }
+    ensures { λ _. ⌜ now (list .exit) ≡ listAfter (view (now (img .entry))) (roomDecision (length (now (img .entry))) (view (now (img .entry))) (i .0) offset (spanOf (now (bytes .entry)) len) time (length (now (list .entry)))) (now (list .entry)) ⌝ }
 {
-    if bytes.len() == 0 {
+    if len == 0 {
         return commit::refused(volume::refusal(0));
     }
-    if list.len() < records(w.more, offset, bytes.len() as u64) * 520 {
+    if list.len() < records(w.more, offset, len) * lists::RECORD_SIZE {
         return commit::refused(volume::refusal(14));
     }
-    let n = put_write(list, img, g, i, w, offset, bytes, z, time);
+    let n = put_write(list, img, g, i, w, offset, bytes, len, z, time);
     let verdict = volume::refusal(0);
     Changed {
         verdict,
-        length: n as u64 * 520,
+        length: (n * lists::RECORD_SIZE) as u64,
     }
 }
 
@@ -180,25 +184,27 @@ fn write_file(
     size: u64,
     offset: u64,
     bytes: &[u8],
+    len: u64,
     time: u32,
     list: &mut [u8],
 ) -> Changed
-    requires { ⌜ Asked (now img) g (i .0) size (length (now bytes)) ⌝ }
-    ensures { λ r. ⌜ r ≡ answerOf (view (now (img .entry))) (fileDecision (length (now (img .entry))) (view (now (img .entry))) (i .0) offset (now (bytes .entry)) time (length (now (list .entry)))) ⌝ }
-    ensures { λ _. ⌜ now (list .exit) ≡ listAfter (view (now (img .entry))) (fileDecision (length (now (img .entry))) (view (now (img .entry))) (i .0) offset (now (bytes .entry)) time (length (now (list .entry)))) (now (list .entry)) ⌝ }
+    requires { ⌜ Asked (now img) g (i .0) size len ⌝ }
+    requires { ⌜ Source (now bytes) len ⌝ }
+    ensures { λ r. ⌜ r ≡ answerOf (view (now (img .entry))) (fileDecision (length (now (img .entry))) (view (now (img .entry))) (i .0) offset (spanOf (now (bytes .entry)) len) time (length (now (list .entry)))) ⌝ }
+    ensures { λ _. ⌜ now (list .exit) ≡ listAfter (view (now (img .entry))) (fileDecision (length (now (img .entry))) (view (now (img .entry))) (i .0) offset (spanOf (now (bytes .entry)) len) time (length (now (list .entry)))) (now (list .entry)) ⌝ }
 {
     if size < offset {
         return commit::refused(volume::refusal(12));
     }
-    let z = most(size, offset + bytes.len() as u64);
+    let z = most(size, offset + len);
     let w = need_for(img, g, i, size, z);
     if w.more {
         if w.found {
-            return put_if_room(list, img, g, i, w, offset, bytes, z, time);
+            return put_if_room(list, img, g, i, w, offset, bytes, len, z, time);
         }
         return commit::refused(volume::refusal(13));
     }
-    put_if_room(list, img, g, i, w, offset, bytes, z, time)
+    put_if_room(list, img, g, i, w, offset, bytes, len, z, time)
 }
 
 // ---- write
@@ -225,7 +231,17 @@ pub fn write_in(
     if let Place::At(i) = directory::file_named(img, g, name) {
         let index = FileIndex(i as u64);
         let size = fields::number(img, index.sector(), 2, 8);
-        return write_file(img, g, index, size, offset, bytes, time, list);
+        return write_file(
+            img,
+            g,
+            index,
+            size,
+            offset,
+            bytes,
+            bytes.len() as u64,
+            time,
+            list,
+        );
     }
     commit::refused(volume::refusal(9))
 }
@@ -240,18 +256,18 @@ fn shrink_file(img: &[u8], g: Geometry, i: FileIndex, z: u64, time: u32, list: &
     ensures { λ r. ⌜ r ≡ answerOf (view (now (img .entry))) (shrinkDecision (length (now (img .entry))) (view (now (img .entry))) (i .0) z time (length (now (list .entry)))) ⌝ }
     ensures { λ _. ⌜ now (list .exit) ≡ listAfter (view (now (img .entry))) (shrinkDecision (length (now (img .entry))) (view (now (img .entry))) (i .0) z time (length (now (list .entry)))) (now (list .entry)) ⌝ }
 {
-    if list.len() < delete::shrink_count(img, g, i, z) * 520 {
+    if list.len() < delete::shrink_count(img, g, i, z) * lists::RECORD_SIZE {
         return commit::refused(volume::refusal(14));
     }
     let n = delete::shrink(img, g, i, z, time, list);
     let verdict = volume::refusal(0);
     Changed {
         verdict,
-        length: n as u64 * 520,
+        length: (n * lists::RECORD_SIZE) as u64,
     }
 }
 
-// A write of n zeros at the end of file i, whose size is given.
+// A write of n zeros at the end of file i, whose size is given. A sector of zeros is lent for all of them.
 fn write_zeros(
     img: &[u8],
     g: Geometry,
@@ -265,8 +281,8 @@ fn write_zeros(
     ensures { λ r. ⌜ r ≡ answerOf (view (now (img .entry))) (fileDecision (length (now (img .entry))) (view (now (img .entry))) (i .0) size (zeros n) time (length (now (list .entry)))) ⌝ }
     ensures { λ _. ⌜ now (list .exit) ≡ listAfter (view (now (img .entry))) (fileDecision (length (now (img .entry))) (view (now (img .entry))) (i .0) size (zeros n) time (length (now (list .entry)))) (now (list .entry)) ⌝ }
 {
-    let zeros = [0u8; 65536];
-    write_file(img, g, i, size, size, &zeros[..n as usize], time, list)
+    let zeros = [0u8; 512];
+    write_file(img, g, i, size, size, &zeros, n, time, list)
 }
 
 // A resize of file i, whose size is given, to z: refusals 8, 13 and 14, or the list.

@@ -16,7 +16,7 @@ use Rattle.spans.proofs.+put_data.{statement}
 use Rattle.spans.proofs.+put_data.Tie.{close}
 
 abbrev μ-put-data : Measures 3 put-data-kinds.ps ℕ
-μ-put-data κs a = a .1 .1 .1 .1 .1 .1 .1 .1 .1 .1 .0
+μ-put-data κs a = a .1 .1 .1 .1 .1 .1 .1 .1 .1 .1 .1 .0
 
 abbrev put-data-at : ℕ → In 3 put-data-kinds.ps
 put-data-at t = and 3 put-data-kinds.ps (is 3 put-data-kinds.ps μ-put-data t) put-data.Pre
@@ -44,7 +44,7 @@ put-data-put-in-extent-requires : (t : ℕ) → put-data-lts.Need-put-in-extent-
 ) (put-data-at t) put-data.Post
 put-data-put-in-extent-requires t c κs =
     let p = c .before .before .before .before .before .pre .1 in
-    (p .0, (p .1 .0, (p .1 .1 .0, (p .1 .1 .1, omega arith))))
+    (p .0, (p .1 .0, (p .1 .1 .0, (p .1 .1 .1 .0, (p .1 .1 .1 .1, omega arith)))))
 
 put-data-add-put-data : (t : ℕ) → put-data-lts.Need-add-put-data (
   put-in-extent-reads.Asked,
@@ -78,8 +78,8 @@ put-data-put-data-requires : (t : ℕ) → put-data-lts.Need-put-data-requires (
 ) (put-data-at t) put-data.Post
 put-data-put-data-requires t c κs =
     let p = c .before .before .before .before .before .before .before .before .before .pre .1 in
-    let t = p .1 .1 .1 in
-    (omega arith, (p .0, (p .1 .0, (omega arith, record { small = t .small; low = omega (arith, t .low); high = omega (arith, t .high) }))))
+    let t = p .1 .1 .1 .0 in
+    (omega arith, (p .0, (p .1 .0, (omega arith, (record { small = t .small; low = omega (arith, t .low); high = omega (arith, t .high) }, p .1 .1 .1 .1)))))
 
 put-data-same-length : (t : ℕ) → put-data-lts.Need-same-length (
   put-in-extent-reads.Asked,

@@ -1,6 +1,10 @@
 -- `spans::put_data_sector` meets its contract. The span covers the sector, or is spliced into its old bytes.
+use Prim.Native.Nat.{ℕ, _+_, _*_, min}
+use mathlib.Core.Path.{sym, ap, _∙_}
 use Rattle.model.specs.Disk.{view}
 use Rattle.laws.proofs.Disk.{length-view}
+use Rattle.spans.specs.Touched.{spanOf}
+use Rattle.spans.proofs.Sources.{length-span}
 use Rattle.spans.proofs.Splices.{splice-part, splice-whole}
 use borrow.Author.Needs.{needs}
 use Rattle.spans.proofs.put_data_sector.Statement.{statement}
@@ -21,11 +25,17 @@ add-least-2 c = search needs
 least-requires : tie.Need-least-requires
 least-requires c κs = search needs
 
+sub-place-in : tie.Need-sub-place-in
+sub-place-in c = search needs
+
+sub-place-in-2 : tie.Need-sub-place-in-2
+sub-place-in-2 c = search needs
+
+place-in-requires : tie.Need-place-in-requires
+place-in-requires c κs = search needs
+
 sub-if1 : tie.Need-sub-if1
 sub-if1 c = search needs
-
-sub-put-from : tie.Need-sub-put-from
-sub-put-from c = search needs
 
 put-from-requires : tie.Need-put-from-requires
 put-from-requires c κs = search needs
@@ -35,25 +45,31 @@ same-length c = search needs
 
 returns : tie.Need-returns
 returns c =
-    let a = c .before .before .before .before .before .before .before .before .before .before .args in
-    let v = view (a .img .now) (a .place .0) in
-    rw (← splice-whole (a .offset) (a .s) (a .bytes .now) v (c .before .before .before .before .before .before .most .result) (c .before .before .before .before .before .least .result) (c .before .before .before .before .before .before .most .ensures) (c .before .before .before .before .before .least .ensures) (length-view (a .img .now) (a .place .0)) (c .before .before .before .before .if1 .taken))
+    let a = c .before .before .before .before .before .before .before .before .before .before .before .args in
+    let d = view (a .img .now) (a .place .0) in
+    let span = spanOf (a .bytes .now) (a .len) in
+    let from = c .before .before .before .before .before .before .before .most in
+    let to = c .before .before .before .before .before .before .least in
+    let last = to .ensures ∙ ap (λ (x : ℕ). min (a .offset + x) (512 * a .s + 512)) (sym (length-span (a .bytes .now) (a .len))) in
+    let read = c .before .before .before .before .before .place-in .ensures .1 in
+    let whole = c .before .before .before .before .if1 .taken in
+    rw (
+      ← splice-whole (a .offset) (a .s) span d (from .result) (to .result) (from .ensures) last (length-view (a .img .now) (a .place .0)) whole,
+      ← rw whole at read,
+    )
     (c .before .before .put-from .ensures)
 
 sector-requires : tie.Need-sector-requires
 sector-requires c κs = search needs
 
-sub-copy-run : tie.Need-sub-copy-run
-sub-copy-run c = search needs
-
 slice-aggregate-copy-run : tie.Need-slice-aggregate-copy-run
 slice-aggregate-copy-run c = search needs
 
+sub-copy-run : tie.Need-sub-copy-run
+sub-copy-run c = search needs
+
 sub-copy-run-2 : tie.Need-sub-copy-run-2
 sub-copy-run-2 c = search needs
-
-sub-copy-run-3 : tie.Need-sub-copy-run-3
-sub-copy-run-3 c = search needs
 
 copy-run-requires : tie.Need-copy-run-requires
 copy-run-requires c κs = search needs
@@ -66,9 +82,19 @@ same-length-2 c = search needs
 
 returns-2 : tie.Need-returns-2
 returns-2 c =
-    let a = c .before .before .before .before .before .before .before .before .before .before .before .before .before .before .args in
-    let v = view (a .img .now) (a .place .0) in
-    rw (← splice-part (a .offset) (a .s) (a .bytes .now) v (c .before .before .before .before .before .before .before .before .before .before .most .result) (c .before .before .before .before .before .before .before .before .before .least .result) (c .before .before .before .before .before .before .before .before .before .before .most .ensures) (c .before .before .before .before .before .before .before .before .before .least .ensures), ← c .before .before .before .before .before .before .before .sector .ensures, ← c .before .before .before .before .before .copy-run .ensures)
+    let a = c .before .before .before .before .before .before .before .before .before .before .before .before .before .before .before .args in
+    let d = view (a .img .now) (a .place .0) in
+    let span = spanOf (a .bytes .now) (a .len) in
+    let from = c .before .before .before .before .before .before .before .before .before .before .before .most in
+    let to = c .before .before .before .before .before .before .before .before .before .before .least in
+    let last = to .ensures ∙ ap (λ (x : ℕ). min (a .offset + x) (512 * a .s + 512)) (sym (length-span (a .bytes .now) (a .len))) in
+    let read = c .before .before .before .before .before .before .before .before .before .place-in .ensures .1 in
+    rw (
+      ← splice-part (a .offset) (a .s) span d (from .result) (to .result) (from .ensures) last,
+      ← read,
+      ← c .before .before .before .before .before .before .before .sector .ensures,
+      ← c .before .before .before .before .before .copy-run .ensures,
+    )
     (c .before .before .put-sector .ensures)
 
 pub put-data-sector-spec : {M : Type 1} → statement M
@@ -80,16 +106,17 @@ put-data-sector-spec =
     add-least
     add-least-2
     least-requires
+    sub-place-in
+    sub-place-in-2
+    place-in-requires
     sub-if1
-    sub-put-from
     put-from-requires
     same-length
     returns
     sector-requires
-    sub-copy-run
     slice-aggregate-copy-run
+    sub-copy-run
     sub-copy-run-2
-    sub-copy-run-3
     copy-run-requires
     put-sector-requires
     same-length-2

@@ -3,6 +3,7 @@ use Prim.Native.Nat.{_+_, _%_, _≤_}
 use mathlib.Core.Path.{refl}
 use native.Mathlib.Omega.{arith}
 use Rattle.model.specs.Geometry.{extentSectors, extentAt}
+use Rattle.spans.specs.Touched.{spanOf}
 use Rattle.spans.proofs.Laws.{sector-within}
 use Rattle.spans.proofs.Splices.{lent-below, lent-inside, piece-records}
 use borrow.Author.Needs.{needs}
@@ -40,8 +41,8 @@ extent-at-requires c κs =
       omega (arith, lent-below (a .img .now) (a .g) (s .pre .0) (a .i .0) (a .held) (a .next .0) (a .s) (x .result .0) (extentAt (a .g) (x .result .0)) (s .pre .1 .0) (x .ensures) refl),
     )
 
-add-t16 : tie.Need-add-t16
-add-t16 c =
+add-t17 : tie.Need-add-t17
+add-t17 c =
     let s = c .before .before .before .before .before .before .before .before .before in
     let a = s .args in
     let w = sector-within (a .g) (s .pre .0 .bounded) (a .s) in
@@ -57,7 +58,7 @@ put-piece-requires c κs =
     let x = c .before .before .before .extent-for in
     let at = c .before .before .extent-at in
     let t = s .pre .1 .1 .1 .0 in
-    (omega arith, (omega (arith, lent-inside (a .img .now) (a .g) (s .pre .0) (a .i .0) (a .held) (a .next .0) (a .s) (x .result .0) (at .result .0) (s .pre .1 .0) (x .ensures) (at .ensures)), record { small = t .small; low = t .low; high = omega (arith, t .high) }))
+    (omega arith, (omega (arith, lent-inside (a .img .now) (a .g) (s .pre .0) (a .i .0) (a .held) (a .next .0) (a .s) (x .result .0) (at .result .0) (s .pre .1 .0) (x .ensures) (at .ensures)), (record { small = t .small; low = t .low; high = omega (arith, t .high) }, s .pre .1 .1 .1 .1 .0)))
 
 same-length : tie.Need-same-length
 same-length c = search needs
@@ -72,9 +73,9 @@ returns c =
     let q = c .before .before .before .before .before .before .before .least .ensures in
     let m = c .before .before .before .before .before .before .before .least .result in
     let l : a .s % extentSectors (a .g) + m ≤ extentSectors (a .g) = omega (arith, w, q) in
-    let f = piece-records (a .img .now) (a .g) (s .pre .0) (a .i .0) (a .held) (a .next .0) (a .s) (x .result .0) (at .result .0) (s .pre .1 .0) (x .ensures) (at .ensures) (a .offset) (a .bytes .now) m l in
+    let f = piece-records (a .img .now) (a .g) (s .pre .0) (a .i .0) (a .held) (a .next .0) (a .s) (x .result .0) (at .result .0) (s .pre .1 .0) (x .ensures) (at .ensures) (a .offset) (spanOf (a .bytes .now) (a .len)) m l in
     let p = c .before .before .put-piece .ensures in
-    ((omega (arith, w, q, s .pre .1 .1 .1 .1), omega (arith, q)), rw (f, p .0) at (p .1))
+    ((omega (arith, w, q, s .pre .1 .1 .1 .1 .1), omega (arith, q)), rw (f, p .0) at (p .1))
 
 pub put-in-extent-spec : {M : Type 1} → statement M
 put-in-extent-spec =
@@ -87,7 +88,7 @@ put-in-extent-spec =
     div-extent-for
     extent-for-requires
     extent-at-requires
-    add-t16
+    add-t17
     put-piece-requires
     same-length
     returns)

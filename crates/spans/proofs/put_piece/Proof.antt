@@ -8,6 +8,7 @@ use Rattle.model.specs.Search.{tab}
 use Rattle.model.specs.Disk.{view}
 use Rattle.model.specs.WriteList.{Record, sectorWrite, Emitted}
 use Rattle.model.specs.Write.{spliced}
+use Rattle.spans.specs.Touched.{spanOf}
 use Rattle.laws.proofs.Search.{tab-more}
 use Rattle.laws.proofs.WriteList.{emitted-none, emitted-then}
 use borrow.Author.Needs.{needs}
@@ -19,18 +20,18 @@ abbrev sectorAt : List ℕ → ℕ → ℕ → List ℕ → ℕ → ℕ → Reco
 sectorAt img start offset bytes s x = sectorWrite (start + (x - s)) (spliced offset bytes x (view img (start + (x - s))))
 
 abbrev Inv-loop : tie.InvT-loop
-Inv-loop list₀ k img start offset bytes s n at₀ j₀ list at j =
-    (j ≤ n) × (at ≡ k + j) × Emitted list₀ k (tab (sectorAt img (start .0) offset bytes s) s j) list at × (length list ≡ length list₀)
+Inv-loop list₀ k img start offset bytes len s n at₀ j₀ list at j =
+    (j ≤ n) × (at ≡ k + j) × Emitted list₀ k (tab (sectorAt img (start .0) offset (spanOf bytes len) s) s j) list at × (length list ≡ length list₀)
 
 abbrev μ-loop : tie.MeasureT-loop
-μ-loop list₀ k img start offset bytes s n at₀ j₀ list at j = n - j
+μ-loop list₀ k img start offset bytes len s n at₀ j₀ list at j = n - j
 
 loop-holds : tie.Need-loop-holds Inv-loop μ-loop
 unfolding tab
 loop-holds c = (omega arith, omega arith, emitted-none _ _, refl)
 
-add-t14 : tie.Need-add-t14 Inv-loop μ-loop
-add-t14 c = search needs
+add-t15 : tie.Need-add-t15 Inv-loop μ-loop
+add-t15 c = search needs
 
 add-put-data-sector : tie.Need-add-put-data-sector Inv-loop μ-loop
 add-put-data-sector c = search needs
@@ -40,7 +41,8 @@ put-data-sector-requires c κs =
     let p = c .before .before .before .before .before .before .before .pre in
     let l = c .before .before .before .loop in
     let q = l .inv in
-    (omega arith, (omega (arith, p .1 .0), record { small = p .1 .1 .small; low = omega (arith, p .1 .1 .low); high = omega (arith, p .1 .1 .high) }))
+    let t = p .1 .1 .0 in
+    (omega arith, (omega (arith, p .1 .0), (record { small = t .small; low = omega (arith, t .low); high = omega (arith, t .high) }, p .1 .1 .1)))
 
 add-j : tie.Need-add-j Inv-loop μ-loop
 add-j c = search needs
@@ -76,7 +78,7 @@ put-piece-spec =
     Inv-loop
     μ-loop
     loop-holds
-    add-t14
+    add-t15
     add-put-data-sector
     put-data-sector-requires
     add-j

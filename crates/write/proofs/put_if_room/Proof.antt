@@ -1,6 +1,13 @@
 -- `write::put_if_room` meets its contract. There are no bytes, the list is too short, or the records are put in.
 use Rattle.write.proofs.Laws.{room-none, room-short, room-count, room-done}
+use Prim.Native.Nat.{ℕ}
+use mathlib.Core.Path.{sym, ap, _∙_}
 use native.Mathlib.Omega.{arith}
+use Rattle.model.specs.Disk.{view}
+use Rattle.model.specs.Catalogue.{catalogueOf}
+use Rattle.model.specs.Write.{sizeAfter}
+use Rattle.spans.specs.Touched.{spanOf}
+use Rattle.spans.proofs.Sources.{length-span}
 use borrow.Author.Needs.{needs}
 use Rattle.write.proofs.put_if_room.Statement.{statement}
 use Rattle.write.proofs.put_if_room.Tie as tie
@@ -15,7 +22,9 @@ returns : tie.Need-returns
 returns c =
     let s = c .before .before .before .before .before .before in
     let a = s .args in
-    rw (c .refused .ensures, c .before .refusal .ensures) (room-none (a .img .now) (s .pre .0) (a .list .now) (a .i .0) (a .offset) (a .bytes .now) (a .time) (c .before .before .if1 .taken))
+    let len = length-span (a .bytes .now) (a .len) in
+    let span = spanOf (a .bytes .now) (a .len) in
+    rw (c .refused .ensures, c .before .refusal .ensures) (room-none (a .img .now) (s .pre .0) (a .list .now) (a .i .0) (a .offset) span (a .time) (len ∙ c .before .before .if1 .taken))
 
 records-requires : tie.Need-records-requires
 records-requires c κs = search needs
@@ -33,28 +42,33 @@ returns-2 : tie.Need-returns-2
 returns-2 c =
     let s = c .before .before .before .before .before .before .before .before in
     let a = s .args in
+    let len = length-span (a .bytes .now) (a .len) in
+    let span = spanOf (a .bytes .now) (a .len) in
     rw (c .refused2 .ensures, c .before .refusal2 .ensures)
-    (room-short (a .img .now) (s .pre .0) (a .list .now) (a .i .0) (a .offset) (a .bytes .now) (a .time) (c .before .before .before .before .if1 .left) (a .z) (a .w .more) (s .pre .1 .1 .1 .1) (s .pre .1 .1 .0 .0 .needs-one)
-    (rw (c .before .before .before .records .ensures .0) at (c .before .before .if2 .taken)))
+    (room-short (a .img .now) (s .pre .0) (a .list .now) (a .i .0) (a .offset) span (a .time) (λ e. c .before .before .before .before .if1 .left (sym len ∙ e)) (a .z) (a .w .more) (s .pre .1 .1 .1 .1 ∙ ap (λ (x : ℕ). sizeAfter (catalogueOf (view (a .img .now))) (a .i .0) (a .offset) x) (sym len)) (s .pre .1 .1 .0 .0 .needs-one)
+    (omega (arith, len, c .before .before .before .records .ensures .0, c .before .before .if2 .taken)))
 
 put-write-requires : tie.Need-put-write-requires
 put-write-requires c κs =
     let s = c .before .before .before .before .before .before .before in
     let h = s .pre .1 .1 .1 .0 in
-    (s .pre .1 .0, (s .pre .1 .1 .0, ((h .0, omega (arith, c .before .before .before .if1 .left), h .2), (s .pre .1 .1 .1 .1, omega (arith, c .before .before .records .ensures .0, c .before .if2 .left)))))
+    (s .pre .1 .0, (s .pre .1 .1 .0, ((h .0, omega (arith, c .before .before .before .if1 .left), h .2, h .3), (s .pre .1 .1 .1 .1, omega (arith, c .before .before .records .ensures .0, c .before .if2 .left)))))
 
 refusal-requires-3 : tie.Need-refusal-requires-3
 refusal-requires-3 c κs = search needs
 
-mul-t22 : tie.Need-mul-t22
-mul-t22 c =
+mul-t15 : tie.Need-mul-t15
+mul-t15 c =
     let s = c .before .before .before .before .before .before .before .before .before .before .before in
     let a = s .args in
+    let len = length-span (a .bytes .now) (a .len) in
+    let span = spanOf (a .bytes .now) (a .len) in
     omega (
       arith,
+      len,
       c .before .before .before .before .before .before .records .ensures .0,
       c .before .before .before .before .before .before .records .ensures .1,
-      room-count (a .img .now) (s .pre .0) (a .list .now) (a .i .0) (a .offset) (a .bytes .now) (a .time) (c .before .before .before .before .before .before .before .if1 .left) (a .z) (a .w .more) (s .pre .1 .1 .1 .1) (s .pre .1 .1 .0 .0 .needs-one)
+      room-count (a .img .now) (s .pre .0) (a .list .now) (a .i .0) (a .offset) span (a .time) (λ e. c .before .before .before .before .before .before .before .if1 .left (sym len ∙ e)) (a .z) (a .w .more) (s .pre .1 .1 .1 .1 ∙ ap (λ (x : ℕ). sizeAfter (catalogueOf (view (a .img .now))) (a .i .0) (a .offset) x) (sym len)) (s .pre .1 .1 .0 .0 .needs-one)
           (c .before .before .before .put-write .ensures),
     )
 
@@ -65,9 +79,11 @@ returns-3 : tie.Need-returns-3
 returns-3 c =
     let s = c .before .before .before .before .before .before .before .before .before .before .before in
     let a = s .args in
+    let len = length-span (a .bytes .now) (a .len) in
+    let span = spanOf (a .bytes .now) (a .len) in
     rw (c .refusal3 .ensures)
-    (room-done (a .img .now) (s .pre .0) (a .list .now) (a .i .0) (a .offset) (a .bytes .now) (a .time) (c .before .before .before .before .before .before .before .if1 .left) (a .z) (a .w .more) (s .pre .1 .1 .1 .1) (s .pre .1 .1 .0 .0 .needs-one)
-    (omega (arith, c .before .before .before .before .before .before .records .ensures .0, c .before .before .before .before .before .if2 .left)) (c .before .before .before .put-write .ensures))
+    (room-done (a .img .now) (s .pre .0) (a .list .now) (a .i .0) (a .offset) span (a .time) (λ e. c .before .before .before .before .before .before .before .if1 .left (sym len ∙ e)) (a .z) (a .w .more) (s .pre .1 .1 .1 .1 ∙ ap (λ (x : ℕ). sizeAfter (catalogueOf (view (a .img .now))) (a .i .0) (a .offset) x) (sym len)) (s .pre .1 .1 .0 .0 .needs-one)
+    (omega (arith, len, c .before .before .before .before .before .before .records .ensures .0, c .before .before .before .before .before .if2 .left)) (c .before .before .before .put-write .ensures))
 
 pub put-if-room-spec : {M : Type 1} → statement M
 put-if-room-spec =
@@ -83,6 +99,6 @@ put-if-room-spec =
     returns-2
     put-write-requires
     refusal-requires-3
-    mul-t22
+    mul-t15
     same-length
     returns-3)

@@ -1,7 +1,13 @@
 -- `write::put_write` meets its contract. An extent is taken and there are two targets, or none is and the entry is the only one.
 use Rattle.write.proofs.Lists.{written-more, written-kept}
-use lib.ListN.{replicate}
-use mathlib.Core.Path.{sym, _∙_}
+use lib.ListN.{length, replicate}
+use Prim.Native.Nat.{ℕ}
+use mathlib.Core.Path.{_≡_, sym, ap, _∙_}
+use Rattle.model.specs.Disk.{view}
+use Rattle.model.specs.Catalogue.{catalogueOf}
+use Rattle.model.specs.Write.{touchedSectors, sizeAfter}
+use Rattle.spans.specs.Touched.{spanOf}
+use Rattle.spans.proofs.Sources.{length-span}
 use native.Mathlib.Omega.{arith}
 use borrow.Author.Needs.{needs}
 use Rattle.write.proofs.put_write.Statement.{statement}
@@ -26,7 +32,7 @@ put-data-requires c κs =
         record { file = omega (arith, h .0, s .pre .0 .bounded .files-high); extents = w .extents; taken = w .taken },
         (
           omega (arith, s .pre .1 .1 .1 .1),
-          record { small = omega (arith, h .2); low = omega arith; high = omega (arith, h .1) },
+          (record { small = omega (arith, h .2); low = omega arith; high = omega (arith, h .1) }, h .3),
         ),
       ),
     )
@@ -87,9 +93,12 @@ returns c =
     let s = c .before .before .before .before .before .before .before .before .before .before .before .before .before .before .before .before .before .before .before .before .before .before .before .before .before .before .before .before .before in
     let a = s .args in
     let w = s .pre .1 .0 .0 in
+    let len = length-span (a .bytes .now) (a .len) in
+    let span = spanOf (a .bytes .now) (a .len) in
+    let touched : touchedSectors (a .offset) (a .len) ≡ touchedSectors (a .offset) (length span) = ap (touchedSectors (a .offset)) (sym len) in
     let room = rw (c .before .before .before .before .before .before .before .before .before .before .before .before .before .if1 .taken) at (s .pre .1 .1 .1 .1) in
-    written-more (a .img .now) (a .g) (s .pre .0) (a .i .0) (a .offset) (a .bytes .now) (a .time) (a .z) (s .pre .1 .1 .1 .0) (replicate 2 0) (c .before .before .before .before .before .before .before .before .before .before .before .before .before .before .before .before .before .before .sector .result .0) (c .before .before .before .before .before .before .before .before .before .before .before .before .before .before .before .before .before .before .before .before .before .updated-entry .result)
-    (c .before .before .before .before .before .before .before .before .before .before .before .before .before .before .before .before .before .before .before .before .before .before .before .before .put-data .ensures .1) (c .before .before .before .before .before .before .before .before .before .before .before .before .before .before .before .before .before .before .sector .ensures) (c .before .before .before .before .before .before .before .before .before .before .before .before .before .before .before .before .before .before .before .before .before .updated-entry .ensures) (c .before .before .before .before .before .before .before .before .before .before .before .before .before .before .before .before .before .put-copy .ensures .0) (c .before .before .before .before .before .before .before .before .before .before .before .before .before .before .before .before .before .put-copy .ensures .1)
+    written-more (a .img .now) (a .g) (s .pre .0) (a .i .0) (a .offset) span (a .time) (a .z) (s .pre .1 .1 .1 .0 ∙ ap (λ (x : ℕ). sizeAfter (catalogueOf (view (a .img .now))) (a .i .0) (a .offset) x) (sym len)) (replicate 2 0) (c .before .before .before .before .before .before .before .before .before .before .before .before .before .before .before .before .before .before .sector .result .0) (c .before .before .before .before .before .before .before .before .before .before .before .before .before .before .before .before .before .before .before .before .before .updated-entry .result)
+    (rw touched at (c .before .before .before .before .before .before .before .before .before .before .before .before .before .before .before .before .before .before .before .before .before .before .before .before .put-data .ensures .1)) (c .before .before .before .before .before .before .before .before .before .before .before .before .before .before .before .before .before .before .sector .ensures) (c .before .before .before .before .before .before .before .before .before .before .before .before .before .before .before .before .before .before .before .before .before .updated-entry .ensures) (c .before .before .before .before .before .before .before .before .before .before .before .before .before .before .before .before .before .put-copy .ensures .0) (c .before .before .before .before .before .before .before .before .before .before .before .before .before .before .before .before .before .put-copy .ensures .1)
     (a .w .next .0) (a .w .held) (c .before .before .before .before .before .before .before .before .before .table-sector-of .result .0) (c .before .before .before .before .before .before .before .before .before .before .before .before .taken-sector .result) (sym (w .needs-one) ∙ c .before .before .before .before .before .before .before .before .before .before .before .before .before .if1 .taken) (omega arith)
     (omega (arith, room, c .before .before .before .before .before .before .before .before .before .before .before .before .before .before .before .before .before .put-copy .ensures .0 .next, c .before .before .before .before .before .before .before .before .put-copy2 .ensures .0 .next, c .before .before .before .before .before .before .before .before .before .before .before .before .before .before .before .before .before .before .before .before .before .before .before .before .put-data .ensures .0))
     (w .taken) (w .extents) (c .before .before .before .before .before .before .before .before .before .table-sector-of .ensures) (c .before .before .before .before .before .before .before .before .before .before .before .before .taken-sector .ensures) (c .before .before .before .before .before .before .before .before .put-copy2 .ensures .0) (c .before .before .before .before .before .before .before .before .put-copy2 .ensures .1) (c .before .before .put-commit .ensures .0)
@@ -120,9 +129,12 @@ returns-2 c =
     let s = c .before .before .before .before .before .before .before .before .before .before .before .before .before .before .before .before .before .before .before .before .before in
     let a = s .args in
     let w = s .pre .1 .0 .0 in
+    let len = length-span (a .bytes .now) (a .len) in
+    let span = spanOf (a .bytes .now) (a .len) in
+    let touched : touchedSectors (a .offset) (a .len) ≡ touchedSectors (a .offset) (length span) = ap (touchedSectors (a .offset)) (sym len) in
     let room = rw (c .before .before .before .before .before .if1 .left) at (s .pre .1 .1 .1 .1) in
-    written-kept (a .img .now) (a .g) (s .pre .0) (a .i .0) (a .offset) (a .bytes .now) (a .time) (a .z) (s .pre .1 .1 .1 .0) (replicate 2 0) (c .before .before .before .before .before .before .before .before .before .before .sector .result .0) (c .before .before .before .before .before .before .before .before .before .before .before .before .before .updated-entry .result)
-    (c .before .before .before .before .before .before .before .before .before .before .before .before .before .before .before .before .put-data .ensures .1) (c .before .before .before .before .before .before .before .before .before .before .sector .ensures) (c .before .before .before .before .before .before .before .before .before .before .before .before .before .updated-entry .ensures) (c .before .before .before .before .before .before .before .before .before .put-copy .ensures .0) (c .before .before .before .before .before .before .before .before .before .put-copy .ensures .1)
+    written-kept (a .img .now) (a .g) (s .pre .0) (a .i .0) (a .offset) span (a .time) (a .z) (s .pre .1 .1 .1 .0 ∙ ap (λ (x : ℕ). sizeAfter (catalogueOf (view (a .img .now))) (a .i .0) (a .offset) x) (sym len)) (replicate 2 0) (c .before .before .before .before .before .before .before .before .before .before .sector .result .0) (c .before .before .before .before .before .before .before .before .before .before .before .before .before .updated-entry .result)
+    (rw touched at (c .before .before .before .before .before .before .before .before .before .before .before .before .before .before .before .before .put-data .ensures .1)) (c .before .before .before .before .before .before .before .before .before .before .sector .ensures) (c .before .before .before .before .before .before .before .before .before .before .before .before .before .updated-entry .ensures) (c .before .before .before .before .before .before .before .before .before .put-copy .ensures .0) (c .before .before .before .before .before .before .before .before .before .put-copy .ensures .1)
     (sym (w .needs-one) ∙ c .before .before .before .before .before .if1 .left) (omega arith)
     (omega (arith, room, c .before .before .before .before .before .before .before .before .before .put-copy .ensures .0 .next, c .before .before .before .before .before .before .before .before .before .before .before .before .before .before .before .before .put-data .ensures .0))
     (c .before .before .put-commit2 .ensures .0)

@@ -30,8 +30,8 @@ shrink-requires c κs = search needs
 refusal-requires-2 : tie.Need-refusal-requires-2
 refusal-requires-2 c κs = search needs
 
-mul-t17 : tie.Need-mul-t17
-mul-t17 c =
+mul-t9 : tie.Need-mul-t9
+mul-t9 c =
     let s = c .before .before .before .before .before .before .before .before .before in
     let a = s .args in
     omega (
@@ -63,6 +63,6 @@ shrink-file-spec =
     returns
     shrink-requires
     refusal-requires-2
-    mul-t17
+    mul-t9
     same-length
     returns-2)

@@ -1,11 +1,12 @@
 -- `write::write_file` meets its contract. The offset is too great; or an extent is needed, and one is free or none is; or no
 -- extent is needed.
-use Rattle.model.specs.Write.{grows}
+use Rattle.model.specs.Write.{grows, sizeAfter}
+use Rattle.spans.specs.Touched.{spanOf}
+use Rattle.spans.proofs.Sources.{length-span}
 use Rattle.model.specs.Catalogue.{catalogueOf}
 use Rattle.model.specs.Disk.{view}
 use Rattle.write.proofs.Laws.{file-12, file-13, file-room}
 use Rattle.laws.proofs.Booleans.{and-false}
-use lib.ListN.{length}
 use native.Mathlib.Omega.{arith}
 use mathlib.Core.Path.{sym, ap, _∙_}
 use Prim.Native.Nat.{ℕ, _+_, max}
@@ -23,7 +24,9 @@ returns : tie.Need-returns
 returns c =
     let s = c .before .before .before .before .before .before in
     let a = s .args in
-    rw (c .refused .ensures, c .before .refusal .ensures) (file-12 (a .img .now) (s .pre .judgment) (a .list .now) (a .i .0) (a .offset) (a .bytes .now) (a .time) (a .size) (s .pre .says) (c .before .before .if1 .taken))
+    let len = length-span (a .bytes .now) (a .len) in
+    let span = spanOf (a .bytes .now) (a .len) in
+    rw (c .refused .ensures, c .before .refusal .ensures) (file-12 (a .img .now) (s .pre .0 .judgment) (a .list .now) (a .i .0) (a .offset) span (a .time) (a .size) (s .pre .0 .says) (c .before .before .if1 .taken))
 
 add-most : tie.Need-add-most
 add-most c = search needs
@@ -38,8 +41,10 @@ put-if-room-requires : tie.Need-put-if-room-requires
 put-if-room-requires c κs =
     let s = c .before .before .before .before .before .before .before .before .before in
     let a = s .args in
-    let e = c .before .before .before .before .most .ensures ∙ ap (λ (x : ℕ). max x (a .offset + length (a .bytes .now))) (s .pre .says) in
-    (s .pre .judgment, (s .pre .opened, (c .before .before .before .need-for .ensures, ((s .pre .file, s .pre .short, omega (arith, s .pre .fits, s .pre .short, c .before .before .before .before .before .if1 .left)), e))))
+    let len = length-span (a .bytes .now) (a .len) in
+    let span = spanOf (a .bytes .now) (a .len) in
+    let e = c .before .before .before .before .most .ensures ∙ ap (λ (x : ℕ). max x (a .offset + a .len)) (s .pre .0 .says) in
+    (s .pre .0 .judgment, (s .pre .0 .opened, (c .before .before .before .need-for .ensures, ((s .pre .0 .file, s .pre .0 .short, omega (arith, s .pre .0 .fits, s .pre .0 .short, c .before .before .before .before .before .if1 .left), s .pre .1), e))))
 
 same-length : tie.Need-same-length
 same-length c = search needs
@@ -48,9 +53,11 @@ returns-2 : tie.Need-returns-2
 returns-2 c =
     let s = c .before .before .before .before .before .before .before .before .before .before .before .before in
     let a = s .args in
+    let len = length-span (a .bytes .now) (a .len) in
+    let span = spanOf (a .bytes .now) (a .len) in
     let w = c .before .before .before .before .before .before .need-for .ensures .0 in
-    let e = c .before .before .before .before .before .before .before .most .ensures ∙ ap (λ (x : ℕ). max x (a .offset + length (a .bytes .now))) (s .pre .says) in
-    file-room (a .img .now) (s .pre .judgment) (a .list .now) (a .i .0) (a .offset) (a .bytes .now) (a .time) (a .size) (s .pre .says) (c .before .before .before .before .before .before .before .before .if1 .left) (c .before .before .before .before .before .before .before .most .result) e
+    let e = c .before .before .before .before .before .before .before .most .ensures ∙ ap (λ (x : ℕ). max x (a .offset + a .len)) (s .pre .0 .says) in
+    file-room (a .img .now) (s .pre .0 .judgment) (a .list .now) (a .i .0) (a .offset) span (a .time) (a .size) (s .pre .0 .says) (c .before .before .before .before .before .before .before .before .if1 .left) (c .before .before .before .before .before .before .before .most .result) (e ∙ ap (λ (x : ℕ). sizeAfter (catalogueOf (view (a .img .now))) (a .i .0) (a .offset) x) (sym len))
     (rw (← w .has-one, c .before .before .before .before .if3 .taken) (and-false (grows (catalogueOf (view (a .img .now))) (a .i .0) (c .before .before .before .before .before .before .before .most .result)))) (c .before .before .put-if-room .ensures)
 
 refusal-requires-2 : tie.Need-refusal-requires-2
@@ -63,18 +70,22 @@ returns-3 : tie.Need-returns-3
 returns-3 c =
     let s = c .before .before .before .before .before .before .before .before .before .before in
     let a = s .args in
+    let len = length-span (a .bytes .now) (a .len) in
+    let span = spanOf (a .bytes .now) (a .len) in
     let w = c .before .before .before .before .need-for .ensures .0 in
-    let e = c .before .before .before .before .before .most .ensures ∙ ap (λ (x : ℕ). max x (a .offset + length (a .bytes .now))) (s .pre .says) in
+    let e = c .before .before .before .before .before .most .ensures ∙ ap (λ (x : ℕ). max x (a .offset + a .len)) (s .pre .0 .says) in
     rw (c .refused2 .ensures, c .before .refusal2 .ensures)
-    (file-13 (a .img .now) (s .pre .judgment) (a .list .now) (a .i .0) (a .offset) (a .bytes .now) (a .time) (a .size) (s .pre .says) (c .before .before .before .before .before .before .if1 .left) (c .before .before .before .before .before .most .result) e
+    (file-13 (a .img .now) (s .pre .0 .judgment) (a .list .now) (a .i .0) (a .offset) span (a .time) (a .size) (s .pre .0 .says) (c .before .before .before .before .before .before .if1 .left) (c .before .before .before .before .before .most .result) (e ∙ ap (λ (x : ℕ). sizeAfter (catalogueOf (view (a .img .now))) (a .i .0) (a .offset) x) (sym len))
     (sym (w .needs-one) ∙ c .before .before .before .if2 .taken) (sym (w .has-one) ∙ c .before .before .if3 .left))
 
 put-if-room-requires-2 : tie.Need-put-if-room-requires-2
 put-if-room-requires-2 c κs =
     let s = c .before .before .before .before .before .before .before .before in
     let a = s .args in
-    let e = c .before .before .before .most .ensures ∙ ap (λ (x : ℕ). max x (a .offset + length (a .bytes .now))) (s .pre .says) in
-    (s .pre .judgment, (s .pre .opened, (c .before .before .need-for .ensures, ((s .pre .file, s .pre .short, omega (arith, s .pre .fits, s .pre .short, c .before .before .before .before .if1 .left)), e))))
+    let len = length-span (a .bytes .now) (a .len) in
+    let span = spanOf (a .bytes .now) (a .len) in
+    let e = c .before .before .before .most .ensures ∙ ap (λ (x : ℕ). max x (a .offset + a .len)) (s .pre .0 .says) in
+    (s .pre .0 .judgment, (s .pre .0 .opened, (c .before .before .need-for .ensures, ((s .pre .0 .file, s .pre .0 .short, omega (arith, s .pre .0 .fits, s .pre .0 .short, c .before .before .before .before .if1 .left), s .pre .1), e))))
 
 same-length-2 : tie.Need-same-length-2
 same-length-2 c = search needs
@@ -83,9 +94,11 @@ returns-4 : tie.Need-returns-4
 returns-4 c =
     let s = c .before .before .before .before .before .before .before .before .before .before .before in
     let a = s .args in
+    let len = length-span (a .bytes .now) (a .len) in
+    let span = spanOf (a .bytes .now) (a .len) in
     let w = c .before .before .before .before .before .need-for .ensures .0 in
-    let e = c .before .before .before .before .before .before .most .ensures ∙ ap (λ (x : ℕ). max x (a .offset + length (a .bytes .now))) (s .pre .says) in
-    file-room (a .img .now) (s .pre .judgment) (a .list .now) (a .i .0) (a .offset) (a .bytes .now) (a .time) (a .size) (s .pre .says) (c .before .before .before .before .before .before .before .if1 .left) (c .before .before .before .before .before .before .most .result) e
+    let e = c .before .before .before .before .before .before .most .ensures ∙ ap (λ (x : ℕ). max x (a .offset + a .len)) (s .pre .0 .says) in
+    file-room (a .img .now) (s .pre .0 .judgment) (a .list .now) (a .i .0) (a .offset) span (a .time) (a .size) (s .pre .0 .says) (c .before .before .before .before .before .before .before .if1 .left) (c .before .before .before .before .before .before .most .result) (e ∙ ap (λ (x : ℕ). sizeAfter (catalogueOf (view (a .img .now))) (a .i .0) (a .offset) x) (sym len))
     (rw (← w .needs-one, c .before .before .before .before .if2 .left)) (c .before .before .put-if-room2 .ensures)
 
 pub write-file-spec : {M : Type 1} → statement M

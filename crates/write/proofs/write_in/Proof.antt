@@ -7,7 +7,8 @@ use Rattle.model.specs.Disk.{view}
 use Rattle.model.specs.Search.{isAt}
 use Rattle.model.specs.Bytes.{beAt}
 use native.Mathlib.Omega.{arith}
-use mathlib.Core.Path.{sym, ap, _∙_}
+use mathlib.Core.Path.{refl, sym, ap, _∙_}
+use Rattle.spans.proofs.Sources.{span-own, source-own}
 use Prim.Native.Nat.{ℕ}
 use borrow.Author.Needs.{needs}
 use Rattle.write.proofs.write_in.Statement.{statement}
@@ -66,9 +67,11 @@ write-file-requires : tie.Need-write-file-requires
 write-file-requires c κs =
     let s = c .before .before .before .before .before .before .before .before .before .before .before .before .before .before .before in
     let img = s .args .img .now in
-    let o = judged-opened _ _ (c .before .before .before .before .before .before .before .geometry-in .ensures) (omega arith) (s .pre) in
-    asked img _ o (s .args .name .now) (c .before .before .before .before .i .given .0 .0) (sym (c .before .before .before .before .i .given .1) ∙ c .before .before .before .before .before .before .file-named .ensures) (s .pre) (c .before .number .result) _
-    (c .before .number .ensures .0 ∙ ap (λ (k : ℕ). beAt (view img k) 2 8) (c .before .before .sector .ensures)) (c .before .before .before .before .before .before .before .before .if2 .left)
+    let o = judged-opened _ _ (c .before .before .before .before .before .before .before .geometry-in .ensures) (omega arith) (s .pre) in (
+      asked img _ o (s .args .name .now) (c .before .before .before .before .i .given .0 .0) (sym (c .before .before .before .before .i .given .1) ∙ c .before .before .before .before .before .before .file-named .ensures) (s .pre) (c .before .number .result) _
+          (c .before .number .ensures .0 ∙ ap (λ (k : ℕ). beAt (view img k) 2 8) (c .before .before .sector .ensures)) (c .before .before .before .before .before .before .before .before .if2 .left),
+      source-own (s .args .bytes .now),
+    )
 
 same-length : tie.Need-same-length
 same-length c = search needs
@@ -78,7 +81,7 @@ returns-3 c =
     let s = c .before .before .before .before .before .before .before .before .before .before .before .before .before .before .before .before .before .before in
     let a = s .args in
     write-found (a .img .now) (s .pre) (a .list .now) (a .name .now) (a .offset) (a .bytes .now) (a .time) (sym (c .before .before .before .before .before .before .before .before .before .before .before .before .before .bad-name .ensures) ∙ c .before .before .before .before .before .before .before .before .before .before .before .before .if1 .left) (c .before .before .before .before .before .before .before .before .before .before .before .if2 .left)
-    (c .before .before .before .before .before .before .before .i .given .0 .0) (sym (c .before .before .before .before .before .before .before .i .given .1) ∙ c .before .before .before .before .before .before .before .before .before .file-named .ensures) (c .before .before .write-file .ensures)
+    (c .before .before .before .before .before .before .before .i .given .0 .0) (sym (c .before .before .before .before .before .before .before .i .given .1) ∙ c .before .before .before .before .before .before .before .before .before .file-named .ensures) (rw (span-own (a .bytes .now) _ refl) at (c .before .before .write-file .ensures))
 
 enum-told : tie.Need-enum-told
 enum-told c = search needs

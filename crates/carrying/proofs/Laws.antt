@@ -10,7 +10,7 @@ use borrow.Author.Tests.{eq-eqb, ne-eqb, leb-false}
 use Rattle.model.specs.Bytes.{beAt, run, put}
 use Rattle.model.specs.Search.{some, every, tab}
 use Rattle.model.specs.Refusals.{verdictOf, refusal, isWhole}
-use Rattle.model.specs.WriteList.{Record, barrierNumber, stored}
+use Rattle.model.specs.WriteList.{Record, barrierNumber, stored, recordSize, contentsStart}
 use Rattle.model.specs.CarryOut.{recordIn, recordsIn, badRecord, carryVerdict, carryAnswer, carryImage}
 use Rattle.laws.proofs.Bytes.{getD-run}
 use Rattle.laws.proofs.Search.{every-ext, tab-more}
@@ -27,12 +27,12 @@ stored-more list k img = rw (tab-more (recordIn list) 0 k, zero-add k) (stored-a
 
 -- ---- a record, by its number
 
-module _ (list : List ℕ) (k s : ℕ) (is : s ≡ beAt list (k * 520) 8) where
-  pub barrier-bad : (sectors : ℕ) → s ≡ barrierNumber → not (every (λ b. eqb (getD list (k * 520 + 8 + b) 0) 0) 512) ≡ badRecord sectors list k
+module _ (list : List ℕ) (k s : ℕ) (is : s ≡ beAt list (k * recordSize) 8) where
+  pub barrier-bad : (sectors : ℕ) → s ≡ barrierNumber → not (every (λ b. eqb (getD list (k * recordSize + contentsStart + b) 0) 0) 512) ≡ badRecord sectors list k
   unfolding badRecord recordIn
   barrier-bad sectors e =
       rw (← is, eq-eqb _ _ e)
-      (ap not (sym (every-ext _ _ 512 (λ b l. ap (λ x. eqb x 0) (getD-run list (k * 520 + 8) 512 b l)))))
+      (ap not (sym (every-ext _ _ 512 (λ b l. ap (λ x. eqb x 0) (getD-run list (k * recordSize + contentsStart) 512 b l)))))
 
   pub sector-bad : (sectors : ℕ) → (s ≡ barrierNumber → ⊥) → leb sectors s ≡ badRecord sectors list k
   unfolding badRecord recordIn
@@ -46,7 +46,7 @@ module _ (list : List ℕ) (k s : ℕ) (is : s ≡ beAt list (k * 520) 8) where
   unfolding stored recordIn
   barrier-stored img e = rw (← is, eq-eqb _ _ e)
 
-  pub sector-stored : (img : List ℕ) → (s ≡ barrierNumber → ⊥) → put img (512 * s) (run list (k * 520 + 8) 512) ≡ stored (recordIn list k ∷ []) img
+  pub sector-stored : (img : List ℕ) → (s ≡ barrierNumber → ⊥) → put img (512 * s) (run list (k * recordSize + contentsStart) 512) ≡ stored (recordIn list k ∷ []) img
   unfolding stored recordIn
   sector-stored img e = rw (← is, ne-eqb _ _ e)
 
@@ -62,16 +62,16 @@ module _ (img list : List ℕ) where
   refused-1 w = refused-by 1 refl (rw w)
 
   module _ (whole : isWhole (length img) ≡ true) where
-    pub cut-record : (length list % 520 ≡ 0 → ⊥) → (record { number = 8 } ≡ carryAnswer img list) × (img ≡ carryImage img list)
+    pub cut-record : (length list % recordSize ≡ 0 → ⊥) → (record { number = 8 } ≡ carryAnswer img list) × (img ≡ carryImage img list)
     unfolding carryVerdict verdictOf
     cut-record h = refused-by 8 refl (rw (whole, ne-eqb _ _ h))
 
-    module _ (records : length list % 520 ≡ 0) where
-      pub bad-record : some (badRecord (length img / 512) list) (length list / 520) ≡ true → (record { number = 8 } ≡ carryAnswer img list) × (img ≡ carryImage img list)
+    module _ (records : length list % recordSize ≡ 0) where
+      pub bad-record : some (badRecord (length img / 512) list) (length list / recordSize) ≡ true → (record { number = 8 } ≡ carryAnswer img list) × (img ≡ carryImage img list)
       unfolding carryVerdict verdictOf
       bad-record b = refused-by 8 refl (rw (whole, eq-eqb _ _ records, b))
 
-      pub carried : some (badRecord (length img / 512) list) (length list / 520) ≡ false
+      pub carried : some (badRecord (length img / 512) list) (length list / recordSize) ≡ false
           → (record { number = 0 } ≡ carryAnswer img list) × (stored (recordsIn list) img ≡ carryImage img list)
       unfolding carryVerdict verdictOf carryAnswer carryImage
       carried b = (rw (whole, eq-eqb _ _ records, b), rw (whole, eq-eqb _ _ records, b))

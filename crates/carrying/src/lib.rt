@@ -40,10 +40,10 @@ fn is_bad(list: &[u8], k: usize, sectors: u64) -> bool
     requires { ⌜ (k + 1) * recordSize ≤ length (now list) ⌝ }
     ensures { λ r. ⌜ r ≡ badRecord sectors (now (list .entry)) k ⌝ }
 {
-    let at = k * 520;
+    let at = k * lists::RECORD_SIZE;
     let s = fields::be64(list, at);
     if s == 18446744073709551615 {
-        return has_other(list, at + 8);
+        return has_other(list, at + lists::CONTENTS_START);
     }
     sectors <= s
 }
@@ -52,7 +52,7 @@ fn is_bad(list: &[u8], k: usize, sectors: u64) -> bool
 fn has_bad(list: &[u8], sectors: u64) -> bool
     ensures { λ r. ⌜ r ≡ some (badRecord sectors (now (list .entry))) (length (now (list .entry)) / recordSize) ⌝ }
 {
-    let n = list.len() / 520;
+    let n = list.len() / lists::RECORD_SIZE;
     let mut k: usize = 0;
     while k < n {
         if is_bad(list, k, sectors) {
@@ -71,12 +71,12 @@ fn put_record(img: &mut [u8], list: &[u8], k: usize)
     requires { ⌜ badRecord (length (now img) / 512) (now list) k ≡ false ⌝ }
     ensures { λ _. ⌜ now (img .exit) ≡ stored (recordIn (now (list .entry)) k ∷ []) (now (img .entry)) ⌝ }
 {
-    let at = k * 520;
+    let at = k * lists::RECORD_SIZE;
     let s = fields::be64(list, at);
     if s == 18446744073709551615 {
         return;
     }
-    fields::copy_run(list, at + 8, img, (512 * s) as usize, 512)
+    lists::copy_sector(list, at + lists::CONTENTS_START, img, (512 * s) as usize)
 }
 
 // All records, in order.
@@ -84,7 +84,7 @@ fn put_records(img: &mut [u8], list: &[u8])
     requires { ⌜ some (badRecord (length (now img) / 512) (now list)) (length (now list) / recordSize) ≡ false ⌝ }
     ensures { λ _. ⌜ now (img .exit) ≡ stored (recordsIn (now (list .entry))) (now (img .entry)) ⌝ }
 {
-    let n = list.len() / 520;
+    let n = list.len() / lists::RECORD_SIZE;
     let mut k: usize = 0;
     while k < n {
         put_record(img, list, k);
@@ -106,7 +106,7 @@ pub fn carry_out(img: &mut [u8], list: &[u8]) -> CarriedOut
     ensures { λ _. ⌜ now (img .exit) ≡ carryImage (now (img .entry)) (now (list .entry)) ⌝ }
 {
     if volume::is_whole(img.len()) {
-        if list.len() % 520 == 0 {
+        if list.len() % lists::RECORD_SIZE == 0 {
             if has_bad(list, (img.len() / 512) as u64) {
                 return answered(8);
             }

@@ -14,7 +14,7 @@ use Rattle.model.specs.Search.{tab}
 use Rattle.model.specs.Geometry.{superblockAt, reserveAt}
 use Rattle.model.specs.Disk.{Disk}
 use Rattle.model.specs.Superblock.{geometryIn}
-use Rattle.model.specs.WriteList.{Record, Group, Plan, sectorWrite, barrier, recordSize, recordBytes, listBytes, Emitted, staging, copies, sectorsOf, journalOf, groupA, superblockGroup, groupsOf, groupsFor, closedAfter, closed}
+use Rattle.model.specs.WriteList.{Record, Group, Plan, sectorWrite, barrier, recordSize, contentsStart, recordBytes, listBytes, Emitted, staging, copies, sectorsOf, journalOf, groupA, superblockGroup, groupsOf, groupsFor, closedAfter, closed}
 use Rattle.laws.proofs.Bytes.{run-more, run-ext, getD-run}
 use Rattle.laws.proofs.Search.{length-tab}
 use Rattle.laws.proofs.WriteList.{listBytes-append, emitted-then}
@@ -67,12 +67,12 @@ module _ (g : Geometry) (l : List ℕ) (ds ts : Group) (numbers m : List ℕ) (k
       ∙ ap (λ (x : List ℕ). getD x j 0) (st .numbered)
       ∙ sector-at ts j h
 
-  copied : (j : ℕ) → j < length ts → run m ((length ds + j) * recordSize + 8) 512 ≡ run (getD ts j barrier .contents) 0 512
+  copied : (j : ℕ) → j < length ts → run m ((length ds + j) * recordSize + contentsStart) 512 ≡ run (getD ts j barrier .contents) 0 512
   copied j h =
       let cs : Group = copies (staging g (length ts)) ts in
       let n : length (ds ++ cs) ≡ length ds + length ts = length-append ds cs ∙ ap (λ x. length ds + x) (length-copies (staging g (length ts)) ts) in
       let e : k ≡ length ds + length ts = staged-count st in
-      ap₂ (λ (x : List ℕ) (i : ℕ). run x (i * recordSize + 8) 512) (st .emitted .holds) (sym (zero-add (length ds + j)))
+      ap₂ (λ (x : List ℕ) (i : ℕ). run x (i * recordSize + contentsStart) 512) (st .emitted .holds) (sym (zero-add (length ds + j)))
       ∙ contents-emitted l 0 (ds ++ cs) (length ds + j) (omega arith) (omega arith)
       ∙ ap (λ (r : Record). run (r .contents) 0 512) (getD-append-add ds cs j barrier)
       ∙ ap (λ (c : List ℕ). run c 0 512) (copy-at (staging g (length ts)) ts j h)
@@ -80,13 +80,13 @@ module _ (g : Geometry) (l : List ℕ) (ds ts : Group) (numbers m : List ℕ) (k
   targets-same : listBytes (stagedTargets m (length ds) numbers (length ts)) ≡ listBytes ts
   unfolding stagedTargets
   targets-same =
-      bytes-tab (λ j. sectorWrite (getD numbers j 0) (run m ((length ds + j) * recordSize + 8) 512)) (λ j. getD ts j barrier) (length ts)
+      bytes-tab (λ j. sectorWrite (getD numbers j 0) (run m ((length ds + j) * recordSize + contentsStart) 512)) (λ j. getD ts j barrier) (length ts)
       (λ j h. ap₂ (λ (s : ℕ) (c : List ℕ). recordBytes (sectorWrite s c)) (noted j h) (copied j h) ∙ written (getD ts j barrier .sector) (getD ts j barrier .contents))
       ∙ ap listBytes (tab-list barrier ts)
 
 length-staged : (list : List ℕ) (from : ℕ) (numbers : List ℕ) (n : ℕ) → length (stagedTargets list from numbers n) ≡ n
 unfolding stagedTargets
-length-staged list from numbers n = length-tab (λ j. sectorWrite (getD numbers j 0) (run list ((from + j) * recordSize + 8) 512)) 0 n
+length-staged list from numbers n = length-tab (λ j. sectorWrite (getD numbers j 0) (run list ((from + j) * recordSize + contentsStart) 512)) 0 n
 
 -- ---- the commit behind them
 

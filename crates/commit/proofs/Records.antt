@@ -15,7 +15,7 @@ use Rattle.model.specs.Geometry.{superblockAt, journalAt, reserveAt}
 use Rattle.model.specs.Disk.{Disk}
 use Rattle.model.specs.Superblock.{geometryIn}
 use Rattle.model.specs.Journal.{journalSectors, entriesIn, journalSector}
-use Rattle.model.specs.WriteList.{Record, Group, Plan, sectorWrite, barrier, recordSize, recordBytes, listBytes, emit, Emitted, staging, copies, sectorsOf, journalOf, groupA, groupsOf, groupsFor, closedAfter, closed, listLength, recordCount}
+use Rattle.model.specs.WriteList.{Record, Group, Plan, sectorWrite, barrier, recordSize, contentsStart, recordBytes, listBytes, emit, Emitted, staging, copies, sectorsOf, journalOf, groupA, groupsOf, groupsFor, closedAfter, closed, listLength, recordCount}
 use Rattle.laws.proofs.Bytes.{length-beBytes, run-ext, run-run, run-put-other, run-put-in}
 use Rattle.laws.proofs.Search.{length-tab, getD-tab0, tab-more, tab-ext}
 use Rattle.laws.proofs.WriteList.{length-recordBytes, listBytes-append, length-listBytes, emitted-then}
@@ -38,26 +38,26 @@ contents-of r =
     run-right (beBytes 8 (r .sector)) (run (r .contents) 0 512) 8 0 512 (length-beBytes 8 (r .sector))
     ∙ run-run (r .contents) 0 512 0 512 (omega arith)
 
-contents-in : (rs : List Record) (i : ℕ) → i < length rs → run (listBytes rs) (i * recordSize + 8) 512 ≡ run (getD rs i barrier .contents) 0 512
+contents-in : (rs : List Record) (i : ℕ) → i < length rs → run (listBytes rs) (i * recordSize + contentsStart) 512 ≡ run (getD rs i barrier .contents) 0 512
 unfolding listBytes
 contents-in [] i h = absurd (not-suc-le-zero h)
 contents-in (r ∷ rs) zero h =
     run-left (recordBytes r) (listBytes rs) 8 512 (omega (arith, length-recordBytes r)) ∙ contents-of r
 contents-in (r ∷ rs) (suc i) h =
-    let e : suc i * recordSize + 8 ≡ 520 + (i * recordSize + 8) = omega arith in
+    let e : suc i * recordSize + contentsStart ≡ recordSize + (i * recordSize + contentsStart) = omega arith in
     ap (λ o. run (recordBytes r ++ listBytes rs) o 512) e
-    ∙ run-right (recordBytes r) (listBytes rs) 520 (i * recordSize + 8) 512 (length-recordBytes r)
+    ∙ run-right (recordBytes r) (listBytes rs) recordSize (i * recordSize + contentsStart) 512 (length-recordBytes r)
     ∙ contents-in rs i (omega arith)
 
 -- the contents of record i of those that were put in
 pub contents-emitted : (l : List ℕ) (k : ℕ) (rs : List Record) (i : ℕ) → i < length rs → (k + length rs) * recordSize ≤ length l
-    → run (emit l k rs) ((k + i) * recordSize + 8) 512 ≡ run (getD rs i barrier .contents) 0 512
+    → run (emit l k rs) ((k + i) * recordSize + contentsStart) 512 ≡ run (getD rs i barrier .contents) 0 512
 unfolding emit
 contents-emitted l k rs i h room =
-    let e : (k + i) * recordSize + 8 ≡ k * recordSize + (i * recordSize + 8) = omega arith in
+    let e : (k + i) * recordSize + contentsStart ≡ k * recordSize + (i * recordSize + contentsStart) = omega arith in
     let n : length (listBytes rs) ≡ length rs * recordSize = length-listBytes rs in
     ap (λ o. run (emit l k rs) o 512) e
-    ∙ run-put-in l (k * recordSize) (listBytes rs) (i * recordSize + 8) 512 (omega arith) (omega arith)
+    ∙ run-put-in l (k * recordSize) (listBytes rs) (i * recordSize + contentsStart) 512 (omega arith) (omega arith)
     ∙ contents-in rs i h
 
 -- what stands before them stays

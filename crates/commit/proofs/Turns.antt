@@ -13,7 +13,7 @@ use Rattle.model.specs.Geometry.{superblockAt, usable, journalAt, reserveAt}
 use Rattle.model.specs.Disk.{Disk}
 use Rattle.model.specs.Superblock.{withJournalLength}
 use Rattle.model.specs.Journal.{journalSectors, entriesIn, journalSector}
-use Rattle.model.specs.WriteList.{Record, sectorWrite, barrier, recordSize, emit, Emitted, staging, journalOf, closed}
+use Rattle.model.specs.WriteList.{Record, sectorWrite, barrier, recordSize, contentsStart, emit, Emitted, staging, journalOf, closed}
 use Rattle.model.specs.Opened.{Bounded}
 use Rattle.model.proofs.Areas.{product}
 use Rattle.laws.proofs.Bytes.{length-beBytes, length-run, put-append, getD-run}
@@ -51,20 +51,20 @@ journal-staged g numbers n =
 -- ---- the targets
 
 pub targets-more : {l m m′ : List ℕ} {k r : ℕ} (from : ℕ) (numbers : List ℕ) (j : ℕ) → Emitted l k (stagedTargets l from numbers j) m (k + j) → from + j < k
-    → Emitted m (k + j) (sectorWrite (getD numbers j 0) (run m ((from + j) * recordSize + 8) 512) ∷ []) m′ r
+    → Emitted m (k + j) (sectorWrite (getD numbers j 0) (run m ((from + j) * recordSize + contentsStart) 512) ∷ []) m′ r
     → Emitted l k (stagedTargets l from numbers (j + 1)) m′ (k + (j + 1))
 unfolding stagedTargets
 targets-more {l} {m} {m′} {k} {r} from numbers j p h q =
-    let kept : run m ((from + j) * recordSize + 8) 512 ≡ run l ((from + j) * recordSize + 8) 512 =
-    rw (p .holds) (run-before l k (stagedTargets l from numbers j) ((from + j) * recordSize + 8) 512 (omega arith)) in
-    emitted-more (λ j. sectorWrite (getD numbers j 0) (run l ((from + j) * recordSize + 8) 512)) p (rw kept at q)
+    let kept : run m ((from + j) * recordSize + contentsStart) 512 ≡ run l ((from + j) * recordSize + contentsStart) 512 =
+    rw (p .holds) (run-before l k (stagedTargets l from numbers j) ((from + j) * recordSize + contentsStart) 512 (omega arith)) in
+    emitted-more (λ j. sectorWrite (getD numbers j 0) (run l ((from + j) * recordSize + contentsStart) 512)) p (rw kept at q)
 
 -- copies that stand before all that was put in since are read as if it weren't there
 staged-before : (l : List ℕ) (k : ℕ) (rs : List Record) (from : ℕ) (numbers : List ℕ) (n : ℕ) → from + n ≤ k
     → stagedTargets (emit l k rs) from numbers n ≡ stagedTargets l from numbers n
 unfolding stagedTargets
 staged-before l k rs from numbers n h =
-    tab-ext _ _ 0 0 n (λ j i. ap (λ (c : List ℕ). sectorWrite (getD numbers (0 + j) 0) c) (run-before l k rs ((from + (0 + j)) * recordSize + 8) 512 (omega arith)))
+    tab-ext _ _ 0 0 n (λ j i. ap (λ (c : List ℕ). sectorWrite (getD numbers (0 + j) 0) c) (run-before l k rs ((from + (0 + j)) * recordSize + contentsStart) 512 (omega arith)))
 
 pub targets-kept : {l m m′ : List ℕ} {k i j : ℕ} {rs : List Record} (from : ℕ) (numbers : List ℕ) (n : ℕ) → from + n ≤ k → Emitted l k rs m i
     → Emitted m i (stagedTargets m from numbers n) m′ j → Emitted m i (stagedTargets l from numbers n) m′ j

@@ -8,11 +8,11 @@ use Rattle.model.specs.Bytes.{run}
 use Rattle.model.specs.Search.{tab}
 use Rattle.model.specs.Geometry.{SectorNumber}
 use Rattle.model.specs.Disk.{Disk}
-use Rattle.model.specs.WriteList.{Group, sectorWrite, recordSize, staging, copies, sectorsOf, journalOf, superblockGroup, Emitted}
+use Rattle.model.specs.WriteList.{Group, sectorWrite, recordSize, contentsStart, staging, copies, sectorsOf, journalOf, superblockGroup, Emitted}
 
 -- n targets of these sector numbers, with the contents of the records that the list holds from position from on: their copies
 unfoldable pub stagedTargets : List ℕ → ℕ → List SectorNumber → ℕ → Group
-stagedTargets list from numbers n = tab (λ j. sectorWrite (getD numbers j 0) (run list ((from + j) * recordSize + 8) 512)) 0 n
+stagedTargets list from numbers n = tab (λ j. sectorWrite (getD numbers j 0) (run list ((from + j) * recordSize + contentsStart) 512)) 0 n
 
 -- the four groups, the first of them without its data sectors and copies
 unfoldable pub commitGroups : Geometry → Disk → List ℕ → ℕ → List SectorNumber → ℕ → List Group

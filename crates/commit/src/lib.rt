@@ -12,7 +12,7 @@ ghost use Rattle.model.specs.Bytes.{run};
 ghost use Rattle.model.specs.Geometry.{reserveAt};
 ghost use Rattle.model.specs.Disk.{view};
 ghost use Rattle.model.specs.Journal.{journalSectors, entriesIn, journalSector};
-ghost use Rattle.model.specs.WriteList.{sectorWrite, recordSize, staging, journalOf, closed, recordCount, Emitted};
+ghost use Rattle.model.specs.WriteList.{sectorWrite, recordSize, contentsStart, staging, journalOf, closed, recordCount, Emitted};
 ghost use Rattle.model.specs.Opened.{Bounded};
 ghost use Rattle.commit.specs.Commit.{stagedTargets, commitGroups};
 
@@ -75,7 +75,7 @@ fn journal_sector(g: Geometry, numbers: &[u64], n: usize, j: usize) -> [u8; 512]
 }
 
 // The journal of n targets, from position k on.
-pub fn put_journal(list: &mut [u8], k: usize, g: Geometry, numbers: &[u64], n: usize) -> usize
+fn put_journal(list: &mut [u8], k: usize, g: Geometry, numbers: &[u64], n: usize) -> usize
     requires { ⌜ (k + journalSectors n) * recordSize ≤ length (now list) ⌝ }
     requires { ⌜ Bounded g ⌝ }
     requires { ⌜ (n ≤ 1024) × (n ≤ length (now numbers)) ⌝ }
@@ -98,10 +98,16 @@ pub fn put_journal(list: &mut [u8], k: usize, g: Geometry, numbers: &[u64], n: u
 // The contents of record k.
 fn contents_at(list: &[u8], k: usize) -> [u8; 512]
     requires { ⌜ (k + 1) * recordSize ≤ length (now list) ⌝ }
-    ensures { λ r. ⌜ r ≡ run (now (list .entry)) (k * recordSize + 8) 512 ⌝ }
+    ensures { λ r. ⌜ r ≡ run (now (list .entry)) (k * recordSize + contentsStart) 512 ⌝ }
 {
     let mut a = [0u8; 512];
-    fields::copy_run(list, k * 520 + 8, &mut a, 0, 512);
+    fields::copy_run(
+        list,
+        k * lists::RECORD_SIZE + lists::CONTENTS_START,
+        &mut a,
+        0,
+        512,
+    );
     a
 }
 
@@ -109,14 +115,14 @@ fn contents_at(list: &[u8], k: usize) -> [u8; 512]
 fn put_target(list: &mut [u8], k: usize, target: Sector, copy: usize) -> usize
     requires { ⌜ (k + 1) * recordSize ≤ length (now list) ⌝ }
     requires { ⌜ copy < k ⌝ }
-    ensures { λ r. ⌜ Emitted (now (list .entry)) k (sectorWrite (target .0) (run (now (list .entry)) (copy * recordSize + 8) 512) ∷ []) (now (list .exit)) r ⌝ }
+    ensures { λ r. ⌜ Emitted (now (list .entry)) k (sectorWrite (target .0) (run (now (list .entry)) (copy * recordSize + contentsStart) 512) ∷ []) (now (list .exit)) r ⌝ }
 {
     let s = contents_at(list, copy);
     lists::put_sector(list, k, target, s)
 }
 
 // The n targets, from position k on; their copies are the records from position `from` on.
-pub fn put_targets(list: &mut [u8], k: usize, numbers: &[u64], n: usize, from: usize) -> usize
+fn put_targets(list: &mut [u8], k: usize, numbers: &[u64], n: usize, from: usize) -> usize
     requires { ⌜ (k + n) * recordSize ≤ length (now list) ⌝ }
     requires { ⌜ n ≤ length (now numbers) ⌝ }
     requires { ⌜ from + n ≤ k ⌝ }

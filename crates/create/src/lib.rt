@@ -21,6 +21,9 @@ ghost use Rattle.model.specs.Create.{createConditions, createPlan, createCount,
 ghost use Rattle.model.specs.Opened.{Bounded, Opened};
 ghost use Rattle.create.specs.Front.{entryFront};
 
+// A create's list has 11 records.
+const LIST_SIZE: usize = 11 * lists::RECORD_SIZE;
+
 // ---- the refusals 8, 10 and 11
 
 fn is_at(p: Place) -> bool
@@ -162,12 +165,12 @@ pub fn create_in(img: &[u8], list: &mut [u8], name: &[u8], id: u64, mode: u32, t
     let g = volume::geometry_in(img);
     let v = own_verdict(img, g, name, id);
     if v.number == 0 {
-        if 5720 <= list.len() {
+        if LIST_SIZE <= list.len() {
             put_create(list, img, g, name, id, mode, time);
             let verdict = volume::refusal(0);
             return Changed {
                 verdict,
-                length: 5720,
+                length: LIST_SIZE as u64,
             };
         }
         return commit::refused(volume::refusal(14));

@@ -148,7 +148,7 @@ pub fn delete_in(img: &[u8], name: &[u8], time: u32, list: &mut [u8]) -> Changed
     let g = volume::geometry_in(img);
     if let Place::At(i) = directory::file_named(img, g, name) {
         let index = FileIndex(i as u64);
-        let needed = 520 * delete_count(img, g, index);
+        let needed = lists::RECORD_SIZE * delete_count(img, g, index);
         if needed <= list.len() {
             put_delete(img, g, index, time, list);
             let verdict = volume::refusal(0);

@@ -11,7 +11,7 @@ use borrow.Author.Tests.{lt-ltb, le-ltb, lt-leb, le-leb}
 use Rattle.model.specs.declared.Geometry.{Geometry}
 use Rattle.model.specs.Geometry.{extentSectors, inBounds}
 use Rattle.model.specs.Refusals.{verdictOf, refusal, done}
-use Rattle.model.specs.WriteList.{emit}
+use Rattle.model.specs.WriteList.{recordSize, emit}
 use Rattle.model.specs.Opened.{Bounded}
 use Rattle.model.proofs.Areas.{bounds}
 use Rattle.laws.proofs.Booleans.{and-right}
@@ -63,7 +63,7 @@ bounded sectors g e s = bounds g (and-right (leb (546 + g .files) sectors) (inBo
 
 module _ (a : Format) (p : ℕ) (out : List ℕ) (g : Geometry) (is : g ≡ geometryFor (a .sectors) (a .files)) where
   by-tests : formatVerdict a p (length out)
-      ≡ verdictOf ((not (isFormattable (a .sectors) g), refusal 8) ∷ (leb (formatCount g) p, refusal 9) ∷ (ltb (length out) 520, refusal 14) ∷ [])
+      ≡ verdictOf ((not (isFormattable (a .sectors) g), refusal 8) ∷ (leb (formatCount g) p, refusal 9) ∷ (ltb (length out) recordSize, refusal 14) ∷ [])
   unfolding formatVerdict canFormat geometryFor
   by-tests = rw is
 
@@ -81,12 +81,12 @@ module _ (a : Format) (p : ℕ) (out : List ℕ) (g : Geometry) (is : g ≡ geom
     unfolding verdictOf
     refused-9 h = refused-as 9 refl (by-tests ∙ rw (can, le-leb _ _ h))
 
-    pub refused-14 : p < formatCount g → length out < 520 → (record { number = 14; length = 0 } ≡ formatAnswer a p (length out)) × (out ≡ formatOutput a p out)
+    pub refused-14 : p < formatCount g → length out < recordSize → (record { number = 14; length = 0 } ≡ formatAnswer a p (length out)) × (out ≡ formatOutput a p out)
     unfolding verdictOf
     refused-14 h r = refused-as 14 refl (by-tests ∙ rw (can, lt-leb _ _ h, lt-ltb _ _ r))
 
-    pub accepted : p < formatCount g → 520 ≤ length out
-        → (record { number = 0; length = 520 } ≡ formatAnswer a p (length out)) × (emit out 0 (formatRecord g a p ∷ []) ≡ formatOutput a p out)
+    pub accepted : p < formatCount g → recordSize ≤ length out
+        → (record { number = 0; length = recordSize } ≡ formatAnswer a p (length out)) × (emit out 0 (formatRecord g a p ∷ []) ≡ formatOutput a p out)
     unfolding verdictOf formatAnswer formatOutput
     accepted h r =
         let v : formatVerdict a p (length out) ≡ done = by-tests ∙ rw (can, lt-leb _ _ h, le-ltb _ _ r) in

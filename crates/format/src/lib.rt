@@ -13,7 +13,7 @@ ghost use Rattle.model.specs.Bytes.{zeroSector, onesSector};
 ghost use Rattle.model.specs.Geometry.{tableAt, inBounds};
 ghost use Rattle.model.specs.Superblock.{newSuperblock};
 ghost use Rattle.model.specs.Root.{newRootSector};
-ghost use Rattle.model.specs.WriteList.{Emitted};
+ghost use Rattle.model.specs.WriteList.{recordSize, Emitted};
 ghost use Rattle.model.specs.Format.{Format, doubled, geometryFor, formatCount, formatRecord, formatAnswer, formatOutput};
 ghost use Rattle.model.specs.Opened.{Bounded};
 
@@ -51,7 +51,7 @@ fn extent_sectors_for(room: u64) -> u32
 }
 
 // The geometry that a sector count gives. It may break the bounds: N passes 65,535 where the doubling ends too early.
-pub fn geometry_for(sectors: u64, files: u64) -> Geometry
+fn geometry_for(sectors: u64, files: u64) -> Geometry
     ensures { λ r. ⌜ r ≡ geometryFor sectors files ⌝ }
 {
     let room = data_room(sectors, files);
@@ -136,7 +136,7 @@ fn table_sector(g: Geometry, j: u64) -> Sector
 fn put_record(g: Geometry, id: u64, mode: u32, time: u32, p: u64, out: &mut [u8]) -> usize
     requires { ⌜ Bounded g ⌝ }
     requires { ⌜ p < formatCount g ⌝ }
-    requires { ⌜ 520 ≤ length (now out) ⌝ }
+    requires { ⌜ recordSize ≤ length (now out) ⌝ }
     ensures { λ r. ⌜ ((a : Format) → a .id ≡ id → a .mode ≡ mode → a .time ≡ time → Emitted (now (out .entry)) 0 (formatRecord g a p ∷ []) (now (out .exit)) r) ⌝ }
 {
     if p == 0 {
@@ -189,11 +189,11 @@ pub fn format_record(
     let g = geometry_for(sectors, files);
     if can_format(sectors, g) {
         if position < record_count(g) {
-            if 520 <= out.len() {
+            if lists::RECORD_SIZE <= out.len() {
                 put_record(g, id, mode, time, position, out);
                 return Formatted {
                     number: 0,
-                    length: 520,
+                    length: lists::RECORD_SIZE as u64,
                 };
             }
             return refused(14);

@@ -11,7 +11,7 @@ ghost use Rattle.model.specs.Root.{updatedRootSector};
 ghost use Rattle.model.specs.Entry.{updatedEntrySector};
 
 // A version of 4,294,967,295 is followed by 0.
-pub fn next_version(version: u32) -> u32
+fn next_version(version: u32) -> u32
     ensures { λ r. ⌜ r ≡ raised version ⌝ }
 {
     std::num::wrapping_add_u32(version, 1)

@@ -1,4 +1,5 @@
 -- `carrying::has_bad` meets its contract. The loop's invariant: none of the records passed is bad.
+use Rattle.model.specs.WriteList.{recordSize}
 use borrow.Author.Needs.{needs}
 use Prim.Native.Nat.{_-_, _/_, _≤_}
 use mathlib.Core.Path.{_≡_, refl, sym, _∙_}
@@ -28,7 +29,7 @@ returns : tie.Need-returns Inv-loop μ-loop
 returns c =
     let a = c .before .before .before .before .before .args in
     let l = c .before .before .before .loop in
-    sym (some-true (badRecord (a .sectors) (a .list .now)) (l .k) (length (a .list .now) / 520) (c .before .before .loop-test .taken) (sym (c .before .is-bad .ensures) ∙ c .if1 .taken))
+    sym (some-true (badRecord (a .sectors) (a .list .now)) (l .k) (length (a .list .now) / recordSize) (c .before .before .loop-test .taken) (sym (c .before .is-bad .ensures) ∙ c .if1 .taken))
 
 add-k : tie.Need-add-k Inv-loop μ-loop
 add-k c = search needs
@@ -42,7 +43,7 @@ loop-again c = (search needs, rw (some-more, ← c .before .is-bad .ensures, c .
 returns-2 : tie.Need-returns-2 Inv-loop μ-loop
 returns-2 c =
     let l = c .before .loop in
-    let e : l .k ≡ length (c .before .before .before .args .list .now) / 520 = omega arith in
+    let e : l .k ≡ length (c .before .before .before .args .list .now) / recordSize = omega arith in
     rw (← e) (sym (l .inv .1))
 
 pub has-bad-spec : {M : Type 1} → statement M

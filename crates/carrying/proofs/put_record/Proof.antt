@@ -19,17 +19,17 @@ returns c =
     let a = c .before .before .before .before .args in
     barrier-stored (a .list .now) (a .k) (c .before .be64 .result) (c .before .be64 .ensures) (a .img .now) (c .if1 .taken)
 
-add-copy-run : tie.Need-add-copy-run
-add-copy-run c = search needs
+add-copy-sector : tie.Need-add-copy-sector
+add-copy-sector c = search needs
 
-mul-copy-run : tie.Need-mul-copy-run
-mul-copy-run c =
+mul-copy-sector : tie.Need-mul-copy-sector
+mul-copy-sector c =
     let a = c .before .before .before .before .before .args in
     let inside = sector-inside (a .list .now) (a .k) (c .before .before .be64 .result) (c .before .before .be64 .ensures) (length (a .img .now) / 512) (c .before .if1 .left) (c .before .before .before .before .before .pre .1) in
     omega arith
 
-copy-run-requires : tie.Need-copy-run-requires
-copy-run-requires c κs =
+copy-sector-requires : tie.Need-copy-sector-requires
+copy-sector-requires c κs =
     let a = c .before .before .before .before .before .args in
     let inside = sector-inside (a .list .now) (a .k) (c .before .before .be64 .result) (c .before .before .be64 .ensures) (length (a .img .now) / 512) (c .before .if1 .left) (c .before .before .before .before .before .pre .1) in
     (omega arith, omega arith)
@@ -40,7 +40,7 @@ same-length c = search needs
 returns-2 : tie.Need-returns-2
 returns-2 c =
     let a = c .before .before .before .before .before .before .before .before .args in
-    c .before .before .copy-run .ensures ∙ sector-stored (a .list .now) (a .k) (c .before .before .before .before .before .be64 .result) (c .before .before .before .before .before .be64 .ensures) (a .img .now) (c .before .before .before .before .if1 .left)
+    c .before .before .copy-sector .ensures ∙ sector-stored (a .list .now) (a .k) (c .before .before .before .before .before .be64 .result) (c .before .before .before .before .before .be64 .ensures) (a .img .now) (c .before .before .before .before .if1 .left)
 
 pub put-record-spec : {M : Type 1} → statement M
 put-record-spec =
@@ -49,8 +49,8 @@ put-record-spec =
     mul-at
     be64-requires
     returns
-    add-copy-run
-    mul-copy-run
-    copy-run-requires
+    add-copy-sector
+    mul-copy-sector
+    copy-sector-requires
     same-length
     returns-2)

@@ -1,4 +1,5 @@
 -- `carrying::put_records` meets its contract. The loop's invariant: the records passed are written.
+use Rattle.model.specs.WriteList.{recordSize}
 use borrow.Author.Needs.{needs}
 use Prim.Native.Nat.{_-_, _/_, _≤_}
 use mathlib.Core.Path.{_≡_, refl}
@@ -26,7 +27,7 @@ put-record-requires : tie.Need-put-record-requires Inv-loop μ-loop
 put-record-requires c κs =
     let a = c .before .before .before .before .before .args in
     let l = c .before .before .loop in
-    (search needs, rw (l .inv .2) (none-at (badRecord (length (a .img .now) / 512) (a .list .now)) (length (a .list .now) / 520) (c .before .before .before .before .before .pre) (l .k) (c .before .loop-test .taken)))
+    (search needs, rw (l .inv .2) (none-at (badRecord (length (a .img .now) / 512) (a .list .now)) (length (a .list .now) / recordSize) (c .before .before .before .before .before .pre) (l .k) (c .before .loop-test .taken)))
 
 add-k : tie.Need-add-k Inv-loop μ-loop
 add-k c = search needs
@@ -46,7 +47,7 @@ returns : tie.Need-returns Inv-loop μ-loop
 unfolding recordsIn
 returns c =
     let l = c .before .loop in
-    let e : l .k ≡ length (c .before .before .before .before .args .list .now) / 520 = omega arith in
+    let e : l .k ≡ length (c .before .before .before .before .args .list .now) / recordSize = omega arith in
     rw (← e) (l .inv .1)
 
 pub put-records-spec : {M : Type 1} → statement M

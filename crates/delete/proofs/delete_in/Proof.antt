@@ -8,6 +8,7 @@ use Rattle.laws.proofs.Refusals.{image-length}
 use Rattle.laws.proofs.Judged.{judged-image, judged-opened}
 use Rattle.laws.proofs.Named.{named-at, short-name}
 use Rattle.delete.proofs.Decisions.{delete-bad, delete-missing, delete-short, delete-done}
+use Rattle.model.specs.WriteList.{recordSize}
 use borrow.Author.Needs.{needs}
 use Rattle.delete.proofs.delete_in.Statement.{statement}
 use Rattle.delete.proofs.delete_in.Tie as tie
@@ -79,7 +80,7 @@ returns-2 c =
     let good = sym (f .before .before .before .bad-name .ensures) ∙ f .before .before .if1 .left in
     let found = sym (f .file-named .ensures) ∙ k .before .before .i .given .1 in
     rw (c .refusal2 .ensures)
-    (delete-done (a .img .now) (a .list .now) (a .name .now) (a .time) (s .pre) (k .before .before .i .given .0 .0) good found (520 * k .delete-count .result) (omega (arith, k .delete-count .ensures .0)) (omega arith) (c .before .before .before .put-delete .ensures))
+    (delete-done (a .img .now) (a .list .now) (a .name .now) (a .time) (s .pre) (k .before .before .i .given .0 .0) good found (recordSize * k .delete-count .result) (omega (arith, k .delete-count .ensures .0)) (omega arith) (c .before .before .before .put-delete .ensures))
 
 refusal-requires-3 : tie.Need-refusal-requires-3
 refusal-requires-3 c κs = search needs

@@ -12,22 +12,22 @@ use lib.ListN.{length, getD, set, length-set}
 use lib.Seq.{getD-set-same, getD-set-other}
 use borrow.Author.Tests.{eq-eqb, ne-eqb, eqb-true, eqb-false, le-leb, lt-leb}
 use Rattle.model.specs.declared.Geometry.{Geometry}
-use Rattle.model.specs.Search.{some}
+use Rattle.model.specs.Search.{anyBelow}
 use Rattle.model.specs.Disk.{Disk}
 use Rattle.model.specs.Table.{freeFile, tableFile, tableOffset}
 use Rattle.laws.proofs.Booleans.{or-right}
-use Rattle.laws.proofs.Search.{some-more}
+use Rattle.laws.proofs.Search.{anyBelow-more}
 use Rattle.allocation.specs.Marks.{bit, needed, startOf, holds, isExtra, Rising, Starts, Marks}
 use Rattle.allocation.proofs.Sums.{sumTo-next, sumTo-step}
 
-some-stays : (p : ℕ → Bool) (k : ℕ) → p k ≡ false → some p k ≡ some p (k + 1)
-some-stays p k e = rw (some-more p k, e)
+anyBelow-stays : (p : ℕ → Bool) (k : ℕ) → p k ≡ false → anyBelow p k ≡ anyBelow p (k + 1)
+anyBelow-stays p k e = rw (anyBelow-more p k, e)
 
-some-here : (p : ℕ → Bool) (k : ℕ) → p k ≡ true → true ≡ some p (k + 1)
-some-here p k e = rw (some-more p k, e)
+anyBelow-here : (p : ℕ → Bool) (k : ℕ) → p k ≡ true → true ≡ anyBelow p (k + 1)
+anyBelow-here p k e = rw (anyBelow-more p k, e)
 
-some-kept : (p : ℕ → Bool) (k : ℕ) → some p k ≡ true → some p (k + 1) ≡ true
-some-kept p k e = some-more p k ∙ or-right (p k) (some p k) e
+some-kept : (p : ℕ → Bool) (k : ℕ) → anyBelow p k ≡ true → anyBelow p (k + 1) ≡ true
+some-kept p k e = anyBelow-more p k ∙ or-right (p k) (anyBelow p k) e
 
 bit-true : (b : Bool) → bit b ≡ 1 → b ≡ true
 bit-true true e = refl
@@ -81,7 +81,7 @@ module _ (g : Geometry) (d : Disk) where
   -- an array of zeros has no mark
   pub no-marks : (m : ℕ) (starts seen : List ℕ) → Starts g d m starts → g .extents ≤ length seen → ((p : ℕ) → p < length seen → getD seen p 0 ≡ 0)
       → (m < g .files → g .extents < startOf g d (m + 1)) → Marks g d 0 m seen
-  unfolding some
+  unfolding anyBelow
   no-marks m starts seen S room unmarked why = record {
     size = room;
     seen-at = λ i li o lo. unmarked (startOf g d i + o) (omega (arith, S .fits, apart i m li));
@@ -98,13 +98,13 @@ module _ (g : Geometry) (d : Disk) where
     not-extra : (i : ℕ) → f ≢ i → isExtra g d i k ≡ false
     not-extra i ne = rw (← ef, ne-eqb f i ne)
 
-    seen-other : (i p : ℕ) → i < m → p < needed g d i → f ≢ i → getD seen (startOf g d i + p) 0 ≡ bit (some (holds g d i p) (k + 1))
-    seen-other i p li lp ne = M .seen-at i li p lp ∙ ap bit (some-stays (holds g d i p) k (not-held i p ne))
+    seen-other : (i p : ℕ) → i < m → p < needed g d i → f ≢ i → getD seen (startOf g d i + p) 0 ≡ bit (anyBelow (holds g d i p) (k + 1))
+    seen-other i p li lp ne = M .seen-at i li p lp ∙ ap bit (anyBelow-stays (holds g d i p) k (not-held i p ne))
 
-    none-other : (i : ℕ) → i < m → f ≢ i → some (isExtra g d i) (k + 1) ≡ false
-    none-other i li ne = sym (some-stays (isExtra g d i) k (not-extra i ne)) ∙ M .none i li
+    none-other : (i : ℕ) → i < m → f ≢ i → anyBelow (isExtra g d i) (k + 1) ≡ false
+    none-other i li ne = sym (anyBelow-stays (isExtra g d i) k (not-extra i ne)) ∙ M .none i li
 
-    still : m < g .files → (some (isExtra g d m) (k + 1) ≡ true) ⊎ (g .extents < startOf g d (m + 1))
+    still : m < g .files → (anyBelow (isExtra g d m) (k + 1) ≡ true) ⊎ (g .extents < startOf g d (m + 1))
     still l = ⊎-elim (λ e. inl (some-kept (isExtra g d m) k e)) (λ h. inr h) (M .why l)
 
     pub mark-later : m ≤ f → Marks g d (k + 1) m seen
@@ -116,12 +116,12 @@ module _ (g : Geometry) (d : Disk) where
     }
 
     module _ (o : ℕ) (eo : o ≡ tableOffset g d k) where
-      mark-extra : f < m → (leb (needed g d f) o || some (holds g d f o) k) ≡ true → Marks g d (k + 1) f seen
+      mark-extra : f < m → (leb (needed g d f) o || anyBelow (holds g d f o) k) ≡ true → Marks g d (k + 1) f seen
       mark-extra l x = record {
         size = M .size;
         seen-at = λ i li p lp. seen-other i p (omega arith) lp (λ e. omega arith);
         none = λ i li. none-other i (omega arith) (λ e. omega arith);
-        why = λ h. inl (sym (some-here (isExtra g d f) k (rw (← ef, ← eo, eq-eqb f f refl) x)));
+        why = λ h. inl (sym (anyBelow-here (isExtra g d f) k (rw (← ef, ← eo, eq-eqb f f refl) x)));
       }
 
       mark-large : f < m → needed g d f ≤ o → Marks g d (k + 1) f seen
@@ -129,7 +129,7 @@ module _ (g : Geometry) (d : Disk) where
 
       module _ (l : f < m) (lo : o < needed g d f) where
         mark-again : getD seen (startOf g d f + o) 0 ≡ 1 → Marks g d (k + 1) f seen
-        mark-again e = mark-extra l (or-right (leb (needed g d f) o) (some (holds g d f o) k) (bit-true (some (holds g d f o) k) (sym (M .seen-at f l o lo) ∙ e)))
+        mark-again e = mark-extra l (or-right (leb (needed g d f) o) (anyBelow (holds g d f o) k) (bit-true (anyBelow (holds g d f o) k) (sym (M .seen-at f l o lo) ∙ e)))
 
         clash : (i p : ℕ) → p < needed g d i → f ≢ i → startOf g d i + p ≢ startOf g d f + o
         clash i p lp ne e = go (decLt i f)
@@ -139,28 +139,28 @@ module _ (g : Geometry) (d : Disk) where
             go (no h) = let s : f < i = omega arith in omega (arith, apart f i s)
 
         module _ (fits : startOf g d f + o < length seen) (new : getD seen (startOf g d f + o) 0 ≡ 1 → ⊥) where
-          first-met : some (holds g d f o) k ≡ false
-          first-met = bit-false (some (holds g d f o) k) (λ e. new (M .seen-at f l o lo ∙ e))
+          first-met : anyBelow (holds g d f o) k ≡ false
+          first-met = bit-false (anyBelow (holds g d f o) k) (λ e. new (M .seen-at f l o lo ∙ e))
 
           after : (i p : ℕ) → i < m → p < needed g d i → (a b : Bool) → eqb f i ≡ a → eqb o p ≡ b
-              → getD (set seen (startOf g d f + o) 1) (startOf g d i + p) 0 ≡ bit (some (holds g d i p) (k + 1))
+              → getD (set seen (startOf g d f + o) 1) (startOf g d i + p) 0 ≡ bit (anyBelow (holds g d i p) (k + 1))
           after i p li lp true true s t =
               rw (← eqb-true f i s, ← eqb-true o p t)
-              (getD-set-same seen (startOf g d f + o) 1 0 fits ∙ ap bit (some-here (holds g d f o) k (rw (← ef, ← eo, eq-eqb f f refl) (eq-eqb o o refl))))
+              (getD-set-same seen (startOf g d f + o) 1 0 fits ∙ ap bit (anyBelow-here (holds g d f o) k (rw (← ef, ← eo, eq-eqb f f refl) (eq-eqb o o refl))))
           after i p li lp true false s t =
               let ne : o ≢ p = eqb-false o p t in
               rw (← eqb-true f i s)
               (getD-set-other seen (startOf g d f + o) (startOf g d f + p) 1 0 (λ e. ne (same-end (startOf g d f) o p (sym e)))
               ∙ M .seen-at f l p (rw (← eqb-true f i s) at lp)
-              ∙ ap bit (some-stays (holds g d f p) k (rw (← ef, ← eo, eq-eqb f f refl) t)))
+              ∙ ap bit (anyBelow-stays (holds g d f p) k (rw (← ef, ← eo, eq-eqb f f refl) t)))
           after i p li lp false b s t =
               let ne : f ≢ i = eqb-false f i s in
               getD-set-other seen (startOf g d f + o) (startOf g d i + p) 1 0 (clash i p lp ne) ∙ seen-other i p li lp ne
 
-          none-after : (i : ℕ) → i < m → (a : Bool) → eqb f i ≡ a → some (isExtra g d i) (k + 1) ≡ false
+          none-after : (i : ℕ) → i < m → (a : Bool) → eqb f i ≡ a → anyBelow (isExtra g d i) (k + 1) ≡ false
           none-after i li true s =
               rw (← eqb-true f i s)
-              (sym (some-stays (isExtra g d f) k (rw (← ef, ← eo, eq-eqb f f refl, lt-leb (needed g d f) o lo) first-met)) ∙ M .none f l)
+              (sym (anyBelow-stays (isExtra g d f) k (rw (← ef, ← eo, eq-eqb f f refl, lt-leb (needed g d f) o lo) first-met)) ∙ M .none f l)
           none-after i li false s = none-other i li (eqb-false f i s)
 
           mark-new : Marks g d (k + 1) m (set seen (startOf g d f + o) 1)

@@ -11,9 +11,9 @@ use lib.Dec.{eqb, ltb}
 use lib.ListN.{length, getD, set}
 use lib.Seq.{getD-set-same, getD-set-other}
 use borrow.Author.Tests.{lt-ltb, le-ltb, eqb-true, eqb-false, ltb-true, ltb-false}
-use Rattle.model.specs.Search.{count}
-use Rattle.laws.proofs.Search.{some-no}
-use Rattle.laws.proofs.Count.{count-none, count-split}
+use Rattle.model.specs.Search.{countBelow}
+use Rattle.laws.proofs.Search.{anyBelow-no}
+use Rattle.laws.proofs.Count.{countBelow-none, countBelow-split}
 use Rattle.allocation.specs.Marks.{bit, sumTo}
 
 pub sumTo-next : (h : ℕ → ℕ) (i : ℕ) → sumTo h (i + 1) ≡ h i + sumTo h i
@@ -52,12 +52,12 @@ none-below x true = le-ltb x 0 (omega arith)
 none-below x false = refl
 
 -- those of value below c are those of value 0, of 1, .. and of c - 1
-pub by-value : (q : ℕ → Bool) (v : ℕ → ℕ) (n c : ℕ) → count (λ e. q e && ltb (v e) c) n ≡ sumTo (λ o. count (λ e. q e && eqb (v e) o) n) c
+pub by-value : (q : ℕ → Bool) (v : ℕ → ℕ) (n c : ℕ) → countBelow (λ e. q e && ltb (v e) c) n ≡ sumTo (λ o. countBelow (λ e. q e && eqb (v e) o) n) c
 unfolding sumTo
-by-value q v n zero = count-none _ n (some-no _ n (λ j l. none-below (v j) (q j)))
+by-value q v n zero = countBelow-none _ n (anyBelow-no _ n (λ j l. none-below (v j) (q j)))
 by-value q v n (suc c) =
-    count-split (λ e. q e && ltb (v e) (suc c)) (λ e. q e && eqb (v e) c) (λ e. q e && ltb (v e) c) n (λ e. split-value (q e) (v e) c)
-    ∙ ap (λ (k : ℕ). count (λ e. q e && eqb (v e) c) n + k) (by-value q v n c)
+    countBelow-split (λ e. q e && ltb (v e) (suc c)) (λ e. q e && eqb (v e) c) (λ e. q e && ltb (v e) c) n (λ e. split-value (q e) (v e) c)
+    ∙ ap (λ (k : ℕ). countBelow (λ e. q e && eqb (v e) c) n + k) (by-value q v n c)
 
 -- ---- an array that is filled from the front
 

@@ -10,11 +10,11 @@ use lib.Dec.{eqb, ltb}
 use lib.ListN.{getD}
 use borrow.Author.Tests.{lt-ltb, ne-eqb, eqb-true}
 use Rattle.model.specs.declared.Geometry.{Geometry}
-use Rattle.model.specs.declared.Place.{Place}
-use Rattle.model.specs.declared.Place.the-variants.{At, Nowhere}
+use Rattle.model.specs.declared.Lowest.{Lowest}
+use Rattle.model.specs.declared.Lowest.the-variants.{At, Nowhere}
 use Rattle.model.specs.declared.Soundness.the-variants.{Sound, Faulty}
 use Rattle.model.specs.Bytes.{beAt}
-use Rattle.model.specs.Search.{first, some, count}
+use Rattle.model.specs.Search.{first, anyBelow, countBelow}
 use Rattle.model.specs.Geometry.{entryAt, extentsFor}
 use Rattle.model.specs.Disk.{Disk}
 use Rattle.model.specs.Superblock.{geometryIn}
@@ -22,12 +22,12 @@ use Rattle.model.specs.Entry.{isOccupied}
 use Rattle.model.specs.Table.{tableFile, tableOffset, freeFile}
 use Rattle.model.specs.Catalogue.{catalogueOf}
 use Rattle.model.specs.Faults.{exact, fault25, fault26, orElse}
-use Rattle.laws.proofs.Search.{some-ext, some-no, first-ext, first-missed}
+use Rattle.laws.proofs.Search.{anyBelow-ext, anyBelow-no, first-ext, first-missed}
 use Rattle.laws.proofs.Catalogue.{fault26-is, exact-is}
 use Rattle.allocation.proofs.Misplaced.{fault25-on, needs-none}
 use Rattle.allocation.specs.Marks.{tableFault, bit, needed, startOf, owns, holds, isExtra, lacks, Starts, Marks}
 use Rattle.laws.proofs.Seeking.{first-found, first-there}
-use Rattle.laws.proofs.Count.{count-le}
+use Rattle.laws.proofs.Count.{countBelow-le}
 use Rattle.allocation.proofs.Sums.{by-value, sumTo-mono}
 use Rattle.allocation.proofs.Exact.{exactly, exact-unless, exactly-count, surplus}
 use Rattle.allocation.proofs.Marks.{start-next}
@@ -63,10 +63,10 @@ module _ (g : Geometry) (d : Disk) (is : g ≡ geometryIn (d 0)) (small : g .fil
   fault26-on i l = rw is (fault26-of d i (rw is at l) (omega arith))
 
   -- a file that isn't at fault has as many extents as it needs
-  has-enough : (i : ℕ) → i < g .files → fault26 (catalogueOf d) i ≡ false → needed g d i ≤ count (owns g d i) (g .extents)
+  has-enough : (i : ℕ) → i < g .files → fault26 (catalogueOf d) i ≡ false → needed g d i ≤ countBelow (owns g d i) (g .extents)
   has-enough i l e = go (isOccupied (d (entryAt i))) refl (right g d i (needed g d i)) refl
     where
-      go : (a : Bool) → isOccupied (d (entryAt i)) ≡ a → (b : Bool) → right g d i (needed g d i) ≡ b → needed g d i ≤ count (owns g d i) (g .extents)
+      go : (a : Bool) → isOccupied (d (entryAt i)) ≡ a → (b : Bool) → right g d i (needed g d i) ≡ b → needed g d i ≤ countBelow (owns g d i) (g .extents)
       go false s b t = omega (arith, needs-none g d i s)
       go true s true t = omega (arith, exactly-count (owns g d i) (tableOffset g d) (g .extents) (needed g d i) t)
       go true s false t = absurd (true≢false (sym (fault26-on i l ∙ rw (s, t)) ∙ e))
@@ -76,7 +76,7 @@ module _ (g : Geometry) (d : Disk) (is : g ≡ geometryIn (d 0)) (small : g .fil
   unfolding startOf
   overfull m l before more = go (fault26 (catalogueOf d) m) refl
     where
-      each : fault26 (catalogueOf d) m ≡ false → (i : ℕ) → i < m + 1 → needed g d i ≤ count (owns g d i) (g .extents)
+      each : fault26 (catalogueOf d) m ≡ false → (i : ℕ) → i < m + 1 → needed g d i ≤ countBelow (owns g d i) (g .extents)
       each e i h = ⊎-elim (λ (q : i ≡ m). has-enough i (omega arith) (ap (fault26 (catalogueOf d)) q ∙ e)) (λ (s : i < m). has-enough i (omega arith) (before i s)) (eq-or-lt-of-le (let le : i ≤ m = omega arith in le))
 
       go : (b : Bool) → fault26 (catalogueOf d) m ≡ b → b ≡ true
@@ -85,17 +85,17 @@ module _ (g : Geometry) (d : Disk) (is : g ≡ geometryIn (d 0)) (small : g .fil
           absurd
           (omega (
             arith,
-            sumTo-mono (needed g d) (λ i. count (owns g d i) (g .extents)) (m + 1) (each e),
+            sumTo-mono (needed g d) (λ i. countBelow (owns g d i) (g .extents)) (m + 1) (each e),
             by-value (λ k. true) (tableFile g d) (g .extents) (m + 1),
-            count-le (λ k. true && ltb (tableFile g d k) (m + 1)) (g .extents),
+            countBelow-le (λ k. true && ltb (tableFile g d k) (m + 1)) (g .extents),
           ))
 
   pub misplaced-at : (e : ℕ) → At e ≡ first (fault25 (catalogueOf d)) (g .extents) → Faulty 25 e ≡ tableFault g d
-  misplaced-at e h = ap (λ (p : Place). orElse 25 p (orElse 26 (first (fault26 (catalogueOf d)) (g .files)) Sound)) h
+  misplaced-at e h = ap (λ (p : Lowest). orElse 25 p (orElse 26 (first (fault26 (catalogueOf d)) (g .files)) Sound)) h
 
   module _ (sound : first (fault25 (catalogueOf d)) (g .extents) ≡ Nowhere) where
     -- what the search for fault 26 finds is the answer
-    rest : {p : Place} → first (fault26 (catalogueOf d)) (g .files) ≡ p → orElse 26 p Sound ≡ tableFault g d
+    rest : {p : Lowest} → first (fault26 (catalogueOf d)) (g .files) ≡ p → orElse 26 p Sound ≡ tableFault g d
     rest h = rw (sound, h)
 
     -- an extent is an occupied file's
@@ -114,25 +114,25 @@ module _ (g : Geometry) (d : Disk) (is : g ≡ geometryIn (d 0)) (small : g .fil
       at-fault : m < g .files → ((i : ℕ) → i < m → fault26 (catalogueOf d) i ≡ false) → fault26 (catalogueOf d) m ≡ true
       at-fault l before = ⊎-elim (extra (isOccupied (d (entryAt m))) refl) (overfull m l before) (M .why l)
         where
-          extra : (b : Bool) → isOccupied (d (entryAt m)) ≡ b → some (isExtra g d m) (g .extents) ≡ true → fault26 (catalogueOf d) m ≡ true
+          extra : (b : Bool) → isOccupied (d (entryAt m)) ≡ b → anyBelow (isExtra g d m) (g .extents) ≡ true → fault26 (catalogueOf d) m ≡ true
           extra true s e = fault26-on m l ∙ rw (s, surplus (owns g d m) (tableOffset g d) (g .extents) (needed g d m) e)
-          extra false s e = absurd (true≢false (sym e ∙ some-no (isExtra g d m) (g .extents) (λ j h. rw (owned m j l h s))))
+          extra false s e = absurd (true≢false (sym e ∙ anyBelow-no (isExtra g d m) (g .extents) (λ j h. rw (owned m j l h s))))
 
-      lacks-is : (i : ℕ) → i < m → lacks starts seen i ≡ some (λ k. not (some (holds g d i k) (g .extents))) (needed g d i)
+      lacks-is : (i : ℕ) → i < m → lacks starts seen i ≡ anyBelow (λ k. not (anyBelow (holds g d i k) (g .extents))) (needed g d i)
       lacks-is i l =
           let n : startOf g d (i + 1) - startOf g d i ≡ needed g d i = omega (arith, start-next g d i) in
           rw (S .at i (omega arith), S .at (i + 1) (omega arith), n)
-          (some-ext (λ k. eqb (getD seen (startOf g d i + k) 0) 0) (λ k. not (some (holds g d i k) (g .extents))) (needed g d i)
-          (λ k h. ap (λ (x : ℕ). eqb x 0) (M .seen-at i l k h) ∙ unseen (some (holds g d i k) (g .extents))))
+          (anyBelow-ext (λ k. eqb (getD seen (startOf g d i + k) 0) 0) (λ k. not (anyBelow (holds g d i k) (g .extents))) (needed g d i)
+          (λ k h. ap (λ (x : ℕ). eqb x 0) (M .seen-at i l k h) ∙ unseen (anyBelow (holds g d i k) (g .extents))))
 
       judged : (i : ℕ) → i < m → lacks starts seen i ≡ fault26 (catalogueOf d) i
-      unfolding some
+      unfolding anyBelow
       judged i l = lacks-is i l ∙ sym (fault26-on i (omega (arith, S .files)) ∙ go (isOccupied (d (entryAt i))) refl)
         where
-          go : (b : Bool) → isOccupied (d (entryAt i)) ≡ b → (b && not (right g d i (needed g d i))) ≡ some (λ k. not (some (holds g d i k) (g .extents))) (needed g d i)
+          go : (b : Bool) → isOccupied (d (entryAt i)) ≡ b → (b && not (right g d i (needed g d i))) ≡ anyBelow (λ k. not (anyBelow (holds g d i k) (g .extents))) (needed g d i)
           go true s =
               ap not (exact-unless (owns g d i) (tableOffset g d) (g .extents) (needed g d i) (M .none i l))
-              ∙ not-not (some (λ k. not (some (holds g d i k) (g .extents))) (needed g d i))
+              ∙ not-not (anyBelow (λ k. not (anyBelow (holds g d i k) (g .extents))) (needed g d i))
           go false s = rw (needs-none g d i s)
 
       same-first : first (lacks starts seen) m ≡ first (fault26 (catalogueOf d)) m

@@ -8,12 +8,12 @@ use mathlib.Core.List.{List}
 use lib.Dec.{eqb, leb}
 use lib.ListN.{length, getD}
 use Rattle.model.specs.declared.Geometry.{Geometry}
-use Rattle.model.specs.declared.Place.{Place}
-use Rattle.model.specs.declared.Place.the-variants.{Nowhere}
+use Rattle.model.specs.declared.Lowest.{Lowest}
+use Rattle.model.specs.declared.Lowest.the-variants.{Nowhere}
 use Rattle.model.specs.declared.Soundness.{Soundness}
 use Rattle.model.specs.declared.Soundness.the-variants.{Sound}
 use Rattle.model.specs.Bytes.{numberIn}
-use Rattle.model.specs.Search.{scan, first, some}
+use Rattle.model.specs.Search.{scan, first, anyBelow}
 use Rattle.model.specs.Geometry.{FileNumber, ExtentNumber, entryAt, extentsFor}
 use Rattle.model.specs.Disk.{Disk}
 use Rattle.model.specs.Entry.{entryField, isOccupied}
@@ -51,7 +51,7 @@ module _ (g : Geometry) (d : Disk) where
 
   -- extent e is one too many for file i: past those that it needs, or of an offset that a lower extent has
   abbrev pub isExtra : FileNumber → ExtentNumber → Bool
-  isExtra i e = owns i e && (leb (needed i) (tableOffset g d e) || some (holds i (tableOffset g d e)) e)
+  isExtra i e = owns i e && (leb (needed i) (tableOffset g d e) || anyBelow (holds i (tableOffset g d e)) e)
 
   -- the starts of files 0 to m; the bytes of those below m are no more than there are extents
   pub record Starts (m : ℕ) (starts : List ℕ) : Type 0 where
@@ -63,12 +63,12 @@ module _ (g : Geometry) (d : Disk) where
   -- after the first k extents: no file below m has one too many, and if m is a file it is at fault
   pub record Marks (k m : ℕ) (seen : List ℕ) : Type 0 where
     pub size : g .extents ≤ length seen
-    pub seen-at : (i : FileNumber) → i < m → (o : ℕ) → o < needed i → getD seen (startOf i + o) 0 ≡ bit (some (holds i o) k)
-    pub none : (i : FileNumber) → i < m → some (isExtra i) k ≡ false
-    pub why : m < g .files → (some (isExtra m) k ≡ true) ⊎ (g .extents < startOf (m + 1))
+    pub seen-at : (i : FileNumber) → i < m → (o : ℕ) → o < needed i → getD seen (startOf i + o) 0 ≡ bit (anyBelow (holds i o) k)
+    pub none : (i : FileNumber) → i < m → anyBelow (isExtra i) k ≡ false
+    pub why : m < g .files → (anyBelow (isExtra m) k ≡ true) ⊎ (g .extents < startOf (m + 1))
 
   -- a pass over the extents from one to another: the first with fault 25 among them, or none, and the marks of all so far
-  pub record Passed (from to f : ℕ) (misplaced : Place) (reached : ℕ) (seen : List ℕ) : Type 0 where
+  pub record Passed (from to f : ℕ) (misplaced : Lowest) (reached : ℕ) (seen : List ℕ) : Type 0 where
     pub found : misplaced ≡ scan (fault25 (catalogueOf d)) (to - from) from
     pub marks : misplaced ≡ Nowhere → Marks to reached seen
     pub lower : misplaced ≡ Nowhere → reached ≤ f
@@ -81,4 +81,4 @@ pub record Rising (starts : List ℕ) (m n : ℕ) : Type 0 where
 
 -- file i lacks an extent, by the arrays
 abbrev pub lacks : List ℕ → List ℕ → FileNumber → Bool
-lacks starts seen i = some (λ k. eqb (getD seen (getD starts i 0 + k) 0) 0) (getD starts (i + 1) 0 - getD starts i 0)
+lacks starts seen i = anyBelow (λ k. eqb (getD seen (getD starts i 0 + k) 0) 0) (getD starts (i + 1) 0 - getD starts i 0)

@@ -3,13 +3,13 @@
 use model::Extent;
 use model::FileIndex;
 use model::Geometry;
-use model::Place;
+use model::Lowest;
 use model::Soundness;
 ghost use mathlib.Core.Path.{_≡_};
 ghost use Prim.Native.Nat.{ℕ, _+_, _-_, _≤_, _<_};
 ghost use lib.Dec.{eqb};
 ghost use lib.ListN.{length, getD};
-ghost use Rattle.model.specs.Search.{first, some};
+ghost use Rattle.model.specs.Search.{first, anyBelow};
 ghost use Rattle.model.specs.Geometry.{usable};
 ghost use Rattle.model.specs.Disk.{view};
 ghost use Rattle.model.specs.Opened.{Opened};
@@ -132,7 +132,7 @@ fn mark(
 // What the pass over the table has met.
 struct Pass {
     // the lowest extent of fault 25
-    misplaced: Place,
+    misplaced: Lowest,
     // the files below this one have no extent too many
     reached: usize,
 }
@@ -160,7 +160,7 @@ fn pass_part(
         let next = mark(img, g, u, Extent(e), starts, m, seen);
         if next.misplaced {
             return Pass {
-                misplaced: Place::At(e as usize),
+                misplaced: Lowest::At(e as usize),
                 reached: m,
             };
         }
@@ -168,7 +168,7 @@ fn pass_part(
         e += 1;
     }
     Pass {
-        misplaced: Place::Nowhere,
+        misplaced: Lowest::Nowhere,
         reached: m,
     }
 }
@@ -183,7 +183,7 @@ fn pass_sector(img: &[u8], g: Geometry, e: u64, starts: &[u16], f: usize, seen: 
 {
     if table::all_free(img, g, e) {
         return Pass {
-            misplaced: Place::Nowhere,
+            misplaced: Lowest::Nowhere,
             reached: f,
         };
     }
@@ -203,9 +203,9 @@ fn pass_over(img: &[u8], g: Geometry, starts: &[u16], f: usize, seen: &mut [u8])
     while e + 128 <= n {
         let p = pass_sector(img, g, e, starts, m, seen);
         let misplaced = p.misplaced;
-        if let Place::At(k) = misplaced {
+        if let Lowest::At(k) = misplaced {
             return Pass {
-                misplaced: Place::At(k),
+                misplaced: Lowest::At(k),
                 reached: m,
             };
         }
@@ -218,13 +218,13 @@ fn pass_over(img: &[u8], g: Geometry, starts: &[u16], f: usize, seen: &mut [u8])
 // A byte from a to b - 1 is 0.
 fn has_unseen(seen: &[u8], a: usize, b: usize) -> bool
     requires { ⌜ (a ≤ b) × (b ≤ length (now seen)) ⌝ }
-    ensures { λ r. ⌜ r ≡ some (λ k. eqb (getD (now (seen .entry)) (a + k) 0) 0) (b - a) ⌝ }
+    ensures { λ r. ⌜ r ≡ anyBelow (λ k. eqb (getD (now (seen .entry)) (a + k) 0) 0) (b - a) ⌝ }
 {
     fields::has_zero(&seen[a..b])
 }
 
 // The lowest file below m that lacks an extent.
-fn lowest_lacking(starts: &[u16], seen: &[u8], m: usize) -> Place
+fn lowest_lacking(starts: &[u16], seen: &[u8], m: usize) -> Lowest
     requires { ⌜ m < length (now starts) ⌝ }
     requires { ⌜ Rising (now starts) m (length (now seen)) ⌝ }
     ensures { λ r. ⌜ r ≡ first (lacks (now (starts .entry)) (now (seen .entry))) m ⌝ }
@@ -232,15 +232,15 @@ fn lowest_lacking(starts: &[u16], seen: &[u8], m: usize) -> Place
     let mut i: usize = 0;
     while i < m {
         if has_unseen(seen, starts[i] as usize, starts[i + 1] as usize) {
-            return Place::At(i);
+            return Lowest::At(i);
         }
         i += 1;
     }
-    Place::Nowhere
+    Lowest::Nowhere
 }
 
 // The same. In a sound volume none lacks one: the bytes of all are looked at first, at once.
-fn first_lacking(starts: &[u16], seen: &[u8], m: usize) -> Place
+fn first_lacking(starts: &[u16], seen: &[u8], m: usize) -> Lowest
     requires { ⌜ m < length (now starts) ⌝ }
     requires { ⌜ Rising (now starts) m (length (now seen)) ⌝ }
     ensures { λ r. ⌜ r ≡ first (lacks (now (starts .entry)) (now (seen .entry))) m ⌝ }
@@ -248,7 +248,7 @@ fn first_lacking(starts: &[u16], seen: &[u8], m: usize) -> Place
     if has_unseen(seen, 0, starts[m] as usize) {
         return lowest_lacking(starts, seen, m);
     }
-    Place::Nowhere
+    Lowest::Nowhere
 }
 
 // The first of the faults 25 and 26, by way of arrays that are lent; no extent is marked yet.
@@ -261,11 +261,11 @@ fn faults_in(img: &[u8], g: Geometry, starts: &mut [u16], seen: &mut [u8]) -> So
     let f = fill_starts(img, g, starts);
     let pass = pass_over(img, g, starts, f, seen);
     let misplaced = pass.misplaced;
-    if let Place::At(e) = misplaced {
+    if let Lowest::At(e) = misplaced {
         return Soundness::Faulty(25, e as u64);
     }
     let m = pass.reached;
-    if let Place::At(i) = first_lacking(starts, seen, m) {
+    if let Lowest::At(i) = first_lacking(starts, seen, m) {
         return Soundness::Faulty(26, i as u64);
     }
     if m < g.files as usize {

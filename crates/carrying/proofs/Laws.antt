@@ -7,13 +7,13 @@ use native.Mathlib.Nat.{zero-add}
 use lib.Dec.{eqb, leb}
 use lib.ListN.{length, getD}
 use borrow.Author.Tests.{eq-eqb, ne-eqb, leb-false}
-use Rattle.model.specs.Bytes.{beAt, run, put}
-use Rattle.model.specs.Search.{some, every, tab}
+use Rattle.model.specs.Bytes.{beAt, bytesFrom, put}
+use Rattle.model.specs.Search.{anyBelow, allBelow, tabulate}
 use Rattle.model.specs.Refusals.{verdictOf, refusal, isWhole}
 use Rattle.model.specs.WriteList.{Record, barrierNumber, stored, recordSize, contentsStart}
 use Rattle.model.specs.CarryOut.{recordIn, recordsIn, badRecord, carryVerdict, carryAnswer, carryImage}
-use Rattle.laws.proofs.Bytes.{getD-run}
-use Rattle.laws.proofs.Search.{every-ext, tab-more}
+use Rattle.laws.proofs.Bytes.{getD-bytesFrom}
+use Rattle.laws.proofs.Search.{allBelow-ext, tabulate-more}
 
 -- ---- writes
 
@@ -22,17 +22,17 @@ unfolding stored
 stored-append [] b img = refl
 stored-append (r ∷ a) b img = stored-append a b (cond (eqb (r .sector) barrierNumber) img (put img (512 * r .sector) (r .contents)))
 
-pub stored-more : (list : List ℕ) (k : ℕ) (img : List ℕ) → stored (tab (recordIn list) 0 (k + 1)) img ≡ stored (recordIn list k ∷ []) (stored (tab (recordIn list) 0 k) img)
-stored-more list k img = rw (tab-more (recordIn list) 0 k, zero-add k) (stored-append (tab (recordIn list) 0 k) (recordIn list k ∷ []) img)
+pub stored-more : (list : List ℕ) (k : ℕ) (img : List ℕ) → stored (tabulate (recordIn list) 0 (k + 1)) img ≡ stored (recordIn list k ∷ []) (stored (tabulate (recordIn list) 0 k) img)
+stored-more list k img = rw (tabulate-more (recordIn list) 0 k, zero-add k) (stored-append (tabulate (recordIn list) 0 k) (recordIn list k ∷ []) img)
 
 -- ---- a record, by its number
 
 module _ (list : List ℕ) (k s : ℕ) (is : s ≡ beAt list (k * recordSize) 8) where
-  pub barrier-bad : (sectors : ℕ) → s ≡ barrierNumber → not (every (λ b. eqb (getD list (k * recordSize + contentsStart + b) 0) 0) 512) ≡ badRecord sectors list k
+  pub barrier-bad : (sectors : ℕ) → s ≡ barrierNumber → not (allBelow (λ b. eqb (getD list (k * recordSize + contentsStart + b) 0) 0) 512) ≡ badRecord sectors list k
   unfolding badRecord recordIn
   barrier-bad sectors e =
       rw (← is, eq-eqb _ _ e)
-      (ap not (sym (every-ext _ _ 512 (λ b l. ap (λ x. eqb x 0) (getD-run list (k * recordSize + contentsStart) 512 b l)))))
+      (ap not (sym (allBelow-ext _ _ 512 (λ b l. ap (λ x. eqb x 0) (getD-bytesFrom list (k * recordSize + contentsStart) 512 b l)))))
 
   pub sector-bad : (sectors : ℕ) → (s ≡ barrierNumber → ⊥) → leb sectors s ≡ badRecord sectors list k
   unfolding badRecord recordIn
@@ -46,7 +46,7 @@ module _ (list : List ℕ) (k s : ℕ) (is : s ≡ beAt list (k * recordSize) 8)
   unfolding stored recordIn
   barrier-stored img e = rw (← is, eq-eqb _ _ e)
 
-  pub sector-stored : (img : List ℕ) → (s ≡ barrierNumber → ⊥) → put img (512 * s) (run list (k * recordSize + contentsStart) 512) ≡ stored (recordIn list k ∷ []) img
+  pub sector-stored : (img : List ℕ) → (s ≡ barrierNumber → ⊥) → put img (512 * s) (bytesFrom list (k * recordSize + contentsStart) 512) ≡ stored (recordIn list k ∷ []) img
   unfolding stored recordIn
   sector-stored img e = rw (← is, ne-eqb _ _ e)
 
@@ -67,11 +67,11 @@ module _ (img list : List ℕ) where
     cut-record h = refused-by 8 refl (rw (whole, ne-eqb _ _ h))
 
     module _ (records : length list % recordSize ≡ 0) where
-      pub bad-record : some (badRecord (length img / 512) list) (length list / recordSize) ≡ true → (record { number = 8 } ≡ carryAnswer img list) × (img ≡ carryImage img list)
+      pub bad-record : anyBelow (badRecord (length img / 512) list) (length list / recordSize) ≡ true → (record { number = 8 } ≡ carryAnswer img list) × (img ≡ carryImage img list)
       unfolding carryVerdict verdictOf
       bad-record b = refused-by 8 refl (rw (whole, eq-eqb _ _ records, b))
 
-      pub carried : some (badRecord (length img / 512) list) (length list / recordSize) ≡ false
+      pub carried : anyBelow (badRecord (length img / 512) list) (length list / recordSize) ≡ false
           → (record { number = 0 } ≡ carryAnswer img list) × (stored (recordsIn list) img ≡ carryImage img list)
       unfolding carryVerdict verdictOf carryAnswer carryImage
       carried b = (rw (whole, eq-eqb _ _ records, b), rw (whole, eq-eqb _ _ records, b))

@@ -6,7 +6,7 @@ ghost use mathlib.Core.List.{[], _∷_};
 ghost use Prim.Native.Nat.{_+_, _*_, _/_, _≤_, max};
 ghost use lib.Dec.{eqb};
 ghost use lib.ListN.{length, getD};
-ghost use Rattle.model.specs.Search.{some, every};
+ghost use Rattle.model.specs.Search.{anyBelow, allBelow};
 ghost use Rattle.model.specs.WriteList.{recordSize, stored};
 ghost use Rattle.model.specs.CarryOut.{recordIn, recordsIn, badRecord, carryAnswer, carryImage};
 
@@ -24,7 +24,7 @@ fn greater(a: u8, b: u8) -> u8
 // Whether one of the 512 bytes from `at` on is not 0: the greatest of them tells, without a test for each.
 fn has_other(list: &[u8], at: usize) -> bool
     requires { ⌜ at + 512 ≤ length (now list) ⌝ }
-    ensures { λ r. ⌜ r ≡ not (every (λ b. eqb (getD (now (list .entry)) (at + b) 0) 0) 512) ⌝ }
+    ensures { λ r. ⌜ r ≡ not (allBelow (λ b. eqb (getD (now (list .entry)) (at + b) 0) 0) 512) ⌝ }
 {
     let mut most: u8 = 0;
     let mut i: usize = 0;
@@ -50,7 +50,7 @@ fn is_bad(list: &[u8], k: usize, sectors: u64) -> bool
 
 // Whether one of the list's records is bad.
 fn has_bad(list: &[u8], sectors: u64) -> bool
-    ensures { λ r. ⌜ r ≡ some (badRecord sectors (now (list .entry))) (length (now (list .entry)) / recordSize) ⌝ }
+    ensures { λ r. ⌜ r ≡ anyBelow (badRecord sectors (now (list .entry))) (length (now (list .entry)) / recordSize) ⌝ }
 {
     let n = list.len() / lists::RECORD_SIZE;
     let mut k: usize = 0;
@@ -81,7 +81,7 @@ fn put_record(img: &mut [u8], list: &[u8], k: usize)
 
 // All records, in order.
 fn put_records(img: &mut [u8], list: &[u8])
-    requires { ⌜ some (badRecord (length (now img) / 512) (now list)) (length (now list) / recordSize) ≡ false ⌝ }
+    requires { ⌜ anyBelow (badRecord (length (now img) / 512) (now list)) (length (now list) / recordSize) ≡ false ⌝ }
     ensures { λ _. ⌜ now (img .exit) ≡ stored (recordsIn (now (list .entry))) (now (img .entry)) ⌝ }
 {
     let n = list.len() / lists::RECORD_SIZE;

@@ -1,7 +1,7 @@
 -- The table of edges holds: each line computes. Assumes nothing.
 use mathlib.Core.Path.{refl}
-use Rattle.model.specs.Bytes.{beAt, beBytes, run, put, onesSector, zeroSector}
-use Rattle.model.specs.Search.{scan, some, every, count, same, tab}
+use Rattle.model.specs.Bytes.{beAt, beBytes, bytesFrom, put, onesSector, zeroSector}
+use Rattle.model.specs.Search.{scan, anyBelow, allBelow, countBelow, equalBytes, tabulate}
 use Rattle.model.specs.Geometry.{inBounds}
 use Rattle.model.specs.Superblock.{isVolume, geometryIn, journalLength, stateOf, newSuperblock}
 use Rattle.model.specs.Root.{rootIn, newRootSector}
@@ -15,13 +15,13 @@ use Rattle.model.specs.WriteList.{barrier, recordBytes}
 use Rattle.model.specs.Summary.{superblockVerdict, superblockAnswer, checkAnswer}
 use Rattle.model.specs.Listing.{listConditions, listedBy, listVerdict, listAnswer}
 use Rattle.model.specs.Recovery.{isData, isMetadata, goodEntry, replayedSector, replayed, recoveryGroups, recoveryVerdict}
-use Rattle.model.specs.Search.{flat}
+use Rattle.model.specs.Search.{concatenated}
 use Rattle.model.specs.Format.{doubled, geometryFor, canFormat, formatVerdict, formatAnswer}
 use Rattle.model.specs.CarryOut.{recordIn, badRecord, carryVerdict, carryAnswer}
 use Rattle.cases.specs.Edges.{Edges}
 
 pub edges : Edges
-unfolding beAt beBytes run put onesSector zeroSector scan some every count same tab flat inBounds isVolume geometryIn journalLength stateOf newSuperblock
+unfolding beAt beBytes bytesFrom put onesSector zeroSector scan anyBelow allBelow countBelow equalBytes tabulate concatenated inBounds isVolume geometryIn journalLength stateOf newSuperblock
     rootIn newRootSector nameIn entryIn isOccupied hasZero badName newEntrySector updatedEntrySector tableFile tableOffset takenIn sourceAt targetAt
     entriesIn journalSector catalogueOf entryOf fault21 fault22 fault23 fault24 fault25 exact fault26 firstFault
     verdictOf isWhole fitsImage imageVerdict soundVerdict judged barrier recordBytes superblockVerdict superblockAnswer checkAnswer

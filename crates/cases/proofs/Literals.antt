@@ -1,7 +1,7 @@
 -- The table of literal bytes holds: each line computes. Assumes nothing.
 use mathlib.Core.Path.{refl}
-use Rattle.model.specs.Bytes.{beAt, beBytes, run, put, onesSector, zeroSector}
-use Rattle.model.specs.Search.{scan, some, every, count, same}
+use Rattle.model.specs.Bytes.{beAt, beBytes, bytesFrom, put, onesSector, zeroSector}
+use Rattle.model.specs.Search.{scan, anyBelow, allBelow, countBelow, equalBytes}
 use Rattle.model.specs.Geometry.{inBounds}
 use Rattle.model.specs.Superblock.{isVolume, geometryIn, journalLength, stateOf, newSuperblock}
 use Rattle.model.specs.Root.{rootIn, newRootSector, updatedRootSector}
@@ -17,7 +17,7 @@ use Rattle.model.specs.Read.{sizeNamed, readConditions, readBy, readAnswer}
 use Rattle.cases.specs.Literals.{Literals}
 
 pub literals : Literals
-unfolding beAt beBytes run put onesSector zeroSector scan some every count same inBounds isVolume geometryIn journalLength stateOf newSuperblock
+unfolding beAt beBytes bytesFrom put onesSector zeroSector scan anyBelow allBelow countBelow equalBytes inBounds isVolume geometryIn journalLength stateOf newSuperblock
     rootIn newRootSector updatedRootSector nameIn entryIn isOccupied hasZero badName newEntrySector updatedEntrySector tableFile tableOffset takenIn freedIn
     entriesIn journalSector catalogueOf fileNamed entryOf fault21 fault22 fault23 fault24 fault25 exact fault26 firstFault
     verdictOf isWhole fitsImage imageVerdict soundVerdict judged barrier recordBytes superblockVerdict superblockAnswer sizeNamed readConditions readBy readAnswer

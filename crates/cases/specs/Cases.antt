@@ -3,10 +3,10 @@
 use Prim.Native.Nat.{ℕ, _*_}
 use mathlib.Core.Path.{_≡_}
 use mathlib.Core.List.{List, [], _∷_, _++_}
-use mathlib.Core.Option.{Option, none, some as just}
+use mathlib.Core.Option.{Option, none, some}
 use lib.ListN.{replicate}
 use Rattle.model.specs.declared.Geometry.{Geometry}
-use Rattle.model.specs.Search.{tab}
+use Rattle.model.specs.Search.{tabulate}
 use Rattle.model.specs.Geometry.{tableSectors, reserveExtents, journalAt, tableAt, dataAt, reserveAt}
 use Rattle.model.specs.Disk.{Disk}
 use Rattle.model.specs.Catalogue.{Owner, Catalogue}
@@ -84,10 +84,10 @@ behind targets =
 
 -- the four table entries
 abbrev pub owned : ℕ → ℕ → Option Owner
-owned i offset = just (record { file = i; offset = offset })
+owned i offset = some (record { file = i; offset = offset })
 
 abbrev pub table : List Feed → List (Option Owner)
-table fs = tab (known fs .table) 0 4
+table fs = tabulate (known fs .table) 0 4
 
 pub record Cases : Type 0 where
   -- P1 the geometry: journal 257, table 289, data 290, reserve from 674
@@ -109,7 +109,7 @@ pub record Cases : Type 0 where
   pub P6-answer : answer (create (called 97) 97 0 0 5720) (after []) ≡ changed (record { verdict = done; length = 11 * 520 })
   -- P7 65,536 bytes into that empty file: 139 records; 65,537 is refused 8
   pub P7 : (d : Disk) → order (groups d (writePlan (known (makes 97 ∷ [])) 0 d 0 extentful 0))
-      ≡ (tab (λ k. k) 290 128 ++ (674 ∷ 675 ∷ 257 ∷ behind (2 ∷ 289 ∷ [])))
+      ≡ (tabulate (λ k. k) 290 128 ++ (674 ∷ 675 ∷ 257 ∷ behind (2 ∷ 289 ∷ [])))
   pub P7-length : answer (write (called 97) 0 extentful 0 72280) (after (makes 97 ∷ [])) ≡ changed (record { verdict = done; length = 139 * 520 })
   pub P7-table : table (fills 97 ∷ makes 97 ∷ []) ≡ (owned 0 0 ∷ none ∷ none ∷ none ∷ [])
   pub P7-refused : numberOf (answer (write (called 97) 0 (replicate 65537 0) 0 72280) (after (makes 97 ∷ []))) ≡ 8

@@ -8,7 +8,7 @@ use lib.Dec.{eqb}
 use lib.ListN.{length, replicate}
 use Rattle.model.specs.declared.State.the-variants.{Clean, Waiting, Damaged, Unfinished}
 use Rattle.model.specs.declared.Verdict.{Verdict}
-use Rattle.model.specs.Bytes.{run, zeroSector, onesSector}
+use Rattle.model.specs.Bytes.{bytesFrom, zeroSector, onesSector}
 use Rattle.model.specs.Disk.{Disk}
 use Rattle.model.specs.Superblock.{newSuperblock, stateOf}
 use Rattle.model.specs.Root.{newRootSector, updatedRootSector}
@@ -67,12 +67,12 @@ pub record Literals : Type 0 where
       ≡ padded (255 ∷ 255 ∷ 0 ∷ 0 ∷ 0 ∷ 0 ∷ 0 ∷ 0 ∷ 0 ∷ 0 ∷ 0 ∷ 0 ∷ 0 ∷ 0 ∷ 1 ∷ 2 ∷ 3 ∷ 4 ∷ 5 ∷ 6 ∷ 7 ∷ 8 ∷ 17 ∷ 18 ∷ 19 ∷ 20
       ∷ 33 ∷ 34 ∷ 35 ∷ 36 ∷ 33 ∷ 34 ∷ 35 ∷ 36 ∷ 0 ∷ 2 ∷ 104 ∷ 105 ∷ [])
   -- and a write's: size 258, version up, change time set
-  pub written : run (updatedEntrySector 258 825373492 (newEntrySector (104 ∷ 105 ∷ []) 1 0 555885348)) 0 38
+  pub written : bytesFrom (updatedEntrySector 258 825373492 (newEntrySector (104 ∷ 105 ∷ []) 1 0 555885348)) 0 38
       ≡ (255 ∷ 255 ∷ 0 ∷ 0 ∷ 0 ∷ 0 ∷ 0 ∷ 0 ∷ 1 ∷ 2 ∷ 0 ∷ 0 ∷ 0 ∷ 1 ∷ 0 ∷ 0 ∷ 0 ∷ 0 ∷ 0 ∷ 0 ∷ 0 ∷ 1 ∷ 0 ∷ 0 ∷ 0 ∷ 0
       ∷ 33 ∷ 34 ∷ 35 ∷ 36 ∷ 49 ∷ 50 ∷ 51 ∷ 52 ∷ 0 ∷ 2 ∷ 104 ∷ 105 ∷ [])
   -- table entry of extent 1: file index, offset; given to file 258 as its extent 3, and freed again
-  pub taken : run (takenIn 1 258 3 onesSector) 0 12 ≡ (255 ∷ 255 ∷ 255 ∷ 255 ∷ 1 ∷ 2 ∷ 0 ∷ 3 ∷ 255 ∷ 255 ∷ 255 ∷ 255 ∷ [])
-  pub freed : run (freedIn (λ k. eqb k 1) zeroSector 128) 0 12 ≡ (0 ∷ 0 ∷ 0 ∷ 0 ∷ 255 ∷ 255 ∷ 255 ∷ 255 ∷ 0 ∷ 0 ∷ 0 ∷ 0 ∷ [])
+  pub taken : bytesFrom (takenIn 1 258 3 onesSector) 0 12 ≡ (255 ∷ 255 ∷ 255 ∷ 255 ∷ 1 ∷ 2 ∷ 0 ∷ 3 ∷ 255 ∷ 255 ∷ 255 ∷ 255 ∷ [])
+  pub freed : bytesFrom (freedIn (λ k. eqb k 1) zeroSector 128) 0 12 ≡ (0 ∷ 0 ∷ 0 ∷ 0 ∷ 255 ∷ 255 ∷ 255 ∷ 255 ∷ 0 ∷ 0 ∷ 0 ∷ 0 ∷ [])
   -- journal of the sample's first create: source 674, target 1; source 675, target 2
   pub journal : journalSector (λ k. 674 + k) (λ k. 1 + k) 2 0
       ≡ padded (0 ∷ 0 ∷ 0 ∷ 0 ∷ 0 ∷ 0 ∷ 2 ∷ 162 ∷ 0 ∷ 0 ∷ 0 ∷ 0 ∷ 0 ∷ 0 ∷ 0 ∷ 1 ∷ 0 ∷ 0 ∷ 0 ∷ 0 ∷ 0 ∷ 0 ∷ 2 ∷ 163 ∷ 0 ∷ 0 ∷ 0 ∷ 0 ∷ 0 ∷ 0 ∷ 0 ∷ 2 ∷ [])

@@ -3,37 +3,37 @@
 use Prim.Native.Nat.{ℕ, _+_, _-_, _*_, _≤_, _<_}
 use mathlib.Core.Path.{_≡_, refl, sym, ap, ap₂, _∙_}
 use mathlib.Core.List.{List, [], _∷_, _++_, append-assoc, append-nil}
-use mathlib.Core.Option.{some as just}
+use mathlib.Core.Option.{some}
 use native.Mathlib.Nat.{zero-add}
 use native.Mathlib.Omega.{arith}
 use lib.ListN.{length, getD, set, length-append}
 use lib.Seq.{getD-append-add, getD-set-same, getD-set-other}
 use Rattle.model.specs.declared.Geometry.{Geometry}
-use Rattle.model.specs.Bytes.{run}
-use Rattle.model.specs.Search.{tab}
+use Rattle.model.specs.Bytes.{bytesFrom}
+use Rattle.model.specs.Search.{tabulate}
 use Rattle.model.specs.Geometry.{superblockAt, reserveAt}
 use Rattle.model.specs.Disk.{Disk}
 use Rattle.model.specs.Superblock.{geometryIn}
 use Rattle.model.specs.WriteList.{Record, Group, Plan, sectorWrite, barrier, recordSize, contentsStart, recordBytes, listBytes, Emitted, staging, copies, sectorsOf, journalOf, groupA, superblockGroup, groupsOf, groupsFor, closedAfter, closed}
-use Rattle.laws.proofs.Bytes.{run-more, run-ext, getD-run}
-use Rattle.laws.proofs.Search.{length-tab}
+use Rattle.laws.proofs.Bytes.{bytesFrom-more, bytesFrom-ext, getD-bytesFrom}
+use Rattle.laws.proofs.Search.{length-tabulate}
 use Rattle.laws.proofs.WriteList.{listBytes-append, emitted-then}
 use Rattle.commit.specs.Commit.{stagedTargets, commitGroups, Staged}
-use Rattle.commit.proofs.Records.{contents-emitted, written, bytes-tab, emitted-same, tab-list, sector-at, sectors-more, length-copies, copy-at, copies-more, closed-front}
+use Rattle.commit.proofs.Records.{contents-emitted, written, bytes-tabulate, emitted-same, tabulate-list, sector-at, sectors-more, length-copies, copy-at, copies-more, closed-front}
 
 -- ---- target by target
 
-run-set : (numbers : List ℕ) (j s : ℕ) → j < length numbers → run (set numbers j s) 0 (j + 1) ≡ run numbers 0 j ++ (s ∷ [])
-run-set numbers j s h =
-    run-more (set numbers j s) 0 j
+bytesFrom-set : (numbers : List ℕ) (j s : ℕ) → j < length numbers → bytesFrom (set numbers j s) 0 (j + 1) ≡ bytesFrom numbers 0 j ++ (s ∷ [])
+bytesFrom-set numbers j s h =
+    bytesFrom-more (set numbers j s) 0 j
     ∙ ap₂ (λ (l : List ℕ) (x : ℕ). l ++ (x ∷ []))
-    (run-ext (set numbers j s) numbers 0 0 j (λ i k. getD-set-other numbers j (0 + i) s 0 (λ e. omega arith)))
+    (bytesFrom-ext (set numbers j s) numbers 0 0 j (λ i k. getD-set-other numbers j (0 + i) s 0 (λ e. omega arith)))
     (ap (λ i. getD (set numbers j s) i 0) (zero-add j) ∙ getD-set-same numbers j s 0 h)
 
 module _ {g : Geometry} {l : List ℕ} {ds : Group} where
   -- after the data sectors, before the first target
   pub staged-none : {numbers m : List ℕ} {k : ℕ} → Emitted l 0 ds m k → Staged g l ds [] numbers m k
-  unfolding copies tab run
+  unfolding copies tabulate bytesFrom
   staged-none e = record { emitted = rw append-nil e; numbered = refl }
 
   -- `put_copy` of one target more
@@ -46,9 +46,9 @@ module _ {g : Geometry} {l : List ℕ} {ds : Group} where
         emitted =
             rw (ap (λ (x : Group). ds ++ x) (copies-more g ts (sectorWrite s c)) ∙ sym (append-assoc ds (copies (staging g (length ts)) ts) (sectorWrite (reserveAt g + length ts) c ∷ []))) all;
         numbered =
-            ap₂ (λ (x : List ℕ) (n : ℕ). run x 0 n) q (length-append ts (sectorWrite s c ∷ []) ∙ ap (λ x. x + 1) (sym e))
-            ∙ run-set numbers j s h
-            ∙ ap (λ (x : List ℕ). x ++ (s ∷ [])) (ap (λ n. run numbers 0 n) e ∙ st .numbered)
+            ap₂ (λ (x : List ℕ) (n : ℕ). bytesFrom x 0 n) q (length-append ts (sectorWrite s c ∷ []) ∙ ap (λ x. x + 1) (sym e))
+            ∙ bytesFrom-set numbers j s h
+            ∙ ap (λ (x : List ℕ). x ++ (s ∷ [])) (ap (λ n. bytesFrom numbers 0 n) e ∙ st .numbered)
             ∙ sym (sectors-more ts (sectorWrite s c));
       }
 
@@ -63,30 +63,30 @@ module _ {g : Geometry} {l : List ℕ} {ds : Group} where
 module _ (g : Geometry) (l : List ℕ) (ds ts : Group) (numbers m : List ℕ) (k : ℕ) (st : Staged g l ds ts numbers m k) (room : k * recordSize ≤ length l) where
   noted : (j : ℕ) → j < length ts → getD numbers j 0 ≡ getD ts j barrier .sector
   noted j h =
-      sym (getD-run numbers 0 (length ts) j h ∙ ap (λ x. getD numbers x 0) (zero-add j))
+      sym (getD-bytesFrom numbers 0 (length ts) j h ∙ ap (λ x. getD numbers x 0) (zero-add j))
       ∙ ap (λ (x : List ℕ). getD x j 0) (st .numbered)
       ∙ sector-at ts j h
 
-  copied : (j : ℕ) → j < length ts → run m ((length ds + j) * recordSize + contentsStart) 512 ≡ run (getD ts j barrier .contents) 0 512
+  copied : (j : ℕ) → j < length ts → bytesFrom m ((length ds + j) * recordSize + contentsStart) 512 ≡ bytesFrom (getD ts j barrier .contents) 0 512
   copied j h =
       let cs : Group = copies (staging g (length ts)) ts in
       let n : length (ds ++ cs) ≡ length ds + length ts = length-append ds cs ∙ ap (λ x. length ds + x) (length-copies (staging g (length ts)) ts) in
       let e : k ≡ length ds + length ts = staged-count st in
-      ap₂ (λ (x : List ℕ) (i : ℕ). run x (i * recordSize + contentsStart) 512) (st .emitted .holds) (sym (zero-add (length ds + j)))
+      ap₂ (λ (x : List ℕ) (i : ℕ). bytesFrom x (i * recordSize + contentsStart) 512) (st .emitted .holds) (sym (zero-add (length ds + j)))
       ∙ contents-emitted l 0 (ds ++ cs) (length ds + j) (omega arith) (omega arith)
-      ∙ ap (λ (r : Record). run (r .contents) 0 512) (getD-append-add ds cs j barrier)
-      ∙ ap (λ (c : List ℕ). run c 0 512) (copy-at (staging g (length ts)) ts j h)
+      ∙ ap (λ (r : Record). bytesFrom (r .contents) 0 512) (getD-append-add ds cs j barrier)
+      ∙ ap (λ (c : List ℕ). bytesFrom c 0 512) (copy-at (staging g (length ts)) ts j h)
 
   targets-same : listBytes (stagedTargets m (length ds) numbers (length ts)) ≡ listBytes ts
   unfolding stagedTargets
   targets-same =
-      bytes-tab (λ j. sectorWrite (getD numbers j 0) (run m ((length ds + j) * recordSize + contentsStart) 512)) (λ j. getD ts j barrier) (length ts)
+      bytes-tabulate (λ j. sectorWrite (getD numbers j 0) (bytesFrom m ((length ds + j) * recordSize + contentsStart) 512)) (λ j. getD ts j barrier) (length ts)
       (λ j h. ap₂ (λ (s : ℕ) (c : List ℕ). recordBytes (sectorWrite s c)) (noted j h) (copied j h) ∙ written (getD ts j barrier .sector) (getD ts j barrier .contents))
-      ∙ ap listBytes (tab-list barrier ts)
+      ∙ ap listBytes (tabulate-list barrier ts)
 
 length-staged : (list : List ℕ) (from : ℕ) (numbers : List ℕ) (n : ℕ) → length (stagedTargets list from numbers n) ≡ n
 unfolding stagedTargets
-length-staged list from numbers n = length-tab (λ j. sectorWrite (getD numbers j 0) (run list ((from + j) * recordSize + contentsStart) 512)) 0 n
+length-staged list from numbers n = length-tabulate (λ j. sectorWrite (getD numbers j 0) (bytesFrom list ((from + j) * recordSize + contentsStart) 512)) 0 n
 
 -- ---- the commit behind them
 
@@ -133,6 +133,6 @@ module _ {g : Geometry} {l numbers m m′ : List ℕ} {k n j : ℕ} (d : Disk) (
 
   -- the same where the geometry is the disk's
   pub committed-for : g ≡ geometryIn (d superblockAt) → Staged g l (p .dataSectors) (p .targets) numbers m k → n ≡ length (p .targets) → k * recordSize ≤ length l
-      → Emitted m k (closed (commitGroups g d m (k - n) numbers n)) m′ j → Emitted l 0 (closed (groupsFor d (just p))) m′ j
+      → Emitted m k (closed (commitGroups g d m (k - n) numbers n)) m′ j → Emitted l 0 (closed (groupsFor d (some p))) m′ j
   unfolding groupsFor
   committed-for is st e room q = rw (← is) (committed st e room q)

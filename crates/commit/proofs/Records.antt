@@ -3,104 +3,104 @@
 use Prim.Native.Nat.{ℕ, zero, suc, _+_, _-_, _*_, _≤_, _<_, min}
 use mathlib.Core.Path.{_≡_, refl, sym, ap, ap₂, _∙_}
 use mathlib.Core.List.{List, [], _∷_, _++_, append-assoc}
-use mathlib.Core.Option.{some as just}
+use mathlib.Core.Option.{some}
 use native.Mathlib.Nat.{zero-add, not-suc-le-zero}
 use native.Mathlib.Omega.{arith}
 use lib.ListN.{length, getD, length-append, List·getD-append}
 use lib.Seq.{ext-getD, getD-append-add, getD-append-seam}
 use Rattle.model.specs.declared.Geometry.{Geometry}
-use Rattle.model.specs.Bytes.{beBytes, run, put}
-use Rattle.model.specs.Search.{tab}
+use Rattle.model.specs.Bytes.{beBytes, bytesFrom, put}
+use Rattle.model.specs.Search.{tabulate}
 use Rattle.model.specs.Geometry.{superblockAt, journalAt, reserveAt}
 use Rattle.model.specs.Disk.{Disk}
 use Rattle.model.specs.Superblock.{geometryIn}
 use Rattle.model.specs.Journal.{journalSectors, entriesIn, journalSector}
 use Rattle.model.specs.WriteList.{Record, Group, Plan, sectorWrite, barrier, recordSize, contentsStart, recordBytes, listBytes, emit, Emitted, staging, copies, sectorsOf, journalOf, groupA, groupsOf, groupsFor, closedAfter, closed, listLength, recordCount}
-use Rattle.laws.proofs.Bytes.{length-beBytes, run-ext, run-run, run-put-other, run-put-in}
-use Rattle.laws.proofs.Search.{length-tab, getD-tab0, tab-more, tab-ext}
+use Rattle.laws.proofs.Bytes.{length-beBytes, bytesFrom-ext, bytesFrom-bytesFrom, bytesFrom-put-other, bytesFrom-put-in}
+use Rattle.laws.proofs.Search.{length-tabulate, getD-tab0, tabulate-more, tabulate-ext}
 use Rattle.laws.proofs.WriteList.{length-recordBytes, listBytes-append, length-listBytes, emitted-then}
 
 -- ---- of two strings one after the other
 
-run-left : (a b : List ℕ) (o n : ℕ) → o + n ≤ length a → run (a ++ b) o n ≡ run a o n
-run-left a b o n h = run-ext (a ++ b) a o o n (λ i k. List·getD-append a b 0 (o + i) (omega arith))
+bytesFrom-left : (a b : List ℕ) (o n : ℕ) → o + n ≤ length a → bytesFrom (a ++ b) o n ≡ bytesFrom a o n
+bytesFrom-left a b o n h = bytesFrom-ext (a ++ b) a o o n (λ i k. List·getD-append a b 0 (o + i) (omega arith))
 
-run-right : (a b : List ℕ) (l o n : ℕ) → length a ≡ l → run (a ++ b) (l + o) n ≡ run b o n
-run-right a b l o n h =
-    run-ext (a ++ b) b (l + o) o n
+bytesFrom-right : (a b : List ℕ) (l o n : ℕ) → length a ≡ l → bytesFrom (a ++ b) (l + o) n ≡ bytesFrom b o n
+bytesFrom-right a b l o n h =
+    bytesFrom-ext (a ++ b) b (l + o) o n
     (λ i k. let e : l + o + i ≡ length a + (o + i) = omega arith in ap (λ x. getD (a ++ b) x 0) e ∙ getD-append-add a b (o + i) 0)
 
 -- ---- what stands in a list
 
-contents-of : (r : Record) → run (recordBytes r) 8 512 ≡ run (r .contents) 0 512
+contents-of : (r : Record) → bytesFrom (recordBytes r) 8 512 ≡ bytesFrom (r .contents) 0 512
 unfolding recordBytes
 contents-of r =
-    run-right (beBytes 8 (r .sector)) (run (r .contents) 0 512) 8 0 512 (length-beBytes 8 (r .sector))
-    ∙ run-run (r .contents) 0 512 0 512 (omega arith)
+    bytesFrom-right (beBytes 8 (r .sector)) (bytesFrom (r .contents) 0 512) 8 0 512 (length-beBytes 8 (r .sector))
+    ∙ bytesFrom-bytesFrom (r .contents) 0 512 0 512 (omega arith)
 
-contents-in : (rs : List Record) (i : ℕ) → i < length rs → run (listBytes rs) (i * recordSize + contentsStart) 512 ≡ run (getD rs i barrier .contents) 0 512
+contents-in : (rs : List Record) (i : ℕ) → i < length rs → bytesFrom (listBytes rs) (i * recordSize + contentsStart) 512 ≡ bytesFrom (getD rs i barrier .contents) 0 512
 unfolding listBytes
 contents-in [] i h = absurd (not-suc-le-zero h)
 contents-in (r ∷ rs) zero h =
-    run-left (recordBytes r) (listBytes rs) 8 512 (omega (arith, length-recordBytes r)) ∙ contents-of r
+    bytesFrom-left (recordBytes r) (listBytes rs) 8 512 (omega (arith, length-recordBytes r)) ∙ contents-of r
 contents-in (r ∷ rs) (suc i) h =
     let e : suc i * recordSize + contentsStart ≡ recordSize + (i * recordSize + contentsStart) = omega arith in
-    ap (λ o. run (recordBytes r ++ listBytes rs) o 512) e
-    ∙ run-right (recordBytes r) (listBytes rs) recordSize (i * recordSize + contentsStart) 512 (length-recordBytes r)
+    ap (λ o. bytesFrom (recordBytes r ++ listBytes rs) o 512) e
+    ∙ bytesFrom-right (recordBytes r) (listBytes rs) recordSize (i * recordSize + contentsStart) 512 (length-recordBytes r)
     ∙ contents-in rs i (omega arith)
 
 -- the contents of record i of those that were put in
 pub contents-emitted : (l : List ℕ) (k : ℕ) (rs : List Record) (i : ℕ) → i < length rs → (k + length rs) * recordSize ≤ length l
-    → run (emit l k rs) ((k + i) * recordSize + contentsStart) 512 ≡ run (getD rs i barrier .contents) 0 512
+    → bytesFrom (emit l k rs) ((k + i) * recordSize + contentsStart) 512 ≡ bytesFrom (getD rs i barrier .contents) 0 512
 unfolding emit
 contents-emitted l k rs i h room =
     let e : (k + i) * recordSize + contentsStart ≡ k * recordSize + (i * recordSize + contentsStart) = omega arith in
     let n : length (listBytes rs) ≡ length rs * recordSize = length-listBytes rs in
-    ap (λ o. run (emit l k rs) o 512) e
-    ∙ run-put-in l (k * recordSize) (listBytes rs) (i * recordSize + contentsStart) 512 (omega arith) (omega arith)
+    ap (λ o. bytesFrom (emit l k rs) o 512) e
+    ∙ bytesFrom-put-in l (k * recordSize) (listBytes rs) (i * recordSize + contentsStart) 512 (omega arith) (omega arith)
     ∙ contents-in rs i h
 
 -- what stands before them stays
-pub run-before : (l : List ℕ) (k : ℕ) (rs : List Record) (from n : ℕ) → from + n ≤ k * recordSize → run (emit l k rs) from n ≡ run l from n
+pub bytesFrom-before : (l : List ℕ) (k : ℕ) (rs : List Record) (from n : ℕ) → from + n ≤ k * recordSize → bytesFrom (emit l k rs) from n ≡ bytesFrom l from n
 unfolding emit
-run-before l k rs from n h = run-put-other l (k * recordSize) (listBytes rs) from n (λ i a b c d. omega arith)
+bytesFrom-before l k rs from n h = bytesFrom-put-other l (k * recordSize) (listBytes rs) from n (λ i a b c d. omega arith)
 
 -- one record more of a list by index
-pub emitted-more : {l m m′ : List ℕ} {k j r : ℕ} (f : ℕ → Record) → Emitted l k (tab f 0 j) m (k + j) → Emitted m (k + j) (f j ∷ []) m′ r
-    → Emitted l k (tab f 0 (j + 1)) m′ (k + (j + 1))
+pub emitted-more : {l m m′ : List ℕ} {k j r : ℕ} (f : ℕ → Record) → Emitted l k (tabulate f 0 j) m (k + j) → Emitted m (k + j) (f j ∷ []) m′ r
+    → Emitted l k (tabulate f 0 (j + 1)) m′ (k + (j + 1))
 emitted-more {l} {m} {m′} {k} {j} {r} f p q =
     let next : r ≡ k + (j + 1) = omega (arith, q .next) in
-    rw (tab-more f 0 j, zero-add j, ← next) (emitted-then p q)
+    rw (tabulate-more f 0 j, zero-add j, ← next) (emitted-then p q)
 
 -- ---- records of the same bytes
 
 -- only the contents' first 512 bytes are written
-pub written : (s : ℕ) (c : List ℕ) → recordBytes (sectorWrite s (run c 0 512)) ≡ recordBytes (sectorWrite s c)
+pub written : (s : ℕ) (c : List ℕ) → recordBytes (sectorWrite s (bytesFrom c 0 512)) ≡ recordBytes (sectorWrite s c)
 unfolding recordBytes
-written s c = ap (λ (b : List ℕ). beBytes 8 s ++ b) (run-run c 0 512 0 512 (omega arith))
+written s c = ap (λ (b : List ℕ). beBytes 8 s ++ b) (bytesFrom-bytesFrom c 0 512 0 512 (omega arith))
 
 bytes-one : (r : Record) → listBytes (r ∷ []) ≡ recordBytes r ++ []
 unfolding listBytes
 bytes-one r = refl
 
-pub bytes-tab : (f h : ℕ → Record) (n : ℕ) → ((j : ℕ) → j < n → recordBytes (f j) ≡ recordBytes (h j)) → listBytes (tab f 0 n) ≡ listBytes (tab h 0 n)
-unfolding tab
-bytes-tab f h zero e = refl
-bytes-tab f h (suc n) e =
+pub bytes-tabulate : (f h : ℕ → Record) (n : ℕ) → ((j : ℕ) → j < n → recordBytes (f j) ≡ recordBytes (h j)) → listBytes (tabulate f 0 n) ≡ listBytes (tabulate h 0 n)
+unfolding tabulate
+bytes-tabulate f h zero e = refl
+bytes-tabulate f h (suc n) e =
     let q : recordBytes (f (0 + n)) ≡ recordBytes (h (0 + n)) = e (0 + n) (omega arith) in
-    listBytes-append (tab f 0 n) (f (0 + n) ∷ [])
-    ∙ ap₂ (λ (a b : List ℕ). a ++ b) (bytes-tab f h n (λ j l. e j (omega arith))) (bytes-one (f (0 + n)) ∙ ap (λ (b : List ℕ). b ++ []) q ∙ sym (bytes-one (h (0 + n))))
-    ∙ sym (listBytes-append (tab h 0 n) (h (0 + n) ∷ []))
+    listBytes-append (tabulate f 0 n) (f (0 + n) ∷ [])
+    ∙ ap₂ (λ (a b : List ℕ). a ++ b) (bytes-tabulate f h n (λ j l. e j (omega arith))) (bytes-one (f (0 + n)) ∙ ap (λ (b : List ℕ). b ++ []) q ∙ sym (bytes-one (h (0 + n))))
+    ∙ sym (listBytes-append (tabulate h 0 n) (h (0 + n) ∷ []))
 
 pub emitted-same : {l m : List ℕ} {k j : ℕ} {a b : List Record} → listBytes a ≡ listBytes b → length a ≡ length b → Emitted l k a m j → Emitted l k b m j
 unfolding emit
 emitted-same {l} {m} {k} {j} {a} {b} e n p =
     record { holds = p .holds ∙ ap (λ (x : List ℕ). put l (k * recordSize) x) e; next = p .next ∙ ap (λ x. k + x) n }
 
-pub tab-list {ℓ} : {A : Type ℓ} (d : A) (l : List A) → tab (λ k. getD l k d) 0 (length l) ≡ l
-tab-list d l =
-    ext-getD d (tab (λ k. getD l k d) 0 (length l)) l (length-tab (λ k. getD l k d) 0 (length l))
-    (λ i h. getD-tab0 (λ k. getD l k d) (length l) i d (omega (arith, length-tab (λ k. getD l k d) 0 (length l))))
+pub tabulate-list {ℓ} : {A : Type ℓ} (d : A) (l : List A) → tabulate (λ k. getD l k d) 0 (length l) ≡ l
+tabulate-list d l =
+    ext-getD d (tabulate (λ k. getD l k d) 0 (length l)) l (length-tabulate (λ k. getD l k d) 0 (length l))
+    (λ i h. getD-tab0 (λ k. getD l k d) (length l) i d (omega (arith, length-tabulate (λ k. getD l k d) 0 (length l))))
 
 -- ---- the journal looks only at the sources and targets of its entries
 
@@ -132,17 +132,17 @@ sectors-more (t ∷ ts) r = ap (λ (l : List ℕ). t .sector ∷ l) (sectors-mor
 
 pub length-copies : (stages : List ℕ) (ts : Group) → length (copies stages ts) ≡ length ts
 unfolding copies
-length-copies stages ts = length-tab (λ k. sectorWrite (getD stages k 0) (getD ts k barrier .contents)) 0 (length ts)
+length-copies stages ts = length-tabulate (λ k. sectorWrite (getD stages k 0) (getD ts k barrier .contents)) 0 (length ts)
 
 pub copy-at : (stages : List ℕ) (ts : Group) (k : ℕ) → k < length ts → getD (copies stages ts) k barrier .contents ≡ getD ts k barrier .contents
 unfolding copies
 copy-at stages ts k h =
     ap (λ (r : Record). r .contents) (getD-tab0 (λ k. sectorWrite (getD stages k 0) (getD ts k barrier .contents)) (length ts) k barrier h)
 
-copies-are : (g : Geometry) (ts : Group) → copies (staging g (length ts)) ts ≡ tab (λ k. sectorWrite (reserveAt g + k) (getD ts k barrier .contents)) 0 (length ts)
+copies-are : (g : Geometry) (ts : Group) → copies (staging g (length ts)) ts ≡ tabulate (λ k. sectorWrite (reserveAt g + k) (getD ts k barrier .contents)) 0 (length ts)
 unfolding copies staging
 copies-are g ts =
-    tab-ext _ _ 0 0 (length ts)
+    tabulate-ext _ _ 0 0 (length ts)
     (λ k l. ap (λ (s : ℕ). sectorWrite s (getD ts (0 + k) barrier .contents)) (getD-tab0 (λ k. reserveAt g + k) (length ts) (0 + k) 0 (omega arith)))
 
 -- one more target, one more copy
@@ -154,10 +154,10 @@ copies-more g ts r =
     let n : length us ≡ length ts + 1 = length-append ts (r ∷ []) in
     let last : getD us (length ts) barrier ≡ r = getD-append-seam ts r [] barrier in
     copies-are g us
-    ∙ ap (λ (m : ℕ). tab f 0 m) n
-    ∙ tab-more f 0 (length ts)
+    ∙ ap (λ (m : ℕ). tabulate f 0 m) n
+    ∙ tabulate-more f 0 (length ts)
     ∙ ap₂ (λ (a : Group) (b : Record). a ++ (b ∷ []))
-    (tab-ext f (λ k. sectorWrite (reserveAt g + k) (getD ts k barrier .contents)) 0 0 (length ts)
+    (tabulate-ext f (λ k. sectorWrite (reserveAt g + k) (getD ts k barrier .contents)) 0 0 (length ts)
     (λ k l. ap (λ (x : Record). sectorWrite (reserveAt g + (0 + k)) (x .contents)) (List·getD-append ts (r ∷ []) barrier (0 + k) (omega arith)))
     ∙ sym (copies-are g ts))
     (ap f (zero-add (length ts)) ∙ ap (λ (x : Record). sectorWrite (reserveAt g + length ts) (x .contents)) last)
@@ -177,7 +177,7 @@ length-sectors (t ∷ ts) = ap suc (length-sectors ts)
 length-journalOf : (g : Geometry) (stages targets : List ℕ) → length (journalOf g stages targets) ≡ journalSectors (length targets)
 unfolding journalOf
 length-journalOf g stages targets =
-    length-tab (λ j. sectorWrite (journalAt g + j) (journalSector (λ k. getD stages k 0) (λ k. getD targets k 0) (length targets) j)) 0 (journalSectors (length targets))
+    length-tabulate (λ j. sectorWrite (journalAt g + j) (journalSector (λ k. getD stages k 0) (λ k. getD targets k 0) (length targets) j)) 0 (journalSectors (length targets))
 
 -- how many records a plan's list has
 pub plan-length : (g : Geometry) (d : Disk) (p : Plan) → length (closed (groupsOf g d p)) ≡ recordCount (length (p .dataSectors)) (length (p .targets))
@@ -185,7 +185,7 @@ unfolding groupsOf groupA
 plan-length g d p = simp (length-append, length-copies, length-journalOf, length-sectors) (omega arith)
 
 -- how many bytes it takes, by which refusal 14 is decided
-pub plan-needs : (d : Disk) (p : Plan) → listLength (groupsFor d (just p)) ≡ recordCount (length (p .dataSectors)) (length (p .targets)) * recordSize
+pub plan-needs : (d : Disk) (p : Plan) → listLength (groupsFor d (some p)) ≡ recordCount (length (p .dataSectors)) (length (p .targets)) * recordSize
 unfolding groupsFor
 plan-needs d p = ap (λ n. n * recordSize) (plan-length (geometryIn (d superblockAt)) d p)
 

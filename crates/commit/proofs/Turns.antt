@@ -7,8 +7,8 @@ use native.Mathlib.Numerals.{add-one}
 use native.Mathlib.Omega.{arith}
 use lib.ListN.{getD}
 use Rattle.model.specs.declared.Geometry.{Geometry}
-use Rattle.model.specs.Bytes.{beBytes, run, put}
-use Rattle.model.specs.Search.{tab}
+use Rattle.model.specs.Bytes.{beBytes, bytesFrom, put}
+use Rattle.model.specs.Search.{tabulate}
 use Rattle.model.specs.Geometry.{superblockAt, usable, journalAt, reserveAt}
 use Rattle.model.specs.Disk.{Disk}
 use Rattle.model.specs.Superblock.{withJournalLength}
@@ -16,10 +16,10 @@ use Rattle.model.specs.Journal.{journalSectors, entriesIn, journalSector}
 use Rattle.model.specs.WriteList.{Record, sectorWrite, barrier, recordSize, contentsStart, emit, Emitted, staging, journalOf, closed}
 use Rattle.model.specs.Opened.{Bounded}
 use Rattle.model.proofs.Areas.{product}
-use Rattle.laws.proofs.Bytes.{length-beBytes, length-run, put-append, getD-run}
-use Rattle.laws.proofs.Search.{getD-tab0, tab-ext}
+use Rattle.laws.proofs.Bytes.{length-beBytes, length-bytesFrom, put-append, getD-bytesFrom}
+use Rattle.laws.proofs.Search.{getD-tab0, tabulate-ext}
 use Rattle.commit.specs.Commit.{stagedTargets, commitGroups}
-use Rattle.commit.proofs.Records.{run-before, emitted-more, journalSector-ext}
+use Rattle.commit.proofs.Records.{bytesFrom-before, emitted-more, journalSector-ext}
 
 -- the reserve starts at a number of less than 50 bits
 pub reserve-fits : (g : Geometry) → Bounded g → reserveAt g < 562949953421312
@@ -36,35 +36,35 @@ entries-more s t from i = rw (add-one i, put-append, length-beBytes)
 abbrev pub journalRecord : Geometry → List ℕ → ℕ → ℕ → Record
 journalRecord g numbers n j = sectorWrite (journalAt g + j) (journalSector (λ k. reserveAt g + k) (λ k. getD numbers k 0) n j)
 
-pub journal-staged : (g : Geometry) (numbers : List ℕ) (n : ℕ) → journalOf g (staging g n) (run numbers 0 n) ≡ tab (journalRecord g numbers n) 0 (journalSectors n)
+pub journal-staged : (g : Geometry) (numbers : List ℕ) (n : ℕ) → journalOf g (staging g n) (bytesFrom numbers 0 n) ≡ tabulate (journalRecord g numbers n) 0 (journalSectors n)
 unfolding journalOf staging
 journal-staged g numbers n =
-    let stages : List ℕ = tab (λ k. reserveAt g + k) 0 n in
-    let noted : List ℕ = run numbers 0 n in
-    ap (λ (m : ℕ). tab (λ j. sectorWrite (journalAt g + j) (journalSector (λ k. getD stages k 0) (λ k. getD noted k 0) m j)) 0 (journalSectors m)) (length-run numbers 0 n)
-    ∙ tab-ext _ _ 0 0 (journalSectors n)
+    let stages : List ℕ = tabulate (λ k. reserveAt g + k) 0 n in
+    let noted : List ℕ = bytesFrom numbers 0 n in
+    ap (λ (m : ℕ). tabulate (λ j. sectorWrite (journalAt g + j) (journalSector (λ k. getD stages k 0) (λ k. getD noted k 0) m j)) 0 (journalSectors m)) (length-bytesFrom numbers 0 n)
+    ∙ tabulate-ext _ _ 0 0 (journalSectors n)
     (λ j l. ap (λ (c : List ℕ). sectorWrite (journalAt g + (0 + j)) c)
     (journalSector-ext (λ k. getD stages k 0) (λ k. reserveAt g + k) (λ k. getD noted k 0) (λ k. getD numbers k 0) n (0 + j)
     (λ k h. getD-tab0 (λ k. reserveAt g + k) n k 0 h)
-    (λ k h. getD-run numbers 0 n k h ∙ ap (λ x. getD numbers x 0) (zero-add k))))
+    (λ k h. getD-bytesFrom numbers 0 n k h ∙ ap (λ x. getD numbers x 0) (zero-add k))))
 
 -- ---- the targets
 
 pub targets-more : {l m m′ : List ℕ} {k r : ℕ} (from : ℕ) (numbers : List ℕ) (j : ℕ) → Emitted l k (stagedTargets l from numbers j) m (k + j) → from + j < k
-    → Emitted m (k + j) (sectorWrite (getD numbers j 0) (run m ((from + j) * recordSize + contentsStart) 512) ∷ []) m′ r
+    → Emitted m (k + j) (sectorWrite (getD numbers j 0) (bytesFrom m ((from + j) * recordSize + contentsStart) 512) ∷ []) m′ r
     → Emitted l k (stagedTargets l from numbers (j + 1)) m′ (k + (j + 1))
 unfolding stagedTargets
 targets-more {l} {m} {m′} {k} {r} from numbers j p h q =
-    let kept : run m ((from + j) * recordSize + contentsStart) 512 ≡ run l ((from + j) * recordSize + contentsStart) 512 =
-    rw (p .holds) (run-before l k (stagedTargets l from numbers j) ((from + j) * recordSize + contentsStart) 512 (omega arith)) in
-    emitted-more (λ j. sectorWrite (getD numbers j 0) (run l ((from + j) * recordSize + contentsStart) 512)) p (rw kept at q)
+    let kept : bytesFrom m ((from + j) * recordSize + contentsStart) 512 ≡ bytesFrom l ((from + j) * recordSize + contentsStart) 512 =
+    rw (p .holds) (bytesFrom-before l k (stagedTargets l from numbers j) ((from + j) * recordSize + contentsStart) 512 (omega arith)) in
+    emitted-more (λ j. sectorWrite (getD numbers j 0) (bytesFrom l ((from + j) * recordSize + contentsStart) 512)) p (rw kept at q)
 
 -- copies that stand before all that was put in since are read as if it weren't there
 staged-before : (l : List ℕ) (k : ℕ) (rs : List Record) (from : ℕ) (numbers : List ℕ) (n : ℕ) → from + n ≤ k
     → stagedTargets (emit l k rs) from numbers n ≡ stagedTargets l from numbers n
 unfolding stagedTargets
 staged-before l k rs from numbers n h =
-    tab-ext _ _ 0 0 n (λ j i. ap (λ (c : List ℕ). sectorWrite (getD numbers (0 + j) 0) c) (run-before l k rs ((from + (0 + j)) * recordSize + contentsStart) 512 (omega arith)))
+    tabulate-ext _ _ 0 0 n (λ j i. ap (λ (c : List ℕ). sectorWrite (getD numbers (0 + j) 0) c) (bytesFrom-before l k rs ((from + (0 + j)) * recordSize + contentsStart) 512 (omega arith)))
 
 pub targets-kept : {l m m′ : List ℕ} {k i j : ℕ} {rs : List Record} (from : ℕ) (numbers : List ℕ) (n : ℕ) → from + n ≤ k → Emitted l k rs m i
     → Emitted m i (stagedTargets m from numbers n) m′ j → Emitted m i (stagedTargets l from numbers n) m′ j
@@ -76,7 +76,7 @@ targets-kept {l} {m} {m′} {k} {i} {j} {rs} from numbers n h p q =
 
 pub commit-closed : (g : Geometry) (d : Disk) (list : List ℕ) (from : ℕ) (numbers : List ℕ) (n : ℕ)
     → closed (commitGroups g d list from numbers n)
-    ≡ journalOf g (staging g n) (run numbers 0 n) ++ (barrier ∷ []) ++ (sectorWrite superblockAt (withJournalLength n (d superblockAt)) ∷ barrier ∷ [])
+    ≡ journalOf g (staging g n) (bytesFrom numbers 0 n) ++ (barrier ∷ []) ++ (sectorWrite superblockAt (withJournalLength n (d superblockAt)) ∷ barrier ∷ [])
     ++ stagedTargets list from numbers n ++ (barrier ∷ []) ++ (sectorWrite superblockAt (withJournalLength 0 (d superblockAt)) ∷ barrier ∷ [])
 unfolding commitGroups
 commit-closed g d list from numbers n = simp append-assoc

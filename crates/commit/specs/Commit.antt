@@ -4,23 +4,23 @@ use mathlib.Core.Path.{_≡_}
 use mathlib.Core.List.{List, [], _∷_, _++_}
 use lib.ListN.{length, getD}
 use Rattle.model.specs.declared.Geometry.{Geometry}
-use Rattle.model.specs.Bytes.{run}
-use Rattle.model.specs.Search.{tab}
+use Rattle.model.specs.Bytes.{bytesFrom}
+use Rattle.model.specs.Search.{tabulate}
 use Rattle.model.specs.Geometry.{SectorNumber}
 use Rattle.model.specs.Disk.{Disk}
 use Rattle.model.specs.WriteList.{Group, sectorWrite, recordSize, contentsStart, staging, copies, sectorsOf, journalOf, superblockGroup, Emitted}
 
 -- n targets of these sector numbers, with the contents of the records that the list holds from position from on: their copies
 unfoldable pub stagedTargets : List ℕ → ℕ → List SectorNumber → ℕ → Group
-stagedTargets list from numbers n = tab (λ j. sectorWrite (getD numbers j 0) (run list ((from + j) * recordSize + contentsStart) 512)) 0 n
+stagedTargets list from numbers n = tabulate (λ j. sectorWrite (getD numbers j 0) (bytesFrom list ((from + j) * recordSize + contentsStart) 512)) 0 n
 
 -- the four groups, the first of them without its data sectors and copies
 unfoldable pub commitGroups : Geometry → Disk → List ℕ → ℕ → List SectorNumber → ℕ → List Group
 commitGroups g d list from numbers n =
-    journalOf g (staging g n) (run numbers 0 n) ∷ superblockGroup d n ∷ stagedTargets list from numbers n ∷ superblockGroup d 0 ∷ []
+    journalOf g (staging g n) (bytesFrom numbers 0 n) ∷ superblockGroup d n ∷ stagedTargets list from numbers n ∷ superblockGroup d 0 ∷ []
 
 -- data sectors and the copies of these targets were put into the list l, which became m; k is the next position, and numbers
 -- begin with the targets' sector numbers
 pub record Staged (g : Geometry) (l : List ℕ) (sectors targets : Group) (numbers : List SectorNumber) (m : List ℕ) (k : ℕ) : Type 0 where
   pub emitted : Emitted l 0 (sectors ++ copies (staging g (length targets)) targets) m k
-  pub numbered : run numbers 0 (length targets) ≡ sectorsOf targets
+  pub numbered : bytesFrom numbers 0 (length targets) ≡ sectorsOf targets

@@ -8,7 +8,7 @@ ghost use mathlib.Core.Path.{_≡_};
 ghost use mathlib.Core.List.{[], _∷_};
 ghost use Prim.Native.Nat.{_+_, _-_, _*_, _≤_, _<_, min};
 ghost use lib.ListN.{length, getD, set};
-ghost use Rattle.model.specs.Bytes.{run};
+ghost use Rattle.model.specs.Bytes.{bytesFrom};
 ghost use Rattle.model.specs.Geometry.{reserveAt};
 ghost use Rattle.model.specs.Disk.{view};
 ghost use Rattle.model.specs.Journal.{journalSectors, entriesIn, journalSector};
@@ -79,7 +79,7 @@ fn put_journal(list: &mut [u8], k: usize, g: Geometry, numbers: &[u64], n: usize
     requires { ⌜ (k + journalSectors n) * recordSize ≤ length (now list) ⌝ }
     requires { ⌜ Bounded g ⌝ }
     requires { ⌜ (n ≤ 1024) × (n ≤ length (now numbers)) ⌝ }
-    ensures { λ r. ⌜ Emitted (now (list .entry)) k (journalOf g (staging g n) (run (now (numbers .entry)) 0 n)) (now (list .exit)) r ⌝ }
+    ensures { λ r. ⌜ Emitted (now (list .entry)) k (journalOf g (staging g n) (bytesFrom (now (numbers .entry)) 0 n)) (now (list .exit)) r ⌝ }
     ensures { λ r. ⌜ r ≡ k + journalSectors n ⌝ }
 {
     let at = g.journal_at();
@@ -98,10 +98,10 @@ fn put_journal(list: &mut [u8], k: usize, g: Geometry, numbers: &[u64], n: usize
 // The contents of record k.
 fn contents_at(list: &[u8], k: usize) -> [u8; 512]
     requires { ⌜ (k + 1) * recordSize ≤ length (now list) ⌝ }
-    ensures { λ r. ⌜ r ≡ run (now (list .entry)) (k * recordSize + contentsStart) 512 ⌝ }
+    ensures { λ r. ⌜ r ≡ bytesFrom (now (list .entry)) (k * recordSize + contentsStart) 512 ⌝ }
 {
     let mut a = [0u8; 512];
-    fields::copy_run(
+    fields::copy_bytes(
         list,
         k * lists::RECORD_SIZE + lists::CONTENTS_START,
         &mut a,
@@ -115,7 +115,7 @@ fn contents_at(list: &[u8], k: usize) -> [u8; 512]
 fn put_target(list: &mut [u8], k: usize, target: Sector, copy: usize) -> usize
     requires { ⌜ (k + 1) * recordSize ≤ length (now list) ⌝ }
     requires { ⌜ copy < k ⌝ }
-    ensures { λ r. ⌜ Emitted (now (list .entry)) k (sectorWrite (target .0) (run (now (list .entry)) (copy * recordSize + contentsStart) 512) ∷ []) (now (list .exit)) r ⌝ }
+    ensures { λ r. ⌜ Emitted (now (list .entry)) k (sectorWrite (target .0) (bytesFrom (now (list .entry)) (copy * recordSize + contentsStart) 512) ∷ []) (now (list .exit)) r ⌝ }
 {
     let s = contents_at(list, copy);
     lists::put_sector(list, k, target, s)

@@ -3,13 +3,13 @@ use Prim.Native.Nat.{ℕ, _-_, _*_, _≤_, _<_}
 use mathlib.Core.Path.{_≡_, refl}
 use mathlib.Core.Bool.{Bool, true, false, cond, _||_}
 use mathlib.Core.List.{List}
-use mathlib.Core.Option.{some as just}
+use mathlib.Core.Option.{some}
 use native.Mathlib.Omega.{arith}
 use lib.Dec.{eqb}
 use lib.ListN.{length}
 use Rattle.model.specs.declared.Geometry.{Geometry}
-use Rattle.model.specs.declared.Place.{Place}
-use Rattle.model.specs.declared.Place.the-variants.{At, Nowhere}
+use Rattle.model.specs.declared.Lowest.{Lowest}
+use Rattle.model.specs.declared.Lowest.the-variants.{At, Nowhere}
 use Rattle.model.specs.declared.Verdict.{Verdict}
 use Rattle.model.specs.declared.Changed.{Changed}
 use Rattle.model.specs.Bytes.{beAt}
@@ -38,7 +38,7 @@ pub or-false : (a b : Bool) → (a || b) ≡ false → a ≡ false
 or-false true b e = e
 or-false false b e = refl
 
-below : (p : ℕ → Bool) (n : ℕ) (q : Place) → Hit p (n - 0) 0 q → indexOf q ≤ n
+below : (p : ℕ → Bool) (n : ℕ) (q : Lowest) → Hit p (n - 0) 0 q → indexOf q ≤ n
 below p n (At i) h = omega (arith, h .1)
 below p n Nowhere h = omega arith
 
@@ -59,7 +59,7 @@ good-name c name id h = short-name name (or-false (badName name) (eqb id 0) (go 
 
 -- ---- what it comes to
 
-create-needs : (d : Disk) (name : List ℕ) (id mode time : ℕ) → listLength (groupsFor d (just (createPlan (catalogueOf d) d name id mode time))) ≡ createCount * recordSize
+create-needs : (d : Disk) (name : List ℕ) (id mode time : ℕ) → listLength (groupsFor d (some (createPlan (catalogueOf d) d name id mode time))) ≡ createCount * recordSize
 unfolding createPlan
 create-needs d name id mode time = plan-needs d (createPlan (catalogueOf d) d name id mode time)
 
@@ -77,15 +77,15 @@ module _ (img list name : List ℕ) (id mode time : ℕ) (ok : judged (length im
 
   pub create-refused : (v .number ≡ 0 → ⊥) → Comes img list name id mode time (record { verdict = v; length = 0 }) list
   unfolding createAnswer createList createDecision
-  create-refused h = refused-by-own (length img) (view img) cs (just plan) list ok v own h
+  create-refused h = refused-by-own (length img) (view img) cs (some plan) list ok v own h
 
   pub create-short : v .number ≡ 0 → length list < createCount * recordSize → Comes img list name id mode time (record { verdict = refusal 14; length = 0 }) list
   unfolding createAnswer createList createDecision
-  create-short z h = refused-as-short (length img) (view img) cs (just plan) list ok v own z (omega (arith, create-needs (view img) name id mode time))
+  create-short z h = refused-as-short (length img) (view img) cs (some plan) list ok v own z (omega (arith, create-needs (view img) name id mode time))
 
   pub create-done : {g : Geometry} {m : List ℕ} {j : ℕ} → v .number ≡ 0 → createCount * recordSize ≤ length list → g ≡ geometryIn (view img superblockAt)
       → Emitted list 0 (closed (groupsOf g (view img) plan)) m j → Comes img list name id mode time (record { verdict = done; length = createCount * recordSize }) m
   unfolding createAnswer createList createDecision groupsFor
   create-done z h is e =
       let n = create-needs (view img) name id mode time in
-      rw (← n) (done-as-planned (length img) (view img) cs (just plan) list ok v own z (omega arith) (rw is at e))
+      rw (← n) (done-as-planned (length img) (view img) cs (some plan) list ok v own z (omega arith) (rw is at e))

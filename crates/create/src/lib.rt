@@ -2,7 +2,7 @@
 use model::Changed;
 use model::FileIndex;
 use model::Geometry;
-use model::Place;
+use model::Lowest;
 use model::Sector;
 use model::Verdict;
 ghost use mathlib.Core.Path.{_≡_};
@@ -11,7 +11,7 @@ ghost use mathlib.Core.List.{[], _∷_};
 ghost use Prim.Native.Nat.{_*_, _≤_};
 ghost use lib.Dec.{eqb};
 ghost use lib.ListN.{length};
-ghost use Rattle.model.specs.Search.{some, isAt, indexOf};
+ghost use Rattle.model.specs.Search.{anyBelow, isAt, indexOf};
 ghost use Rattle.model.specs.Disk.{view};
 ghost use Rattle.model.specs.Entry.{badName, longestName, newEntrySector};
 ghost use Rattle.model.specs.Catalogue.{catalogueOf, fileNamed, hasId};
@@ -26,21 +26,21 @@ const LIST_SIZE: usize = 11 * lists::RECORD_SIZE;
 
 // ---- the refusals 8, 10 and 11
 
-fn is_at(p: Place) -> bool
+fn is_at(p: Lowest) -> bool
     ensures { λ r. ⌜ r ≡ isAt p ⌝ }
 {
     match p {
-        Place::At(_) => true,
-        Place::Nowhere => false,
+        Lowest::At(_) => true,
+        Lowest::Nowhere => false,
     }
 }
 
-fn index_of(p: Place) -> usize
+fn index_of(p: Lowest) -> usize
     ensures { λ r. ⌜ r ≡ indexOf p ⌝ }
 {
     match p {
-        Place::At(i) => i,
-        Place::Nowhere => 0,
+        Lowest::At(i) => i,
+        Lowest::Nowhere => 0,
     }
 }
 
@@ -57,7 +57,7 @@ fn bad_argument(name: &[u8], id: u64) -> bool
 fn is_taken(img: &[u8], g: Geometry, name: &[u8], id: u64) -> bool
     requires { ⌜ Opened (now img) g ⌝ }
     requires { ⌜ length (now name) ≤ longestName ⌝ }
-    ensures { λ r. ⌜ r ≡ (isAt (fileNamed (catalogueOf (view (now (img .entry)))) (now (name .entry))) || some (λ i. hasId id (catalogueOf (view (now (img .entry))) .entries i)) (catalogueOf (view (now (img .entry))) .geometry .files) || eqb id (catalogueOf (view (now (img .entry))) .root .id)) ⌝ }
+    ensures { λ r. ⌜ r ≡ (isAt (fileNamed (catalogueOf (view (now (img .entry)))) (now (name .entry))) || anyBelow (λ i. hasId id (catalogueOf (view (now (img .entry))) .entries i)) (catalogueOf (view (now (img .entry))) .geometry .files) || eqb id (catalogueOf (view (now (img .entry))) .root .id)) ⌝ }
 {
     let p = directory::file_named(img, g, name);
     if is_at(p) {
@@ -107,7 +107,7 @@ fn new_entry(name: &[u8], id: u64, mode: u32, time: u32) -> [u8; 512]
     let n = name.len();
     fields::put_be(&mut a, 30, 4, time as u64);
     fields::put_be(&mut a, 34, 2, n as u64);
-    fields::copy_run(name, 0, &mut a, 36, n);
+    fields::copy_bytes(name, 0, &mut a, 36, n);
     a
 }
 

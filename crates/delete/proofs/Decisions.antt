@@ -3,20 +3,20 @@ use Prim.Native.Nat.{ℕ, zero, suc, _+_, _*_, _≤_, _<_}
 use mathlib.Core.Path.{_≡_, refl, sym, ap, ap₂, _∙_}
 use mathlib.Core.Bool.{Bool, true, false, cond}
 use mathlib.Core.List.{List, [], _∷_}
-use mathlib.Core.Option.{some as just}
+use mathlib.Core.Option.{some}
 use native.Mathlib.Nat.{zero-add}
 use native.Mathlib.Omega.{arith}
 use lib.ListN.{length, length-append}
 use Rattle.model.specs.declared.Changed.{Changed}
 use Rattle.model.specs.declared.Geometry.{Geometry}
-use Rattle.model.specs.declared.Place.{Place}
-use Rattle.model.specs.declared.Place.the-variants.{At, Nowhere}
-use Rattle.model.specs.Search.{flat, count, indexOf}
+use Rattle.model.specs.declared.Lowest.{Lowest}
+use Rattle.model.specs.declared.Lowest.the-variants.{At, Nowhere}
+use Rattle.model.specs.Search.{concatenated, countBelow, indexOf}
 use Rattle.model.specs.Geometry.{superblockAt, tableSectors, extentsFor}
 use Rattle.model.specs.Disk.{Disk, view}
 use Rattle.model.specs.Superblock.{geometryIn}
 use Rattle.model.specs.Entry.{badName}
-use Rattle.model.specs.Catalogue.{Catalogue, catalogueOf, fileNamed, holdsBeyond, sectorsBeyond}
+use Rattle.model.specs.Catalogue.{Catalogue, catalogueOf, fileNamed, holdsFrom, sectorsFrom}
 use Rattle.model.specs.Refusals.{Conditions, verdictOf, refusal, done, judged}
 use Rattle.model.specs.WriteList.{Record, Plan, Emitted, closed, recordSize, recordCount, groupsFor, listLength}
 use Rattle.model.specs.Find.{nameConditions}
@@ -33,34 +33,34 @@ length-if r true = refl
 length-if r false = refl
 
 module _ (c : Catalogue) (d : Disk) (i o : ℕ) where
-  length-freed-one : (t : ℕ) → length (freedSector c d i o t) ≡ cond (holdsBeyond c i o t) 1 0
+  length-freed-one : (t : ℕ) → length (freedSector c d i o t) ≡ cond (holdsFrom c i o t) 1 0
   unfolding freedSector
-  length-freed-one t = length-if _ (holdsBeyond c i o t)
+  length-freed-one t = length-if _ (holdsFrom c i o t)
 
-  length-freed-flat : (n : ℕ) → length (flat (freedSector c d i o) 0 n) ≡ count (holdsBeyond c i o) n
-  unfolding flat count
+  length-freed-flat : (n : ℕ) → length (concatenated (freedSector c d i o) 0 n) ≡ countBelow (holdsFrom c i o) n
+  unfolding concatenated countBelow
   length-freed-flat zero = refl
   length-freed-flat (suc n) =
-      length-append (flat (freedSector c d i o) 0 n) (freedSector c d i o (0 + n))
-      ∙ ap (λ (t : ℕ). length (flat (freedSector c d i o) 0 n) + length (freedSector c d i o t)) (zero-add n)
+      length-append (concatenated (freedSector c d i o) 0 n) (freedSector c d i o (0 + n))
+      ∙ ap (λ (t : ℕ). length (concatenated (freedSector c d i o) 0 n) + length (freedSector c d i o t)) (zero-add n)
       ∙ omega (arith, length-freed-flat n, length-freed-one n)
 
-  pub length-freed : length (freedSectors c d i o) ≡ sectorsBeyond c i o
-  unfolding freedSectors sectorsBeyond
+  pub length-freed : length (freedSectors c d i o) ≡ sectorsFrom c i o
+  unfolding freedSectors sectorsFrom
   length-freed = length-freed-flat (tableSectors (c .geometry))
 
-pub delete-needs : (d : Disk) (i time : ℕ) → listLength (groupsFor d (just (deletePlan (catalogueOf d) d i time))) ≡ recordCount 0 (2 + sectorsBeyond (catalogueOf d) i 0) * recordSize
+pub delete-needs : (d : Disk) (i time : ℕ) → listLength (groupsFor d (some (deletePlan (catalogueOf d) d i time))) ≡ recordCount 0 (2 + sectorsFrom (catalogueOf d) i 0) * recordSize
 unfolding deletePlan
 delete-needs d i time =
     plan-needs d (deletePlan (catalogueOf d) d i time)
-    ∙ ap (λ n. recordCount 0 n * recordSize) (let e : length (deletePlan (catalogueOf d) d i time .targets) ≡ 2 + sectorsBeyond (catalogueOf d) i 0 = omega (arith, length-freed (catalogueOf d) d i 0) in e)
+    ∙ ap (λ n. recordCount 0 n * recordSize) (let e : length (deletePlan (catalogueOf d) d i time .targets) ≡ 2 + sectorsFrom (catalogueOf d) i 0 = omega (arith, length-freed (catalogueOf d) d i 0) in e)
 
 pub shrink-needs : (d : Disk) (g : Geometry) → g ≡ geometryIn (d superblockAt) → (i z time : ℕ)
-    → listLength (groupsFor d (just (shrinkPlan (catalogueOf d) d i z time))) ≡ recordCount 0 (1 + sectorsBeyond (catalogueOf d) i (extentsFor g z)) * recordSize
+    → listLength (groupsFor d (some (shrinkPlan (catalogueOf d) d i z time))) ≡ recordCount 0 (1 + sectorsFrom (catalogueOf d) i (extentsFor g z)) * recordSize
 shrink-needs d g is i z time =
     plan-needs d (shrinkPlan (catalogueOf d) d i z time)
     ∙ ap₂ (λ m n. recordCount m n * recordSize) (ap length (shrink-alone d i z time))
-    (ap length (shrink-targets d g is i z time) ∙ (let e : suc (length (freedSectors (catalogueOf d) d i (extentsFor g z))) ≡ 1 + sectorsBeyond (catalogueOf d) i (extentsFor g z) = omega (arith, length-freed (catalogueOf d) d i (extentsFor g z)) in e))
+    (ap length (shrink-targets d g is i z time) ∙ (let e : suc (length (freedSectors (catalogueOf d) d i (extentsFor g z))) ≡ 1 + sectorsFrom (catalogueOf d) i (extentsFor g z) = omega (arith, length-freed (catalogueOf d) d i (extentsFor g z)) in e))
 
 -- ---- delete's answer and list, test by test
 
@@ -88,11 +88,11 @@ module _ (img list name : List ℕ) (time : ℕ) (ok : judged (length img) (view
 
   pub delete-bad : badName name ≡ true → Comes img list name time (record { verdict = refusal 8; length = 0 }) list
   unfolding deleteAnswer deleteList deleteDecision
-  delete-bad h = refused-by-own (length img) (view img) cs (just plan) list ok (refusal 8) (bad h) (λ (e : _≡_ {A = ℕ} 8 0). omega arith)
+  delete-bad h = refused-by-own (length img) (view img) cs (some plan) list ok (refusal 8) (bad h) (λ (e : _≡_ {A = ℕ} 8 0). omega arith)
 
   pub delete-missing : badName name ≡ false → fileNamed c name ≡ Nowhere → Comes img list name time (record { verdict = refusal 9; length = 0 }) list
   unfolding deleteAnswer deleteList deleteDecision
-  delete-missing h n = refused-by-own (length img) (view img) cs (just plan) list ok (refusal 9) (missing h n) (λ (e : _≡_ {A = ℕ} 9 0). omega arith)
+  delete-missing h n = refused-by-own (length img) (view img) cs (some plan) list ok (refusal 9) (missing h n) (λ (e : _≡_ {A = ℕ} 9 0). omega arith)
 
   module _ (i : ℕ) (good : badName name ≡ false) (found : fileNamed c name ≡ At i) where
     own : done ≡ verdictOf cs
@@ -100,17 +100,17 @@ module _ (img list name : List ℕ) (time : ℕ) (ok : judged (length img) (view
     own = rw (good, found)
 
     plan-is : plan ≡ deletePlan c (view img) i time
-    plan-is = ap (λ (x : Place). deletePlan c (view img) (indexOf x) time) found
+    plan-is = ap (λ (x : Lowest). deletePlan c (view img) (indexOf x) time) found
 
-    needs : listLength (groupsFor (view img) (just plan)) ≡ recordCount 0 (2 + sectorsBeyond c i 0) * recordSize
-    needs = ap (λ (p : Plan). listLength (groupsFor (view img) (just p))) plan-is ∙ delete-needs (view img) i time
+    needs : listLength (groupsFor (view img) (some plan)) ≡ recordCount 0 (2 + sectorsFrom c i 0) * recordSize
+    needs = ap (λ (p : Plan). listLength (groupsFor (view img) (some p))) plan-is ∙ delete-needs (view img) i time
 
-    pub delete-short : length list < recordCount 0 (2 + sectorsBeyond c i 0) * recordSize → Comes img list name time (record { verdict = refusal 14; length = 0 }) list
+    pub delete-short : length list < recordCount 0 (2 + sectorsFrom c i 0) * recordSize → Comes img list name time (record { verdict = refusal 14; length = 0 }) list
     unfolding deleteAnswer deleteList deleteDecision
-    delete-short h = refused-as-short (length img) (view img) cs (just plan) list ok done own refl (rw needs h)
+    delete-short h = refused-as-short (length img) (view img) cs (some plan) list ok done own refl (rw needs h)
 
-    pub delete-done : {m : List ℕ} {j : ℕ} (n : ℕ) → n ≡ recordCount 0 (2 + sectorsBeyond c i 0) * recordSize → n ≤ length list
-        → Emitted list 0 (closed (groupsFor (view img) (just (deletePlan c (view img) i time)))) m j → Comes img list name time (record { verdict = done; length = n }) m
+    pub delete-done : {m : List ℕ} {j : ℕ} (n : ℕ) → n ≡ recordCount 0 (2 + sectorsFrom c i 0) * recordSize → n ≤ length list
+        → Emitted list 0 (closed (groupsFor (view img) (some (deletePlan c (view img) i time)))) m j → Comes img list name time (record { verdict = done; length = n }) m
     unfolding deleteAnswer deleteList deleteDecision
     delete-done {m} {j} n q h e =
-        rw (q ∙ sym needs) (done-as-planned (length img) (view img) cs (just plan) list ok done own {j = j} refl (rw (needs ∙ sym q) h) (rw plan-is e))
+        rw (q ∙ sym needs) (done-as-planned (length img) (view img) cs (some plan) list ok done own {j = j} refl (rw (needs ∙ sym q) h) (rw plan-is e))

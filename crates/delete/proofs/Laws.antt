@@ -4,17 +4,17 @@ use mathlib.Core.Path.{_≡_, refl, sym, ap}
 use mathlib.Core.Logic.{⊎-elim}
 use mathlib.Core.Bool.{Bool, true, false}
 use mathlib.Core.List.{List, [], _∷_, _++_, append-assoc, append-nil}
-use mathlib.Core.Option.{some as just}
+use mathlib.Core.Option.{some}
 use native.Mathlib.Nat.{eq-or-lt-of-le}
 use native.Mathlib.Omega.{arith}
 use lib.ListN.{length, set}
 use Rattle.model.specs.declared.Geometry.{Geometry}
-use Rattle.model.specs.Search.{count, flat}
+use Rattle.model.specs.Search.{countBelow, concatenated}
 use Rattle.model.specs.Geometry.{superblockAt, rootAt, entryAt, tableAt, tableSectors, reserveAt, extentsFor}
 use Rattle.model.specs.Disk.{Disk}
 use Rattle.model.specs.Superblock.{geometryIn}
 use Rattle.model.specs.Table.{freedIn}
-use Rattle.model.specs.Catalogue.{catalogueOf, isBeyond, holdsBeyond}
+use Rattle.model.specs.Catalogue.{catalogueOf, ownedFrom, holdsFrom}
 use Rattle.model.specs.WriteList.{Group, Plan, sectorWrite, recordSize, Emitted, groupsFor, closed}
 use Rattle.model.specs.Bytes.{zeroSector}
 use Rattle.model.specs.Root.{updatedRootSector}
@@ -50,7 +50,7 @@ module _ {g : Geometry} {numbers m : List ℕ} {k : ℕ} where
 -- all of a plan's targets, and the commit behind them
 module _ {g : Geometry} {numbers₀ numbers l m m′ : List ℕ} {ts : Group} {k j : ℕ} (d : Disk) (p : Plan) where
   pub added-committed : Added g numbers₀ l 0 ts numbers m k → Emitted m k (closed (commitGroups g d m (k - k) numbers k)) m′ j
-      → g ≡ geometryIn (d superblockAt) → ts ≡ p .targets → p .dataSectors ≡ [] → k * recordSize ≤ length l → Emitted l 0 (closed (groupsFor d (just p))) m′ j
+      → g ≡ geometryIn (d superblockAt) → ts ≡ p .targets → p .dataSectors ≡ [] → k * recordSize ≤ length l → Emitted l 0 (closed (groupsFor d (some p))) m′ j
   added-committed a q is e none room =
       let st : Staged g l [] (p .targets) numbers m k = rw (← e) (a .more l [] (staged-none (emitted-none l 0))) in
       committed-for d p is (rw none st) (let e : k ≡ length (p .targets) = omega (arith, staged-count st) in e) room q
@@ -58,16 +58,16 @@ module _ {g : Geometry} {numbers₀ numbers l m m′ : List ℕ} {ts : Group} {k
 -- ---- freed table sectors
 
 module _ (d : Disk) (g : Geometry) (is : g ≡ geometryIn (d superblockAt)) (i o : ℕ) where
-  pub freed-hit : (t : ℕ) → holdsBeyond (catalogueOf d) i o t ≡ true
-      → freedSector (catalogueOf d) d i o t ≡ sectorWrite (tableAt g + t) (freedIn (λ k. isBeyond i o (catalogueOf d .table (128 * t + k))) (d (tableAt g + t)) 128) ∷ []
+  pub freed-hit : (t : ℕ) → holdsFrom (catalogueOf d) i o t ≡ true
+      → freedSector (catalogueOf d) d i o t ≡ sectorWrite (tableAt g + t) (freedIn (λ k. ownedFrom i o (catalogueOf d .table (128 * t + k))) (d (tableAt g + t)) 128) ∷ []
   unfolding freedSector catalogueOf
   freed-hit t h = rw (h, is)
 
-  pub freed-all : freedSectors (catalogueOf d) d i o ≡ flat (freedSector (catalogueOf d) d i o) 0 (tableSectors g)
+  pub freed-all : freedSectors (catalogueOf d) d i o ≡ concatenated (freedSector (catalogueOf d) d i o) 0 (tableSectors g)
   unfolding freedSectors catalogueOf
   freed-all = rw is
 
-pub freed-miss : (d : Disk) (i o t : ℕ) → holdsBeyond (catalogueOf d) i o t ≡ false → freedSector (catalogueOf d) d i o t ≡ []
+pub freed-miss : (d : Disk) (i o t : ℕ) → holdsFrom (catalogueOf d) i o t ≡ false → freedSector (catalogueOf d) d i o t ≡ []
 unfolding freedSector
 freed-miss d i o t h = rw h
 
@@ -97,8 +97,8 @@ unfolding deletePlan
 delete-alone d i time = refl
 
 -- ---- a count grows
-pub count-rises : (p : ℕ → Bool) (t n : ℕ) → t ≤ n → count p t ≤ count p n
-unfolding count
-count-rises p t zero h = let e : t ≡ 0 = omega arith in rw e (omega arith)
-count-rises p t (suc n) h =
-    ⊎-elim (λ (q : t ≡ suc n). rw q (omega arith)) (λ (l : t < suc n). let r : count p t ≤ count p n = count-rises p t n (omega arith) in omega arith) (eq-or-lt-of-le h)
+pub countBelow-rises : (p : ℕ → Bool) (t n : ℕ) → t ≤ n → countBelow p t ≤ countBelow p n
+unfolding countBelow
+countBelow-rises p t zero h = let e : t ≡ 0 = omega arith in rw e (omega arith)
+countBelow-rises p t (suc n) h =
+    ⊎-elim (λ (q : t ≡ suc n). rw q (omega arith)) (λ (l : t < suc n). let r : countBelow p t ≤ countBelow p n = countBelow-rises p t n (omega arith) in omega arith) (eq-or-lt-of-le h)

@@ -2,17 +2,17 @@
 use model::Changed;
 use model::FileIndex;
 use model::Geometry;
-use model::Place;
+use model::Lowest;
 use model::Sector;
 ghost use mathlib.Core.Path.{_≡_};
 ghost use mathlib.Core.Bool.{cond};
-ghost use mathlib.Core.Option.{some as just};
+ghost use mathlib.Core.Option.{some};
 ghost use Prim.Native.Nat.{_+_, _*_, _≤_, _<_};
 ghost use lib.ListN.{length};
 ghost use Rattle.model.specs.Geometry.{tableSectors, extentsFor};
 ghost use Rattle.model.specs.Disk.{view};
 ghost use Rattle.model.specs.Table.{freeFile};
-ghost use Rattle.model.specs.Catalogue.{catalogueOf, holdsBeyond, sectorsBeyond};
+ghost use Rattle.model.specs.Catalogue.{catalogueOf, holdsFrom, sectorsFrom};
 ghost use Rattle.model.specs.Refusals.{judged};
 ghost use Rattle.model.specs.WriteList.{recordSize, recordCount, groupsFor, closed, Emitted};
 ghost use Rattle.model.specs.Delete.{freedSector, freedSectors, deletePlan, deleteAnswer, deleteList};
@@ -37,9 +37,9 @@ fn put_freed_sector(
     requires { ⌜ (i .0 < freeFile) × (t < tableSectors g) ⌝ }
     requires { ⌜ ((k + 1) * recordSize ≤ length (now list)) × (k < length (now numbers)) ⌝ }
     ensures { λ r. ⌜ Added g (now (numbers .entry)) (now (list .entry)) k (freedSector (catalogueOf (view (now (img .entry)))) (view (now (img .entry))) (i .0) o t) (now (numbers .exit)) (now (list .exit)) r ⌝ }
-    ensures { λ r. ⌜ (r ≡ k + cond (holdsBeyond (catalogueOf (view (now (img .entry)))) (i .0) o t) 1 0) × (r ≤ k + 1) ⌝ }
+    ensures { λ r. ⌜ (r ≡ k + cond (holdsFrom (catalogueOf (view (now (img .entry)))) (i .0) o t) 1 0) × (r ≤ k + 1) ⌝ }
 {
-    if table::holds_beyond(img, g, i, o, t) {
+    if table::holds_from(img, g, i, o, t) {
         let s = table::freed(img, g, i, o, t);
         return commit::put_copy(list, k, g, numbers, k, g.table_sector(t), s);
     }
@@ -58,9 +58,9 @@ fn put_freed(
 ) -> usize
     requires { ⌜ Opened (now img) g ⌝ }
     requires { ⌜ i .0 < freeFile ⌝ }
-    requires { ⌜ ((k + sectorsBeyond (catalogueOf (view (now img))) (i .0) o + 1) * recordSize ≤ length (now list)) × (k + tableSectors g ≤ length (now numbers)) ⌝ }
+    requires { ⌜ ((k + sectorsFrom (catalogueOf (view (now img))) (i .0) o + 1) * recordSize ≤ length (now list)) × (k + tableSectors g ≤ length (now numbers)) ⌝ }
     ensures { λ r. ⌜ Added g (now (numbers .entry)) (now (list .entry)) k (freedSectors (catalogueOf (view (now (img .entry)))) (view (now (img .entry))) (i .0) o) (now (numbers .exit)) (now (list .exit)) r ⌝ }
-    ensures { λ r. ⌜ (r ≡ k + sectorsBeyond (catalogueOf (view (now (img .entry)))) (i .0) o) × (r ≤ k + tableSectors g) ⌝ }
+    ensures { λ r. ⌜ (r ≡ k + sectorsFrom (catalogueOf (view (now (img .entry)))) (i .0) o) × (r ≤ k + tableSectors g) ⌝ }
 {
     let n = g.table_sectors();
     let mut j = k;
@@ -87,19 +87,19 @@ fn records_for(n: u64) -> usize
 pub fn shrink_count(img: &[u8], g: Geometry, i: FileIndex, size: u64) -> usize
     requires { ⌜ Opened (now img) g ⌝ }
     requires { ⌜ i .0 < freeFile ⌝ }
-    ensures { λ r. ⌜ r ≡ recordCount 0 (1 + sectorsBeyond (catalogueOf (view (now (img .entry)))) (i .0) (extentsFor g size)) ⌝ }
+    ensures { λ r. ⌜ r ≡ recordCount 0 (1 + sectorsFrom (catalogueOf (view (now (img .entry)))) (i .0) (extentsFor g size)) ⌝ }
     ensures { λ r. ⌜ r ≤ 2048 ⌝ }
 {
     let first = table::extents_for(g, size);
-    records_for(1 + table::sectors_beyond(img, g, i, first))
+    records_for(1 + table::sectors_from(img, g, i, first))
 }
 
 // Shrinks file i to the size given: the whole list, which has room for it. The answer is how many records it has.
 pub fn shrink(img: &[u8], g: Geometry, i: FileIndex, size: u64, time: u32, list: &mut [u8]) -> usize
     requires { ⌜ Opened (now img) g ⌝ }
     requires { ⌜ i .0 < g .files ⌝ }
-    requires { ⌜ recordCount 0 (1 + sectorsBeyond (catalogueOf (view (now img))) (i .0) (extentsFor g size)) * recordSize ≤ length (now list) ⌝ }
-    ensures { λ r. ⌜ Emitted (now (list .entry)) 0 (closed (groupsFor (view (now (img .entry))) (just (shrinkPlan (catalogueOf (view (now (img .entry)))) (view (now (img .entry))) (i .0) size time)))) (now (list .exit)) r ⌝ }
+    requires { ⌜ recordCount 0 (1 + sectorsFrom (catalogueOf (view (now img))) (i .0) (extentsFor g size)) * recordSize ≤ length (now list) ⌝ }
+    ensures { λ r. ⌜ Emitted (now (list .entry)) 0 (closed (groupsFor (view (now (img .entry))) (some (shrinkPlan (catalogueOf (view (now (img .entry)))) (view (now (img .entry))) (i .0) size time)))) (now (list .exit)) r ⌝ }
 {
     let mut numbers = [0u64; 1024];
     let s = rewrites::updated_entry(img, i, size, time);
@@ -115,8 +115,8 @@ pub fn shrink(img: &[u8], g: Geometry, i: FileIndex, size: u64, time: u32, list:
 fn put_delete(img: &[u8], g: Geometry, i: FileIndex, time: u32, list: &mut [u8]) -> usize
     requires { ⌜ Opened (now img) g ⌝ }
     requires { ⌜ i .0 < g .files ⌝ }
-    requires { ⌜ recordCount 0 (2 + sectorsBeyond (catalogueOf (view (now img))) (i .0) 0) * recordSize ≤ length (now list) ⌝ }
-    ensures { λ r. ⌜ Emitted (now (list .entry)) 0 (closed (groupsFor (view (now (img .entry))) (just (deletePlan (catalogueOf (view (now (img .entry)))) (view (now (img .entry))) (i .0) time)))) (now (list .exit)) r ⌝ }
+    requires { ⌜ recordCount 0 (2 + sectorsFrom (catalogueOf (view (now img))) (i .0) 0) * recordSize ≤ length (now list) ⌝ }
+    ensures { λ r. ⌜ Emitted (now (list .entry)) 0 (closed (groupsFor (view (now (img .entry))) (some (deletePlan (catalogueOf (view (now (img .entry)))) (view (now (img .entry))) (i .0) time)))) (now (list .exit)) r ⌝ }
 {
     let mut numbers = [0u64; 1024];
     let root = rewrites::updated_root(img, time);
@@ -131,10 +131,10 @@ fn put_delete(img: &[u8], g: Geometry, i: FileIndex, time: u32, list: &mut [u8])
 fn delete_count(img: &[u8], g: Geometry, i: FileIndex) -> usize
     requires { ⌜ Opened (now img) g ⌝ }
     requires { ⌜ i .0 < freeFile ⌝ }
-    ensures { λ r. ⌜ r ≡ recordCount 0 (2 + sectorsBeyond (catalogueOf (view (now (img .entry)))) (i .0) 0) ⌝ }
+    ensures { λ r. ⌜ r ≡ recordCount 0 (2 + sectorsFrom (catalogueOf (view (now (img .entry)))) (i .0) 0) ⌝ }
     ensures { λ r. ⌜ r ≤ 2048 ⌝ }
 {
-    records_for(2 + table::sectors_beyond(img, g, i, 0))
+    records_for(2 + table::sectors_from(img, g, i, 0))
 }
 
 pub fn delete_in(img: &[u8], name: &[u8], time: u32, list: &mut [u8]) -> Changed
@@ -146,7 +146,7 @@ pub fn delete_in(img: &[u8], name: &[u8], time: u32, list: &mut [u8]) -> Changed
         return commit::refused(volume::refusal(8));
     }
     let g = volume::geometry_in(img);
-    if let Place::At(i) = directory::file_named(img, g, name) {
+    if let Lowest::At(i) = directory::file_named(img, g, name) {
         let index = FileIndex(i as u64);
         let needed = lists::RECORD_SIZE * delete_count(img, g, index);
         if needed <= list.len() {

@@ -4,22 +4,22 @@ use mathlib.Core.Path.{_≡_, ap, _∙_}
 use mathlib.Core.Bool.{Bool, _&&_, _||_}
 use lib.Dec.{eqb, ltb}
 use Rattle.model.specs.Bytes.{beAt}
-use Rattle.model.specs.Search.{first, some}
+use Rattle.model.specs.Search.{first, anyBelow}
 use Rattle.model.specs.Geometry.{usable, extentBytes, entryAt}
 use Rattle.model.specs.Disk.{Disk}
 use Rattle.model.specs.Superblock.{geometryIn}
 use Rattle.model.specs.Entry.{entryIn, isOccupied, nameIn, badName}
 use Rattle.model.specs.Catalogue.{catalogueOf, hasId}
 use Rattle.model.specs.Faults.{fault22}
-use Rattle.laws.proofs.Search.{first-ext, some-ext}
+use Rattle.laws.proofs.Search.{first-ext, anyBelow-ext}
 use Rattle.laws.proofs.Catalogue.{id-if, slot-on, fault22-is}
 
 pub id-on : (d : Disk) (n : ℕ)
-    → some (λ i. hasId n (catalogueOf d .entries i)) (catalogueOf d .geometry .files)
-    ≡ some (λ i. isOccupied (d (entryAt i)) && eqb (beAt (d (entryAt i)) 14 8) n) (geometryIn (d 0) .files)
+    → anyBelow (λ i. hasId n (catalogueOf d .entries i)) (catalogueOf d .geometry .files)
+    ≡ anyBelow (λ i. isOccupied (d (entryAt i)) && eqb (beAt (d (entryAt i)) 14 8) n) (geometryIn (d 0) .files)
 unfolding catalogueOf entryIn
 id-on d n =
-    some-ext (λ i. hasId n (catalogueOf d .entries i)) (λ i. isOccupied (d (entryAt i)) && eqb (beAt (d (entryAt i)) 14 8) n) (geometryIn (d 0) .files)
+    anyBelow-ext (λ i. hasId n (catalogueOf d .entries i)) (λ i. isOccupied (d (entryAt i)) && eqb (beAt (d (entryAt i)) 14 8) n) (geometryIn (d 0) .files)
     (λ i l. ap (hasId n) (slot-on d i l) ∙ id-if (isOccupied (d (entryAt i))) (entryIn (d (entryAt i))) n)
 
 -- an entry that is occupied, and its name is bad or its size exceeds `most`

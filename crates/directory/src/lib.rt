@@ -2,14 +2,14 @@
 use model::Fields;
 use model::FileIndex;
 use model::Geometry;
-use model::Place;
+use model::Lowest;
 ghost use mathlib.Core.Path.{_≡_};
 ghost use mathlib.Core.Bool.{_&&_, _||_};
 ghost use Prim.Native.Nat.{_+_, _*_, _≤_, _<_};
 ghost use lib.Dec.{eqb, ltb};
 ghost use lib.ListN.{length};
 ghost use Rattle.model.specs.Bytes.{numberIn};
-ghost use Rattle.model.specs.Search.{first, some, same};
+ghost use Rattle.model.specs.Search.{first, anyBelow, equalBytes};
 ghost use Rattle.model.specs.Geometry.{usable, extentBytes, entryAt};
 ghost use Rattle.model.specs.Disk.{view};
 ghost use Rattle.model.specs.Entry.{entryField, entryIn, fieldsOf, longestName, isOccupied, nameIn, badName};
@@ -73,7 +73,7 @@ pub fn name_at(img: &[u8], i: FileIndex) -> &[u8]
 pub fn has_name(img: &[u8], i: FileIndex, name: &[u8]) -> bool
     requires { ⌜ 512 * entryAt (i .0) + 512 ≤ length (now img) ⌝ }
     requires { ⌜ length (now name) ≤ longestName ⌝ }
-    ensures { λ r. ⌜ r ≡ (isOccupied (view (now (img .entry)) (entryAt (i .0))) && same (nameIn (view (now (img .entry)) (entryAt (i .0)))) (now (name .entry))) ⌝ }
+    ensures { λ r. ⌜ r ≡ (isOccupied (view (now (img .entry)) (entryAt (i .0))) && equalBytes (nameIn (view (now (img .entry)) (entryAt (i .0)))) (now (name .entry))) ⌝ }
 {
     if is_occupied(img, i) {
         let k = i.sector();
@@ -101,7 +101,7 @@ pub fn has_id_at(img: &[u8], i: FileIndex, id: u64) -> bool
 // ---- searches
 
 // The file of that name.
-pub fn file_named(img: &[u8], g: Geometry, name: &[u8]) -> Place
+pub fn file_named(img: &[u8], g: Geometry, name: &[u8]) -> Lowest
     requires { ⌜ Opened (now img) g ⌝ }
     requires { ⌜ length (now name) ≤ longestName ⌝ }
     ensures { λ r. ⌜ r ≡ fileNamed (catalogueOf (view (now (img .entry)))) (now (name .entry)) ⌝ }
@@ -110,15 +110,15 @@ pub fn file_named(img: &[u8], g: Geometry, name: &[u8]) -> Place
     let mut i: usize = 0;
     while i < f {
         if has_name(img, FileIndex(i as u64), name) {
-            return Place::At(i);
+            return Lowest::At(i);
         }
         i += 1;
     }
-    Place::Nowhere
+    Lowest::Nowhere
 }
 
 // The lowest free entry.
-pub fn free_entry(img: &[u8], g: Geometry) -> Place
+pub fn free_entry(img: &[u8], g: Geometry) -> Lowest
     requires { ⌜ Opened (now img) g ⌝ }
     ensures { λ r. ⌜ r ≡ freeEntry (catalogueOf (view (now (img .entry)))) ⌝ }
 {
@@ -128,16 +128,16 @@ pub fn free_entry(img: &[u8], g: Geometry) -> Place
         if is_occupied(img, FileIndex(i as u64)) {
             i += 1;
         } else {
-            return Place::At(i);
+            return Lowest::At(i);
         }
     }
-    Place::Nowhere
+    Lowest::Nowhere
 }
 
 // Whether an occupied entry has the id.
 pub fn has_id(img: &[u8], g: Geometry, id: u64) -> bool
     requires { ⌜ Opened (now img) g ⌝ }
-    ensures { λ r. ⌜ r ≡ some (λ i. hasId id (catalogueOf (view (now (img .entry))) .entries i)) (catalogueOf (view (now (img .entry))) .geometry .files) ⌝ }
+    ensures { λ r. ⌜ r ≡ anyBelow (λ i. hasId id (catalogueOf (view (now (img .entry))) .entries i)) (catalogueOf (view (now (img .entry))) .geometry .files) ⌝ }
 {
     let f = g.files as usize;
     let mut i: usize = 0;
@@ -164,7 +164,7 @@ fn bad_mark(img: &[u8], i: FileIndex) -> bool
     mark != 65535
 }
 
-pub fn fault21(img: &[u8], g: Geometry) -> Place
+pub fn fault21(img: &[u8], g: Geometry) -> Lowest
     requires { ⌜ Opened (now img) g ⌝ }
     ensures { λ r. ⌜ r ≡ first (fault21 (view (now (img .entry)))) (g .files) ⌝ }
 {
@@ -172,11 +172,11 @@ pub fn fault21(img: &[u8], g: Geometry) -> Place
     let mut i: usize = 0;
     while i < f {
         if bad_mark(img, FileIndex(i as u64)) {
-            return Place::At(i);
+            return Lowest::At(i);
         }
         i += 1;
     }
-    Place::Nowhere
+    Lowest::Nowhere
 }
 
 // ---- fault 22
@@ -228,7 +228,7 @@ fn bad_entry(img: &[u8], most: u64, i: FileIndex) -> bool
     false
 }
 
-pub fn fault22(img: &[u8], g: Geometry) -> Place
+pub fn fault22(img: &[u8], g: Geometry) -> Lowest
     requires { ⌜ Opened (now img) g ⌝ }
     ensures { λ r. ⌜ r ≡ first (fault22 (catalogueOf (view (now (img .entry))))) (g .files) ⌝ }
 {
@@ -237,9 +237,9 @@ pub fn fault22(img: &[u8], g: Geometry) -> Place
     let mut i: usize = 0;
     while i < f {
         if bad_entry(img, most, FileIndex(i as u64)) {
-            return Place::At(i);
+            return Lowest::At(i);
         }
         i += 1;
     }
-    Place::Nowhere
+    Lowest::Nowhere
 }

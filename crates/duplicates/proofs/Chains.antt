@@ -12,8 +12,8 @@ use lib.Dec.{eqb}
 use lib.ListN.{length, getD, set, length-set}
 use lib.Seq.{getD-set-same, getD-set-other}
 use borrow.Author.Tests.{eqb-true, eqb-false}
-use Rattle.model.specs.Search.{some}
-use Rattle.laws.proofs.Search.{some-more, some-true}
+use Rattle.model.specs.Search.{anyBelow}
+use Rattle.laws.proofs.Search.{anyBelow-more, anyBelow-true}
 use Rattle.duplicates.specs.Chains.{lastBelow, Chain, Chains}
 
 -- ---- the last index of a bucket
@@ -92,21 +92,21 @@ module _ (member : ℕ → ℕ → Bool) (i : ℕ) (head next : List ℕ) (C : C
 
 -- the walk has come to j: what is left is below j, and j is 0 or the last of the chain there
 pub record Walk (p q : ℕ → Bool) (i j : ℕ) : Type 0 where
-  pub rest : some p j ≡ some p i
+  pub rest : anyBelow p j ≡ anyBelow p i
   pub within : j ≤ i
   pub on : (k : ℕ) → j ≡ k + 1 → q k ≡ true
 
-skip : (p q : ℕ → Bool) → ((j : ℕ) → p j ≡ true → q j ≡ true) → (n : ℕ) → some p (lastBelow q n) ≡ some p n
-unfolding some lastBelow
+skip : (p q : ℕ → Bool) → ((j : ℕ) → p j ≡ true → q j ≡ true) → (n : ℕ) → anyBelow p (lastBelow q n) ≡ anyBelow p n
+unfolding anyBelow lastBelow
 skip p q only zero = refl
 skip p q only (suc n) = go (q n) refl (p n) refl (skip p q only n)
   where
-    go : (b : Bool) → q n ≡ b → (c : Bool) → p n ≡ c → some p (lastBelow q n) ≡ some p n → some p (cond b (suc n) (lastBelow q n)) ≡ some p (suc n)
+    go : (b : Bool) → q n ≡ b → (c : Bool) → p n ≡ c → anyBelow p (lastBelow q n) ≡ anyBelow p n → anyBelow p (cond b (suc n) (lastBelow q n)) ≡ anyBelow p (suc n)
     go true t c u h = refl
     go false t true u h = absurd (true≢false (sym (only n u) ∙ t))
     go false t false u h = rw u h
 
-walk-to : (p q : ℕ → Bool) (i n : ℕ) → ((j : ℕ) → p j ≡ true → q j ≡ true) → n ≤ i → some p n ≡ some p i → Walk p q i (lastBelow q n)
+walk-to : (p q : ℕ → Bool) (i n : ℕ) → ((j : ℕ) → p j ≡ true → q j ≡ true) → n ≤ i → anyBelow p n ≡ anyBelow p i → Walk p q i (lastBelow q n)
 walk-to p q i n only l e = record { rest = skip p q only n ∙ e; within = omega (arith, lastBelow-le q n); on = lastBelow-at q n }
 
 one-less : (j : ℕ) → j ≢ 0 → j ≡ (j - 1) + 1
@@ -126,12 +126,12 @@ module _ {p q : ℕ → Bool} {i : ℕ} (only : (j : ℕ) → p j ≡ true → q
     pub walk-next : p (j - 1) ≡ false → Walk p q i (getD next (j - 1) 0)
     walk-next e =
         rw is-next
-        (walk-to p q i (j - 1) only (omega (arith, W .within)) (sym (rw e at (some-more p (j - 1))) ∙ ap (some p) (sym (one-less j more)) ∙ W .rest))
+        (walk-to p q i (j - 1) only (omega (arith, W .within)) (sym (rw e at (anyBelow-more p (j - 1))) ∙ ap (anyBelow p) (sym (one-less j more)) ∙ W .rest))
 
 module _ {p q : ℕ → Bool} {i j : ℕ} (W : Walk p q i j) where
-  pub walk-found : j ≢ 0 → p (j - 1) ≡ true → some p i ≡ true
-  walk-found more e = some-true p (j - 1) i (omega (arith, one-less j more, W .within)) e
+  pub walk-found : j ≢ 0 → p (j - 1) ≡ true → anyBelow p i ≡ true
+  walk-found more e = anyBelow-true p (j - 1) i (omega (arith, one-less j more, W .within)) e
 
-  pub walk-end : j ≡ 0 → some p i ≡ false
-  unfolding some
+  pub walk-end : j ≡ 0 → anyBelow p i ≡ false
+  unfolding anyBelow
   walk-end z = sym (rw z at (W .rest))

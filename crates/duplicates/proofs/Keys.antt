@@ -12,9 +12,9 @@ use lib.Dec.{eqb, leb, lit<}
 use lib.ListN.{length, getD}
 use lib.Seq.{ext-getD}
 use borrow.Author.Tests.{eqb-true, eq-eqb, ne-eqb, le-leb}
-use Rattle.model.specs.declared.Place.the-variants.{Nowhere}
+use Rattle.model.specs.declared.Lowest.the-variants.{Nowhere}
 use Rattle.model.specs.Bytes.{beAt}
-use Rattle.model.specs.Search.{first, every, same}
+use Rattle.model.specs.Search.{first, allBelow, equalBytes}
 use Rattle.model.specs.Geometry.{entryAt}
 use Rattle.model.specs.Disk.{Disk}
 use Rattle.model.specs.Superblock.{geometryIn}
@@ -22,7 +22,7 @@ use Rattle.model.specs.Entry.{isOccupied, nameIn, badName}
 use Rattle.model.specs.Catalogue.{catalogueOf}
 use Rattle.model.specs.Faults.{fault22, fault23, fault24}
 use Rattle.laws.proofs.Booleans.{and-left, and-right, and-yes}
-use Rattle.laws.proofs.Search.{every-at, first-missed, first-ext}
+use Rattle.laws.proofs.Search.{allBelow-at, first-missed, first-ext}
 use Rattle.laws.proofs.Entry.{length-nameIn, long-name}
 use Rattle.laws.proofs.Catalogue.{fault22-is, fault23-is, fault24-is}
 use Rattle.duplicates.specs.declared.Key.{Key}
@@ -31,11 +31,11 @@ use Rattle.duplicates.specs.Keys.{sameKey, KeysFit, shares, isRepeated, 
 use Rattle.duplicates.specs.Chains.{member}
 
 -- strings that are the same are equal
-same-eq : (a b : List ℕ) → same a b ≡ true → a ≡ b
-unfolding same
+same-eq : (a b : List ℕ) → equalBytes a b ≡ true → a ≡ b
+unfolding equalBytes
 same-eq a b e =
-    let l : length a ≡ length b = eqb-true _ _ (and-left (eqb (length a) (length b)) (every (λ k. eqb (getD a k 0) (getD b k 0)) (length b)) e) in
-    let f = every-at (λ k. eqb (getD a k 0) (getD b k 0)) (length b) (and-right (eqb (length a) (length b)) _ e) in
+    let l : length a ≡ length b = eqb-true _ _ (and-left (eqb (length a) (length b)) (allBelow (λ k. eqb (getD a k 0) (getD b k 0)) (length b)) e) in
+    let f = allBelow-at (λ k. eqb (getD a k 0) (getD b k 0)) (length b) (and-right (eqb (length a) (length b)) _ e) in
     ext-getD 0 a b l (λ i h. eqb-true _ _ (f i (omega arith)))
 
 -- ---- buckets

@@ -6,7 +6,7 @@ use mathlib.Core.List.{List}
 use lib.Dec.{eqb, leb}
 use lib.ListN.{length}
 use Rattle.model.specs.Bytes.{beAt, numberIn}
-use Rattle.model.specs.Search.{some, same}
+use Rattle.model.specs.Search.{anyBelow, equalBytes}
 use Rattle.model.specs.Geometry.{rootAt, entryAt}
 use Rattle.model.specs.Disk.{Disk}
 use Rattle.model.specs.Root.{rootIn}
@@ -16,7 +16,7 @@ use Rattle.duplicates.specs.declared.Key.the-variants.{Name, Id}
 
 -- two entries' sectors have the same key
 abbrev pub sameKey : Key → List ℕ → List ℕ → Bool
-sameKey Name a b = same (nameIn a) (nameIn b)
+sameKey Name a b = equalBytes (nameIn a) (nameIn b)
 sameKey Id a b = eqb (numberIn a (entryField .id)) (numberIn b (entryField .id))
 
 -- the key ends in its sector
@@ -38,7 +38,7 @@ module _ (key : Key) (d : Disk) (i : ℕ) where
   shares j = isOccupied (d (entryAt j)) && sameKey key (d (entryAt j)) (d (entryAt i))
 
   unfoldable pub isRepeated : Bool
-  isRepeated = some shares i
+  isRepeated = anyBelow shares i
 
   unfoldable pub isFaulty : Bool
   isFaulty = isOccupied (d (entryAt i)) && (isReserved key d i || isRepeated)

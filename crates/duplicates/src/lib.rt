@@ -2,7 +2,7 @@
 // the chain of the bucket that its key's hash picks, and it is compared with the entries of that chain alone.
 use model::FileIndex;
 use model::Geometry;
-use model::Place;
+use model::Lowest;
 use model::Sector;
 ghost use mathlib.Core.Path.{_≡_};
 ghost use mathlib.Core.Bool.{true, false};
@@ -165,7 +165,7 @@ fn is_faulty(img: &[u8], key: Key, i: usize, head: &mut [u16], next: &mut [u16])
 // ---- the searches
 
 // The lowest faulty entry, by way of empty chains that are lent.
-fn first_in(img: &[u8], g: Geometry, key: Key, head: &mut [u16], next: &mut [u16]) -> Place
+fn first_in(img: &[u8], g: Geometry, key: Key, head: &mut [u16], next: &mut [u16]) -> Lowest
     requires { ⌜ Opened (now img) g ⌝ }
     requires { ⌜ KeysFit key (view (now img)) (g .files) ⌝ }
     requires { ⌜ (0 < length (now head)) × (length (now head) ≤ 65536) × (g .files ≤ length (now next)) × (g .files ≤ 65535) ⌝ }
@@ -176,14 +176,14 @@ fn first_in(img: &[u8], g: Geometry, key: Key, head: &mut [u16], next: &mut [u16
     let mut i: usize = 0;
     while i < f {
         if is_faulty(img, key, i, head, next) {
-            return Place::At(i);
+            return Lowest::At(i);
         }
         i += 1;
     }
-    Place::Nowhere
+    Lowest::Nowhere
 }
 
-fn first_of_few(img: &[u8], g: Geometry, key: Key) -> Place
+fn first_of_few(img: &[u8], g: Geometry, key: Key) -> Lowest
     requires { ⌜ Opened (now img) g ⌝ }
     requires { ⌜ KeysFit key (view (now img)) (g .files) ⌝ }
     requires { ⌜ g .files ≤ 1024 ⌝ }
@@ -194,7 +194,7 @@ fn first_of_few(img: &[u8], g: Geometry, key: Key) -> Place
     first_in(img, g, key, &mut head, &mut next)
 }
 
-fn first_of_many(img: &[u8], g: Geometry, key: Key) -> Place
+fn first_of_many(img: &[u8], g: Geometry, key: Key) -> Lowest
     requires { ⌜ Opened (now img) g ⌝ }
     requires { ⌜ KeysFit key (view (now img)) (g .files) ⌝ }
     requires { ⌜ g .files ≤ 65535 ⌝ }
@@ -207,7 +207,7 @@ fn first_of_many(img: &[u8], g: Geometry, key: Key) -> Place
 
 // By way of chains for `room` entries, or for 64 times as many. It calls itself to keep the longer chains out of the stack of a
 // volume that doesn't use them (docs/DECISIONS.md).
-fn first_with(img: &[u8], g: Geometry, key: Key, room: u64) -> Place
+fn first_with(img: &[u8], g: Geometry, key: Key, room: u64) -> Lowest
     requires { ⌜ Opened (now img) g ⌝ }
     requires { ⌜ KeysFit key (view (now img)) (g .files) ⌝ }
     requires { ⌜ 0 < room ⌝ }
@@ -222,7 +222,7 @@ fn first_with(img: &[u8], g: Geometry, key: Key, room: u64) -> Place
     first_with(img, g, key, room * 64)
 }
 
-fn first_faulty(img: &[u8], g: Geometry, key: Key) -> Place
+fn first_faulty(img: &[u8], g: Geometry, key: Key) -> Lowest
     requires { ⌜ Opened (now img) g ⌝ }
     requires { ⌜ KeysFit key (view (now img)) (g .files) ⌝ }
     ensures { λ r. ⌜ r ≡ first (isFaulty key (view (now (img .entry)))) (g .files) ⌝ }
@@ -231,15 +231,15 @@ fn first_faulty(img: &[u8], g: Geometry, key: Key) -> Place
 }
 
 // Fault 22 bounds the names, so each ends in its sector.
-pub fn fault23(img: &[u8], g: Geometry) -> Place
+pub fn fault23(img: &[u8], g: Geometry) -> Lowest
     requires { ⌜ Opened (now img) g ⌝ }
-    requires { ⌜ first (fault22 (catalogueOf (view (now img)))) (g .files) ≡ Place.Nowhere ⌝ }
+    requires { ⌜ first (fault22 (catalogueOf (view (now img)))) (g .files) ≡ Lowest.Nowhere ⌝ }
     ensures { λ r. ⌜ r ≡ first (fault23 (catalogueOf (view (now (img .entry))))) (g .files) ⌝ }
 {
     first_faulty(img, g, Key::Name)
 }
 
-pub fn fault24(img: &[u8], g: Geometry) -> Place
+pub fn fault24(img: &[u8], g: Geometry) -> Lowest
     requires { ⌜ Opened (now img) g ⌝ }
     ensures { λ r. ⌜ r ≡ first (fault24 (catalogueOf (view (now (img .entry))))) (g .files) ⌝ }
 {

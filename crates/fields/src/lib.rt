@@ -3,9 +3,9 @@ use model::Sector;
 ghost use mathlib.Core.Path.{_≡_};
 ghost use Prim.Native.Nat.{_+_, _*_, _≤_, _<_, _^_, min};
 ghost use lib.ListN.{length};
-ghost use Rattle.model.specs.Bytes.{beAt, beBytes, run, put};
+ghost use Rattle.model.specs.Bytes.{beAt, beBytes, bytesFrom, put};
 ghost use Rattle.model.specs.Disk.{view};
-ghost use Rattle.model.specs.Search.{same};
+ghost use Rattle.model.specs.Search.{equalBytes};
 ghost use Rattle.model.specs.Entry.{hasZero};
 
 // The big-endian number of `width` bytes at `at`.
@@ -60,10 +60,10 @@ pub fn put_be(b: &mut [u8], at: usize, width: usize, v: u64)
 }
 
 // Copies `n` bytes of `src` from `from` to `dst` at `at`.
-pub fn copy_run(src: &[u8], from: usize, dst: &mut [u8], at: usize, n: usize)
+pub fn copy_bytes(src: &[u8], from: usize, dst: &mut [u8], at: usize, n: usize)
     requires { ⌜ from + n ≤ length (now src) ⌝ }
     requires { ⌜ at + n ≤ length (now dst) ⌝ }
-    ensures { λ _. ⌜ now (dst .exit) ≡ put (now (dst .entry)) at (run (now (src .entry)) from n) ⌝ }
+    ensures { λ _. ⌜ now (dst .exit) ≡ put (now (dst .entry)) at (bytesFrom (now (src .entry)) from n) ⌝ }
 {
     let mut i: usize = 0;
     while i < n {
@@ -78,7 +78,7 @@ pub fn sector(img: &[u8], k: Sector) -> [u8; 512]
     ensures { λ r. ⌜ r ≡ view (now (img .entry)) (k .0) ⌝ }
 {
     let mut a = [0u8; 512];
-    copy_run(img, (512 * k.0) as usize, &mut a, 0, 512);
+    copy_bytes(img, (512 * k.0) as usize, &mut a, 0, 512);
     a
 }
 
@@ -95,7 +95,7 @@ pub fn number(img: &[u8], k: Sector, at: usize, width: usize) -> u64
 // Whether the part begins with the text.
 pub fn starts_with(part: &[u8], text: &[u8]) -> bool
     requires { ⌜ length (now text) ≤ length (now part) ⌝ }
-    ensures { λ r. ⌜ r ≡ same (run (now (part .entry)) 0 (length (now (text .entry)))) (now (text .entry)) ⌝ }
+    ensures { λ r. ⌜ r ≡ equalBytes (bytesFrom (now (part .entry)) 0 (length (now (text .entry)))) (now (text .entry)) ⌝ }
 {
     let mut i: usize = 0;
     while i < text.len() {

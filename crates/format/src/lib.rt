@@ -95,7 +95,7 @@ fn new_superblock(g: Geometry, n: u64) -> [u8; 512]
     fields::put_be(&mut a, 0, 2, g.files);
     fields::put_be(&mut a, 2, 2, g.extents);
     fields::put_be(&mut a, 4, 4, g.extent_sectors as u64);
-    fields::copy_run(b"/Goo/FS/", 0, &mut a, 8, 8);
+    fields::copy_bytes(b"/Goo/FS/", 0, &mut a, 8, 8);
     fields::put_be(&mut a, 16, 2, 1);
     fields::put_be(&mut a, 18, 2, n);
     a

@@ -11,7 +11,7 @@ use lib.Dec.{leb, ltb, lit<, lit≤}
 use lib.ListN.{length, getD, take, drop, set, length-append, length-drop, length-set, length-replicate, replicate, replicate-append-replicate, List·getD-append, drop-of-length-le}
 use lib.Seq.{sets, length-sets, sets-eq, set-comm, take-suc, take-all, getD-drop, getD-take, getD-at, getD-set-same, getD-set-other, ext-getD, getD-append-add}
 use borrow.Author.Tests.{leb-true, ltb-true}
-use Rattle.model.specs.Bytes.{beAt, beBytes, run, put, zeroSector, onesSector}
+use Rattle.model.specs.Bytes.{beAt, beBytes, bytesFrom, put, zeroSector, onesSector}
 use Rattle.laws.proofs.Booleans.{and-left, and-right, range-yes}
 
 -- ---- lengths, none of which asks anything
@@ -21,10 +21,10 @@ unfolding beBytes
 length-beBytes zero v = refl
 length-beBytes (suc w) v = simp length-append (omega (arith, length-beBytes w (v / 256)))
 
-pub length-run : (s : List ℕ) (from n : ℕ) → length (run s from n) ≡ n
-unfolding run
-length-run s from zero = refl
-length-run s from (suc n) = simp length-append (omega (arith, length-run s from n))
+pub length-bytesFrom : (s : List ℕ) (from n : ℕ) → length (bytesFrom s from n) ≡ n
+unfolding bytesFrom
+length-bytesFrom s from zero = refl
+length-bytesFrom s from (suc n) = simp length-append (omega (arith, length-bytesFrom s from n))
 
 pub length-put : (l : List ℕ) (at : ℕ) (vs : List ℕ) → length (put l at vs) ≡ length l
 unfolding put
@@ -36,17 +36,17 @@ pub beAt-more : (s : List ℕ) (at i : ℕ) → beAt s at (i + 1) ≡ beAt s at 
 unfolding beAt
 beAt-more s at i = rw add-one
 
-pub run-more : (s : List ℕ) (from i : ℕ) → run s from (i + 1) ≡ run s from i ++ (getD s (from + i) 0 ∷ [])
-unfolding run
-run-more s from i = rw add-one
+pub bytesFrom-more : (s : List ℕ) (from i : ℕ) → bytesFrom s from (i + 1) ≡ bytesFrom s from i ++ (getD s (from + i) 0 ∷ [])
+unfolding bytesFrom
+bytesFrom-more s from i = rw add-one
 
-run-nil : (s : List ℕ) (from : ℕ) → run s from 0 ≡ []
-unfolding run
-run-nil s from = refl
+bytesFrom-nil : (s : List ℕ) (from : ℕ) → bytesFrom s from 0 ≡ []
+unfolding bytesFrom
+bytesFrom-nil s from = refl
 
-run-suc : (s : List ℕ) (from n : ℕ) → run s from (suc n) ≡ run s from n ++ (getD s (from + n) 0 ∷ [])
-unfolding run
-run-suc s from n = refl
+bytesFrom-suc : (s : List ℕ) (from n : ℕ) → bytesFrom s from (suc n) ≡ bytesFrom s from n ++ (getD s (from + n) 0 ∷ [])
+unfolding bytesFrom
+bytesFrom-suc s from n = refl
 
 -- ---- stores
 
@@ -97,43 +97,43 @@ pow-seven i v h k = lt-of-lt-of-le h (pow-le-pow-right (lit≤ tt) {i = i} {j = 
 
 -- ---- a run within its list
 
-pub run-eq : (s : List ℕ) (from n : ℕ) → from + n ≤ length s → run s from n ≡ take n (drop from s)
-unfolding run
-run-eq s from zero h = refl
-run-eq s from (suc n) h =
+pub bytesFrom-eq : (s : List ℕ) (from n : ℕ) → from + n ≤ length s → bytesFrom s from n ≡ take n (drop from s)
+unfolding bytesFrom
+bytesFrom-eq s from zero h = refl
+bytesFrom-eq s from (suc n) h =
     let k : n < length (drop from s) = simp length-drop (omega arith) in
-    ap (λ (r : List ℕ). r ++ (getD s (from + n) 0 ∷ [])) (run-eq s from n (omega arith))
+    ap (λ (r : List ℕ). r ++ (getD s (from + n) 0 ∷ [])) (bytesFrom-eq s from n (omega arith))
     ∙ sym (take-suc (drop from s) n 0 k ∙ rw getD-drop)
 
-pub run-all : (s : List ℕ) (n : ℕ) → length s ≡ n → run s 0 n ≡ s
-run-all s n h = run-eq s 0 n (omega arith) ∙ take-all n s (omega arith)
+pub bytesFrom-all : (s : List ℕ) (n : ℕ) → length s ≡ n → bytesFrom s 0 n ≡ s
+bytesFrom-all s n h = bytesFrom-eq s 0 n (omega arith) ∙ take-all n s (omega arith)
 
 -- ---- a byte, a number and a run of a run: nothing is asked of the list's length
 
-pub getD-run : (s : List ℕ) (from n i : ℕ) → i < n → getD (run s from n) i 0 ≡ getD s (from + i) 0
-unfolding run
-getD-run s from zero i h = absurd (omega arith)
-getD-run s from (suc n) i h =
+pub getD-bytesFrom : (s : List ℕ) (from n i : ℕ) → i < n → getD (bytesFrom s from n) i 0 ≡ getD s (from + i) 0
+unfolding bytesFrom
+getD-bytesFrom s from zero i h = absurd (omega arith)
+getD-bytesFrom s from (suc n) i h =
     let le : i ≤ n = omega arith in
     ⊎-elim
-    (λ (q : i ≡ n). getD-at (run s from n) (getD s (from + n) 0) [] 0 i (length-run s from n ∙ sym q) ∙ rw q)
-    (λ (l : i < n). List·getD-append (run s from n) (getD s (from + n) 0 ∷ []) 0 i (rw length-run l) ∙ getD-run s from n i l)
+    (λ (q : i ≡ n). getD-at (bytesFrom s from n) (getD s (from + n) 0) [] 0 i (length-bytesFrom s from n ∙ sym q) ∙ rw q)
+    (λ (l : i < n). List·getD-append (bytesFrom s from n) (getD s (from + n) 0 ∷ []) 0 i (rw length-bytesFrom l) ∙ getD-bytesFrom s from n i l)
     (eq-or-lt-of-le le)
 
-pub beAt-run : (s : List ℕ) (from n o w : ℕ) → o + w ≤ n → beAt (run s from n) o w ≡ beAt s (from + o) w
+pub beAt-bytesFrom : (s : List ℕ) (from n o w : ℕ) → o + w ≤ n → beAt (bytesFrom s from n) o w ≡ beAt s (from + o) w
 unfolding beAt
-beAt-run s from n o zero h = refl
-beAt-run s from n o (suc w) h =
+beAt-bytesFrom s from n o zero h = refl
+beAt-bytesFrom s from n o (suc w) h =
     let i : o + w < n = omega arith in
     let e : from + (o + w) ≡ from + o + w = omega arith in
-    rw (getD-run s from n (o + w) i, e) (ap (λ (x : ℕ). x * 256 + getD s (from + o + w) 0) (beAt-run s from n o w (omega arith)))
+    rw (getD-bytesFrom s from n (o + w) i, e) (ap (λ (x : ℕ). x * 256 + getD s (from + o + w) 0) (beAt-bytesFrom s from n o w (omega arith)))
 
-pub run-run : (s : List ℕ) (from n o m : ℕ) → o + m ≤ n → run (run s from n) o m ≡ run s (from + o) m
-run-run s from n o zero h = run-nil (run s from n) o ∙ sym (run-nil s (from + o))
-run-run s from n o (suc m) h =
+pub bytesFrom-bytesFrom : (s : List ℕ) (from n o m : ℕ) → o + m ≤ n → bytesFrom (bytesFrom s from n) o m ≡ bytesFrom s (from + o) m
+bytesFrom-bytesFrom s from n o zero h = bytesFrom-nil (bytesFrom s from n) o ∙ sym (bytesFrom-nil s (from + o))
+bytesFrom-bytesFrom s from n o (suc m) h =
     let i : o + m < n = omega arith in
     let e : from + (o + m) ≡ from + o + m = omega arith in
-    rw (run-suc (run s from n) o m, run-suc s (from + o) m, getD-run s from n (o + m) i, e) (ap (λ (x : List ℕ). x ++ (getD s (from + o + m) 0 ∷ [])) (run-run s from n o m (omega arith)))
+    rw (bytesFrom-suc (bytesFrom s from n) o m, bytesFrom-suc s (from + o) m, getD-bytesFrom s from n (o + m) i, e) (ap (λ (x : List ℕ). x ++ (getD s (from + o + m) 0 ∷ [])) (bytesFrom-bytesFrom s from n o m (omega arith)))
 
 -- a list of the run's own length becomes the run
 pub put-all : (l vs : List ℕ) → length vs ≡ length l → put l 0 vs ≡ vs
@@ -151,12 +151,12 @@ unfolding onesSector
 length-onesSector = length-replicate {A = ℕ} 512 255
 
 -- a part of a list, as the code lends it
-pub run-part : (s : List ℕ) (a m n : ℕ) → n ≤ m → run (take m (drop a s)) 0 n ≡ run s a n
-run-part s a m zero h = run-nil (take m (drop a s)) 0 ∙ sym (run-nil s a)
-run-part s a m (suc n) h =
+pub bytesFrom-part : (s : List ℕ) (a m n : ℕ) → n ≤ m → bytesFrom (take m (drop a s)) 0 n ≡ bytesFrom s a n
+bytesFrom-part s a m zero h = bytesFrom-nil (take m (drop a s)) 0 ∙ sym (bytesFrom-nil s a)
+bytesFrom-part s a m (suc n) h =
     let k : n < m = omega arith in
     let e : getD (take m (drop a s)) (0 + n) 0 ≡ getD s (a + n) 0 = rw (zero-add, getD-take, getD-drop) in
-    rw (run-suc (take m (drop a s)) 0 n, run-suc s a n, e) (ap (λ (x : List ℕ). x ++ (getD s (a + n) 0 ∷ [])) (run-part s a m n (omega arith)))
+    rw (bytesFrom-suc (take m (drop a s)) 0 n, bytesFrom-suc s a n, e) (ap (λ (x : List ℕ). x ++ (getD s (a + n) 0 ∷ [])) (bytesFrom-part s a m n (omega arith)))
 
 -- ---- after a store
 
@@ -181,10 +181,10 @@ getD-put-same l at (v ∷ vs) (suc k) h r =
 
 -- ---- stretches and numbers are read byte by byte
 
-pub run-ext : (s t : List ℕ) (a b n : ℕ) → ((i : ℕ) → i < n → getD s (a + i) 0 ≡ getD t (b + i) 0) → run s a n ≡ run t b n
-unfolding run
-run-ext s t a b zero h = refl
-run-ext s t a b (suc n) h = ap₂ (λ l x. l ++ (x ∷ [])) (run-ext s t a b n (λ i k. h i (omega arith))) (h n (omega arith))
+pub bytesFrom-ext : (s t : List ℕ) (a b n : ℕ) → ((i : ℕ) → i < n → getD s (a + i) 0 ≡ getD t (b + i) 0) → bytesFrom s a n ≡ bytesFrom t b n
+unfolding bytesFrom
+bytesFrom-ext s t a b zero h = refl
+bytesFrom-ext s t a b (suc n) h = ap₂ (λ l x. l ++ (x ∷ [])) (bytesFrom-ext s t a b n (λ i k. h i (omega arith))) (h n (omega arith))
 
 pub beAt-ext : (s t : List ℕ) (a b w : ℕ) → ((i : ℕ) → i < w → getD s (a + i) 0 ≡ getD t (b + i) 0) → beAt s a w ≡ beAt t b w
 unfolding beAt
@@ -196,24 +196,24 @@ beAt-ext s t a b (suc w) h = ap₂ (λ n x. n * 256 + x) (beAt-ext s t a b w (λ
 abbrev pub Apart : ℕ → ℕ → ℕ → ℕ → Type 0
 Apart a n b m = (i : ℕ) → a ≤ i → i < a + n → b ≤ i → i < b + m → ⊥
 
-pub run-put-other : (l : List ℕ) (at : ℕ) (vs : List ℕ) (from n : ℕ) → Apart from n at (length vs) → run (put l at vs) from n ≡ run l from n
-run-put-other l at vs from n h = run-ext _ l from from n (λ i k. getD-put-other l at vs (from + i) (h (from + i) (omega arith) (omega arith)))
+pub bytesFrom-put-other : (l : List ℕ) (at : ℕ) (vs : List ℕ) (from n : ℕ) → Apart from n at (length vs) → bytesFrom (put l at vs) from n ≡ bytesFrom l from n
+bytesFrom-put-other l at vs from n h = bytesFrom-ext _ l from from n (λ i k. getD-put-other l at vs (from + i) (h (from + i) (omega arith) (omega arith)))
 
 pub beAt-put-other : (l : List ℕ) (at : ℕ) (vs : List ℕ) (from n : ℕ) → Apart from n at (length vs) → beAt (put l at vs) from n ≡ beAt l from n
 beAt-put-other l at vs from n h = beAt-ext _ l from from n (λ i k. getD-put-other l at vs (from + i) (h (from + i) (omega arith) (omega arith)))
 
 -- ---- what was stored
 
-pub run-put-in : (l : List ℕ) (at : ℕ) (vs : List ℕ) (o n : ℕ) → o + n ≤ length vs → at + length vs ≤ length l → run (put l at vs) (at + o) n ≡ run vs o n
-run-put-in l at vs o n h r =
-    run-ext _ vs (at + o) o n (λ i k. rw (add-assoc at o i) (getD-put-same l at vs (o + i) (omega arith) (omega arith)))
+pub bytesFrom-put-in : (l : List ℕ) (at : ℕ) (vs : List ℕ) (o n : ℕ) → o + n ≤ length vs → at + length vs ≤ length l → bytesFrom (put l at vs) (at + o) n ≡ bytesFrom vs o n
+bytesFrom-put-in l at vs o n h r =
+    bytesFrom-ext _ vs (at + o) o n (λ i k. rw (add-assoc at o i) (getD-put-same l at vs (o + i) (omega arith) (omega arith)))
 
 pub beAt-put-in : (l : List ℕ) (at : ℕ) (vs : List ℕ) (o n : ℕ) → o + n ≤ length vs → at + length vs ≤ length l → beAt (put l at vs) (at + o) n ≡ beAt vs o n
 beAt-put-in l at vs o n h r =
     beAt-ext _ vs (at + o) o n (λ i k. rw (add-assoc at o i) (getD-put-same l at vs (o + i) (omega arith) (omega arith)))
 
-pub run-put-same : (l : List ℕ) (at : ℕ) (vs : List ℕ) (n : ℕ) → length vs ≡ n → at + n ≤ length l → run (put l at vs) at n ≡ vs
-run-put-same l at vs n h r = ap (λ k. run (put l at vs) k n) (sym (add-zero at)) ∙ run-put-in l at vs 0 n (omega arith) (omega arith) ∙ run-all vs n h
+pub bytesFrom-put-same : (l : List ℕ) (at : ℕ) (vs : List ℕ) (n : ℕ) → length vs ≡ n → at + n ≤ length l → bytesFrom (put l at vs) at n ≡ vs
+bytesFrom-put-same l at vs n h r = ap (λ k. bytesFrom (put l at vs) k n) (sym (add-zero at)) ∙ bytesFrom-put-in l at vs 0 n (omega arith) (omega arith) ∙ bytesFrom-all vs n h
 
 -- ---- of two strings one after the other
 
@@ -261,8 +261,8 @@ apart a n b m h = go (leb (a + n) b) refl h
 pub number-other : (l : List ℕ) (at w v from n : ℕ) → (leb (from + n) at || leb (at + w) from) ≡ true → beAt (put l at (beBytes w v)) from n ≡ beAt l from n
 number-other l at w v from n h = beAt-put-other l at (beBytes w v) from n (apart from n at _ (rw (length-beBytes w v) h))
 
-pub bytes-other : (l : List ℕ) (at w v from n : ℕ) → (leb (from + n) at || leb (at + w) from) ≡ true → run (put l at (beBytes w v)) from n ≡ run l from n
-bytes-other l at w v from n h = run-put-other l at (beBytes w v) from n (apart from n at _ (rw (length-beBytes w v) h))
+pub bytes-other : (l : List ℕ) (at w v from n : ℕ) → (leb (from + n) at || leb (at + w) from) ≡ true → bytesFrom (put l at (beBytes w v)) from n ≡ bytesFrom l from n
+bytes-other l at w v from n h = bytesFrom-put-other l at (beBytes w v) from n (apart from n at _ (rw (length-beBytes w v) h))
 
 -- before a string of bytes of any length, or behind one whose length computes
 pub number-apart : (l : List ℕ) (at : ℕ) (vs : List ℕ) (from n : ℕ) → (leb (from + n) at || leb (at + length vs) from) ≡ true → beAt (put l at vs) from n ≡ beAt l from n

@@ -7,35 +7,35 @@ use native.Mathlib.Omega.{arith}
 use native.Mathlib.Decide.{decLt}
 use lib.ListN.{length, getD}
 use lib.Seq.{ext-getD}
-use Rattle.model.specs.Bytes.{beAt, run, put}
+use Rattle.model.specs.Bytes.{beAt, bytesFrom, put}
 use Rattle.model.specs.Disk.{Disk, view}
-use Rattle.laws.proofs.Bytes.{length-run, beAt-run, run-run, getD-run, run-put-same, run-put-other}
+use Rattle.laws.proofs.Bytes.{length-bytesFrom, beAt-bytesFrom, bytesFrom-bytesFrom, getD-bytesFrom, bytesFrom-put-same, bytesFrom-put-other}
 
 pub length-view : (img : List ℕ) (k : ℕ) → length (view img k) ≡ 512
 unfolding view
-length-view img k = length-run img (512 * k) 512
+length-view img k = length-bytesFrom img (512 * k) 512
 
 pub beAt-view : (img : List ℕ) (k o w : ℕ) → o + w ≤ 512 → beAt (view img k) o w ≡ beAt img (512 * k + o) w
 unfolding view
-beAt-view img k o w h = beAt-run img (512 * k) 512 o w h
+beAt-view img k o w h = beAt-bytesFrom img (512 * k) 512 o w h
 
-pub run-view : (img : List ℕ) (k o m : ℕ) → o + m ≤ 512 → run (view img k) o m ≡ run img (512 * k + o) m
+pub bytesFrom-view : (img : List ℕ) (k o m : ℕ) → o + m ≤ 512 → bytesFrom (view img k) o m ≡ bytesFrom img (512 * k + o) m
 unfolding view
-run-view img k o m h = run-run img (512 * k) 512 o m h
+bytesFrom-view img k o m h = bytesFrom-bytesFrom img (512 * k) 512 o m h
 
 pub getD-view : (img : List ℕ) (k i : ℕ) → i < 512 → getD (view img k) i 0 ≡ getD img (512 * k + i) 0
 unfolding view
-getD-view img k i h = getD-run img (512 * k) 512 i h
+getD-view img k i h = getD-bytesFrom img (512 * k) 512 i h
 
 -- ---- a sector stored
 
 pub view-same : (img c : List ℕ) (k : ℕ) → 512 * k + 512 ≤ length img → length c ≡ 512 → view (put img (512 * k) c) k ≡ c
 unfolding view
-view-same img c k f l = run-put-same img (512 * k) c 512 l f
+view-same img c k f l = bytesFrom-put-same img (512 * k) c 512 l f
 
 pub view-other : (img c : List ℕ) (k j : ℕ) → length c ≡ 512 → j ≢ k → view (put img (512 * k) c) j ≡ view img j
 unfolding view
-view-other img c k j l ne = run-put-other img (512 * k) c (512 * j) 512 (go (decLt j k))
+view-other img c k j l ne = bytesFrom-put-other img (512 * k) c (512 * j) 512 (go (decLt j k))
   where
     go : Dec (j < k) → (i : ℕ) → 512 * j ≤ i → i < 512 * j + 512 → 512 * k ≤ i → i < 512 * k + length c → ⊥
     go (yes h) i p q r s = omega arith

@@ -8,8 +8,8 @@ use lib.Dec.{eqb}
 use lib.ListN.{length}
 use borrow.Author.Tests.{eqb-true}
 use Rattle.model.specs.declared.Geometry.{Geometry}
-use Rattle.model.specs.declared.Place.{Place}
-use Rattle.model.specs.declared.Place.the-variants.{At, Nowhere}
+use Rattle.model.specs.declared.Lowest.{Lowest}
+use Rattle.model.specs.declared.Lowest.the-variants.{At, Nowhere}
 use Rattle.model.specs.declared.Soundness.{Soundness}
 use Rattle.model.specs.declared.Soundness.the-variants.{Sound, Faulty}
 use Rattle.model.specs.declared.Verdict.{Verdict}
@@ -46,7 +46,7 @@ pub judged-opened : (img : List ℕ) (g : Geometry) → g ≡ geometryIn (view i
 judged-opened img g e s h = opened img g e s (judged-image (length img) (view img) h)
 
 -- a volume without a fault has none of 21, none of 22 and so on
-skip : (n : ℕ) (p : Place) (later : Soundness) → orElse n p later ≡ Sound → (p ≡ Nowhere) × (later ≡ Sound)
+skip : (n : ℕ) (p : Lowest) (later : Soundness) → orElse n p later ≡ Sound → (p ≡ Nowhere) × (later ≡ Sound)
 skip n (At i) later h = let z : _≡_ {A = ℕ} 0 1 = cc in absurd (omega arith)
 skip n Nowhere later h = (refl, h)
 

@@ -3,7 +3,7 @@ use Prim.Native.Nat.{ℕ, _+_, _-_, _*_, _≤_, _<_, _^_}
 use mathlib.Core.Path.{_≡_, refl, sym, ap, _∙_}
 use mathlib.Core.Bool.{Bool, true, false, cond, not, _&&_, _||_}
 use mathlib.Core.List.{List}
-use mathlib.Core.Option.{none, some as just}
+use mathlib.Core.Option.{none, some}
 use native.Mathlib.Nat.{mul-le-mul}
 use native.Mathlib.Omega.{arith}
 use native.Mathlib.Decide.{decLt}
@@ -12,9 +12,9 @@ use lib.ListN.{length}
 use borrow.Author.Tests.{ltb-false}
 use Rattle.model.specs.declared.Fields.{Fields}
 use Rattle.model.specs.declared.Geometry.{Geometry}
-use Rattle.model.specs.declared.Place.the-variants.{At}
-use Rattle.model.specs.Bytes.{beAt, run}
-use Rattle.model.specs.Search.{scan, same}
+use Rattle.model.specs.declared.Lowest.the-variants.{At}
+use Rattle.model.specs.Bytes.{beAt, bytesFrom}
+use Rattle.model.specs.Search.{scan, equalBytes}
 use Rattle.model.specs.Geometry.{superblockAt, entryAt, usable, extentBytes}
 use Rattle.model.specs.Disk.{Disk, view}
 use Rattle.model.specs.Superblock.{geometryIn}
@@ -33,23 +33,23 @@ module _ (d : Disk) where
   -- an occupied entry
   pub entry-on : (i : ℕ) → i < geometryIn (d superblockAt) .files → isOccupied (d (entryAt i)) ≡ true → entryOf (catalogueOf d) i ≡ entryIn (d (entryAt i))
   unfolding entryOf
-  entry-on i l o = ap entryOr (slot-on d i l ∙ ap (λ (b : Bool). cond b (just (entryIn (d (entryAt i)))) none) o)
+  entry-on i l o = ap entryOr (slot-on d i l ∙ ap (λ (b : Bool). cond b (some (entryIn (d (entryAt i)))) none) o)
 
   pub free-is : (i : ℕ) → i < geometryIn (d superblockAt) .files → isFree (catalogueOf d .entries i) ≡ not (isOccupied (d (entryAt i)))
   free-is i l = ap isFree (slot-on d i l) ∙ go (isOccupied (d (entryAt i)))
     where
-      go : (b : Bool) → isFree (cond b (just (entryIn (d (entryAt i)))) none) ≡ not b
+      go : (b : Bool) → isFree (cond b (some (entryIn (d (entryAt i)))) none) ≡ not b
       go true = refl
       go false = refl
 
   -- the file of a name stands in the directory, occupied
   pub named-at : (name : List ℕ) (i : ℕ) → At i ≡ fileNamed (catalogueOf d) name → (i < geometryIn (d superblockAt) .files) × (isOccupied (d (entryAt i)) ≡ true)
   named-at name i e =
-      let p : ℕ → Bool = λ k. isOccupied (d (entryAt k)) && same (nameIn (d (entryAt k))) name in
+      let p : ℕ → Bool = λ k. isOccupied (d (entryAt k)) && equalBytes (nameIn (d (entryAt k))) name in
       let n = geometryIn (d superblockAt) .files in
       let q : scan p (n - 0) 0 ≡ At i = sym (e ∙ named-on d name) in
       let h : Hit p (n - 0) 0 (At i) = rw q at (scan-hit p (n - 0) 0) in
-      (omega (arith, h .1), and-left (isOccupied (d (entryAt i))) (same (nameIn (d (entryAt i))) name) (h .2))
+      (omega (arith, h .1), and-left (isOccupied (d (entryAt i))) (equalBytes (nameIn (d (entryAt i))) name) (h .2))
 
   pub named-entry : (name : List ℕ) (i : ℕ) → At i ≡ fileNamed (catalogueOf d) name → entryOf (catalogueOf d) i ≡ entryIn (d (entryAt i))
   named-entry name i e = let h = named-at name i e in entry-on i (h .0) (h .1)
@@ -80,7 +80,7 @@ short-name n e = go (decLt 476 (length n))
 
 -- ---- the answers of list and read, from the tests that the code makes
 
-pub name-copied : (img : List ℕ) (k n : ℕ) → n ≡ beAt (view img k) 34 2 → n ≤ 476 → run img (512 * k + 36) n ≡ nameIn (view img k)
+pub name-copied : (img : List ℕ) (k n : ℕ) → n ≡ beAt (view img k) 34 2 → n ≤ 476 → bytesFrom img (512 * k + 36) n ≡ nameIn (view img k)
 name-copied img k n e h = sym (name-view img k n e h)
 
 pub name-length-of : (img : List ℕ) (i : ℕ) (r : Fields) → r ≡ fieldsOf (entryIn (view img (entryAt i))) → r .«name_length» ≡ beAt (view img (entryAt i)) 34 2

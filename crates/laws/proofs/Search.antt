@@ -13,12 +13,12 @@ use lib.ListN.{length, getD, length-append, List·getD-append}
 use lib.Seq.{getD-at}
 use lib.Dec.{eqb}
 use borrow.Author.Tests.{eq-eqb, ne-eqb, eqb-true, eqb-false}
-use Rattle.model.specs.declared.Place.{Place}
-use Rattle.model.specs.declared.Place.the-variants.{At, Nowhere}
-use Rattle.model.specs.Bytes.{run}
-use Rattle.model.specs.Search.{scan, first, some, every, count, tab, flat, same}
+use Rattle.model.specs.declared.Lowest.{Lowest}
+use Rattle.model.specs.declared.Lowest.the-variants.{At, Nowhere}
+use Rattle.model.specs.Bytes.{bytesFrom}
+use Rattle.model.specs.Search.{scan, first, anyBelow, allBelow, countBelow, tabulate, concatenated, equalBytes}
 use Rattle.laws.proofs.Booleans.{and-left, and-right, and-yes, and-false, or-right, or-none}
-use Rattle.laws.proofs.Bytes.{length-run, getD-run}
+use Rattle.laws.proofs.Bytes.{length-bytesFrom, getD-bytesFrom}
 
 -- ---- a loop's turns: the search from i on
 
@@ -53,13 +53,13 @@ pub scan-ext : (p q : ℕ → Bool) (n i : ℕ) → ((k : ℕ) → i ≤ k → k
 unfolding scan
 scan-ext p q zero i h = refl
 scan-ext p q (suc n) i h =
-    ap₂ (λ (b : Bool) (r : Place). cond b (At i) r) (h i (omega arith) (omega arith)) (scan-ext p q n (suc i) (λ k a b. h k (omega arith) (omega arith)))
+    ap₂ (λ (b : Bool) (r : Lowest). cond b (At i) r) (h i (omega arith) (omega arith)) (scan-ext p q n (suc i) (λ k a b. h k (omega arith) (omega arith)))
 
 pub first-ext : (p q : ℕ → Bool) (n : ℕ) → ((k : ℕ) → k < n → p k ≡ q k) → first p n ≡ first q n
 first-ext p q n h = scan-ext p q (n - 0) 0 (λ k a b. h k (omega arith))
 
 -- an index found is below the bound and passes; where none is found none passes
-abbrev pub Hit : (ℕ → Bool) → ℕ → ℕ → Place → Type 0
+abbrev pub Hit : (ℕ → Bool) → ℕ → ℕ → Lowest → Type 0
 Hit p n i (At k) = (i ≤ k) × (k < i + n) × (p k ≡ true)
 Hit p n i Nowhere = (k : ℕ) → i ≤ k → k < i + n → p k ≡ false
 
@@ -70,7 +70,7 @@ none-next p n i e h k a b = go (decLt i k)
     go (yes l) = h k l (omega arith)
     go (no l) = let q : k ≡ i = omega arith in ap p q ∙ e
 
-hit-next : (p : ℕ → Bool) (n i : ℕ) (r : Place) → p i ≡ false → Hit p n (suc i) r → Hit p (suc n) i r
+hit-next : (p : ℕ → Bool) (n i : ℕ) (r : Lowest) → p i ≡ false → Hit p n (suc i) r → Hit p (suc n) i r
 hit-next p n i (At k) e h = (omega (arith, h .0), omega (arith, h .1), h .2)
 hit-next p n i Nowhere e h = none-next p n i e h
 
@@ -89,87 +89,87 @@ first-missed p n e j h = let r : Hit p (n - 0) 0 Nowhere = rw e at (scan-hit p (
 
 -- ---- some, every, count
 
-pub some-more : (p : ℕ → Bool) (i : ℕ) → some p (i + 1) ≡ (p i || some p i)
-unfolding some
-some-more p i = rw add-one
+pub anyBelow-more : (p : ℕ → Bool) (i : ℕ) → anyBelow p (i + 1) ≡ (p i || anyBelow p i)
+unfolding anyBelow
+anyBelow-more p i = rw add-one
 
-pub every-more : (p : ℕ → Bool) (i : ℕ) → every p (i + 1) ≡ (p i && every p i)
-unfolding every
-every-more p i = rw add-one
+pub allBelow-more : (p : ℕ → Bool) (i : ℕ) → allBelow p (i + 1) ≡ (p i && allBelow p i)
+unfolding allBelow
+allBelow-more p i = rw add-one
 
-pub count-more : (p : ℕ → Bool) (i : ℕ) → count p (i + 1) ≡ cond (p i) 1 0 + count p i
-unfolding count
-count-more p i = rw add-one
+pub countBelow-more : (p : ℕ → Bool) (i : ℕ) → countBelow p (i + 1) ≡ cond (p i) 1 0 + countBelow p i
+unfolding countBelow
+countBelow-more p i = rw add-one
 
-pub every-yes : (p : ℕ → Bool) (n : ℕ) → ((k : ℕ) → k < n → p k ≡ true) → every p n ≡ true
-unfolding every
-every-yes p zero h = refl
-every-yes p (suc n) h = and-yes (p n) (every p n) (h n (omega arith)) (every-yes p n (λ k l. h k (omega arith)))
+pub allBelow-yes : (p : ℕ → Bool) (n : ℕ) → ((k : ℕ) → k < n → p k ≡ true) → allBelow p n ≡ true
+unfolding allBelow
+allBelow-yes p zero h = refl
+allBelow-yes p (suc n) h = and-yes (p n) (allBelow p n) (h n (omega arith)) (allBelow-yes p n (λ k l. h k (omega arith)))
 
-pub every-at : (p : ℕ → Bool) (n : ℕ) → every p n ≡ true → (k : ℕ) → k < n → p k ≡ true
-unfolding every
-every-at p zero e k r = absurd (not-suc-le-zero r)
-every-at p (suc n) e k r = go (eqb k n) refl (every-at p n (and-right (p n) (every p n) e) k)
+pub allBelow-at : (p : ℕ → Bool) (n : ℕ) → allBelow p n ≡ true → (k : ℕ) → k < n → p k ≡ true
+unfolding allBelow
+allBelow-at p zero e k r = absurd (not-suc-le-zero r)
+allBelow-at p (suc n) e k r = go (eqb k n) refl (allBelow-at p n (and-right (p n) (allBelow p n) e) k)
   where
     go : (b : Bool) → eqb k n ≡ b → (k < n → p k ≡ true) → p k ≡ true
-    go true q h = ap p (eqb-true k n q) ∙ and-left (p n) (every p n) e
+    go true q h = ap p (eqb-true k n q) ∙ and-left (p n) (allBelow p n) e
     go false q h = let ne : k ≢ n = eqb-false k n q in h (omega arith)
 
 -- a test that fails at an index fails of all, one that holds at an index holds of some: for a search that stops there
-pub every-false : (p : ℕ → Bool) (i n : ℕ) → i < n → p i ≡ false → every p n ≡ false
-unfolding every
-every-false p i zero h e = absurd (omega arith)
-every-false p i (suc n) h e =
+pub allBelow-false : (p : ℕ → Bool) (i n : ℕ) → i < n → p i ≡ false → allBelow p n ≡ false
+unfolding allBelow
+allBelow-false p i zero h e = absurd (omega arith)
+allBelow-false p i (suc n) h e =
     let le : i ≤ n = omega arith in
-    ⊎-elim (λ (q : i ≡ n). rw (← q, e)) (λ (l : i < n). rw (every-false p i n l e) (and-false (p n))) (eq-or-lt-of-le le)
+    ⊎-elim (λ (q : i ≡ n). rw (← q, e)) (λ (l : i < n). rw (allBelow-false p i n l e) (and-false (p n))) (eq-or-lt-of-le le)
 
-pub some-true : (p : ℕ → Bool) (i n : ℕ) → i < n → p i ≡ true → some p n ≡ true
-unfolding some
-some-true p i zero h e = absurd (omega arith)
-some-true p i (suc n) h e =
+pub anyBelow-true : (p : ℕ → Bool) (i n : ℕ) → i < n → p i ≡ true → anyBelow p n ≡ true
+unfolding anyBelow
+anyBelow-true p i zero h e = absurd (omega arith)
+anyBelow-true p i (suc n) h e =
     let le : i ≤ n = omega arith in
-    ⊎-elim (λ (q : i ≡ n). rw (← q, e)) (λ (l : i < n). or-right (p n) (some p n) (some-true p i n l e)) (eq-or-lt-of-le le)
+    ⊎-elim (λ (q : i ≡ n). rw (← q, e)) (λ (l : i < n). or-right (p n) (anyBelow p n) (anyBelow-true p i n l e)) (eq-or-lt-of-le le)
 
 -- where none passes, each fails
-pub none-at : (p : ℕ → Bool) (n : ℕ) → some p n ≡ false → (j : ℕ) → j < n → p j ≡ false
-unfolding some
+pub none-at : (p : ℕ → Bool) (n : ℕ) → anyBelow p n ≡ false → (j : ℕ) → j < n → p j ≡ false
+unfolding anyBelow
 none-at p zero e j h = absurd (omega arith)
 none-at p (suc n) e j h =
-    let b = or-none (p n) (some p n) e in
+    let b = or-none (p n) (anyBelow p n) e in
     ⊎-elim (λ (q : j ≡ n). rw q (b .0)) (λ (l : j < n). none-at p n (b .1) j l) (eq-or-lt-of-le (le-of-suc-le-suc h))
 
-pub some-no : (p : ℕ → Bool) (n : ℕ) → ((k : ℕ) → k < n → p k ≡ false) → some p n ≡ false
-unfolding some
-some-no p zero h = refl
-some-no p (suc n) h = ap₂ (λ a b. a || b) (h n (omega arith)) (some-no p n (λ k l. h k (omega arith)))
+pub anyBelow-no : (p : ℕ → Bool) (n : ℕ) → ((k : ℕ) → k < n → p k ≡ false) → anyBelow p n ≡ false
+unfolding anyBelow
+anyBelow-no p zero h = refl
+anyBelow-no p (suc n) h = ap₂ (λ a b. a || b) (h n (omega arith)) (anyBelow-no p n (λ k l. h k (omega arith)))
 
 module _ (p q : ℕ → Bool) where
-  pub every-ext : (n : ℕ) → ((k : ℕ) → k < n → p k ≡ q k) → every p n ≡ every q n
-  unfolding every
-  every-ext zero h = refl
-  every-ext (suc n) h = ap₂ (λ a b. a && b) (h n (omega arith)) (every-ext n (λ k l. h k (omega arith)))
+  pub allBelow-ext : (n : ℕ) → ((k : ℕ) → k < n → p k ≡ q k) → allBelow p n ≡ allBelow q n
+  unfolding allBelow
+  allBelow-ext zero h = refl
+  allBelow-ext (suc n) h = ap₂ (λ a b. a && b) (h n (omega arith)) (allBelow-ext n (λ k l. h k (omega arith)))
 
-  pub some-ext : (n : ℕ) → ((k : ℕ) → k < n → p k ≡ q k) → some p n ≡ some q n
-  unfolding some
-  some-ext zero h = refl
-  some-ext (suc n) h = ap₂ (λ a b. a || b) (h n (omega arith)) (some-ext n (λ k l. h k (omega arith)))
+  pub anyBelow-ext : (n : ℕ) → ((k : ℕ) → k < n → p k ≡ q k) → anyBelow p n ≡ anyBelow q n
+  unfolding anyBelow
+  anyBelow-ext zero h = refl
+  anyBelow-ext (suc n) h = ap₂ (λ a b. a || b) (h n (omega arith)) (anyBelow-ext n (λ k l. h k (omega arith)))
 
-  pub count-ext : (n : ℕ) → ((k : ℕ) → k < n → p k ≡ q k) → count p n ≡ count q n
-  unfolding count
-  count-ext zero h = refl
-  count-ext (suc n) h = ap₂ (λ (b : Bool) (m : ℕ). cond b 1 0 + m) (h n (omega arith)) (count-ext n (λ k l. h k (omega arith)))
+  pub countBelow-ext : (n : ℕ) → ((k : ℕ) → k < n → p k ≡ q k) → countBelow p n ≡ countBelow q n
+  unfolding countBelow
+  countBelow-ext zero h = refl
+  countBelow-ext (suc n) h = ap₂ (λ (b : Bool) (m : ℕ). cond b 1 0 + m) (h n (omega arith)) (countBelow-ext n (λ k l. h k (omega arith)))
 
 -- ---- strings
 
 -- a run is the string b: byte by byte
-pub same-run : (s : List ℕ) (from : ℕ) (b : List ℕ) → same (run s from (length b)) b ≡ every (λ k. eqb (getD s (from + k) 0) (getD b k 0)) (length b)
-unfolding same
+pub same-run : (s : List ℕ) (from : ℕ) (b : List ℕ) → equalBytes (bytesFrom s from (length b)) b ≡ allBelow (λ k. eqb (getD s (from + k) 0) (getD b k 0)) (length b)
+unfolding equalBytes
 same-run s from b =
-    rw (eq-eqb _ _ (length-run s from (length b)))
-    (every-ext (λ k. eqb (getD (run s from (length b)) k 0) (getD b k 0)) (λ k. eqb (getD s (from + k) 0) (getD b k 0)) (length b) (λ k l. rw (getD-run s from (length b) k l)))
+    rw (eq-eqb _ _ (length-bytesFrom s from (length b)))
+    (allBelow-ext (λ k. eqb (getD (bytesFrom s from (length b)) k 0) (getD b k 0)) (λ k. eqb (getD s (from + k) 0) (getD b k 0)) (length b) (λ k l. rw (getD-bytesFrom s from (length b) k l)))
 
-pub same-length : (a b : List ℕ) → (length a ≡ length b → ⊥) → same a b ≡ false
-unfolding same
+pub same-length : (a b : List ℕ) → (length a ≡ length b → ⊥) → equalBytes a b ≡ false
+unfolding equalBytes
 same-length a b h = rw (ne-eqb _ _ h)
 
 -- ---- lists by index
@@ -186,65 +186,65 @@ snoc-at l x v d i n e h p q = go (decLt i n)
         getD-at l x [] d i (omega arith) ∙ q f
 
 module _ {ℓ} {A : Type ℓ} (f : ℕ → A) (from : ℕ) where
-  pub length-tab : (n : ℕ) → length (tab f from n) ≡ n
-  unfolding tab
-  length-tab zero = refl
-  length-tab (suc n) = simp length-append (omega (arith, length-tab n))
+  pub length-tabulate : (n : ℕ) → length (tabulate f from n) ≡ n
+  unfolding tabulate
+  length-tabulate zero = refl
+  length-tabulate (suc n) = simp length-append (omega (arith, length-tabulate n))
 
-  pub getD-tab : (n k : ℕ) (d : A) → k < n → getD (tab f from n) k d ≡ f (from + k)
-  unfolding tab
-  getD-tab zero k d h = absurd (not-suc-le-zero h)
-  getD-tab (suc n) k d h =
-      snoc-at (tab f from n) (f (from + n)) (f (from + k)) d k n (length-tab n) h (λ l. getD-tab n k d l) (λ e. ap (λ x. f (from + x)) (sym e))
+  pub getD-tabulate : (n k : ℕ) (d : A) → k < n → getD (tabulate f from n) k d ≡ f (from + k)
+  unfolding tabulate
+  getD-tabulate zero k d h = absurd (not-suc-le-zero h)
+  getD-tabulate (suc n) k d h =
+      snoc-at (tabulate f from n) (f (from + n)) (f (from + k)) d k n (length-tabulate n) h (λ l. getD-tabulate n k d l) (λ e. ap (λ x. f (from + x)) (sym e))
 
-  pub tab-more : (n : ℕ) → tab f from (n + 1) ≡ tab f from n ++ (f (from + n) ∷ [])
-  unfolding tab
-  tab-more n = rw add-one
+  pub tabulate-more : (n : ℕ) → tabulate f from (n + 1) ≡ tabulate f from n ++ (f (from + n) ∷ [])
+  unfolding tabulate
+  tabulate-more n = rw add-one
 
 -- from 0 on, as most lists stand
-pub getD-tab0 {ℓ} : {A : Type ℓ} (f : ℕ → A) (n k : ℕ) (d : A) → k < n → getD (tab f 0 n) k d ≡ f k
-getD-tab0 f n k d h = getD-tab f 0 n k d h ∙ ap f (zero-add k)
+pub getD-tab0 {ℓ} : {A : Type ℓ} (f : ℕ → A) (n k : ℕ) (d : A) → k < n → getD (tabulate f 0 n) k d ≡ f k
+getD-tab0 f n k d h = getD-tabulate f 0 n k d h ∙ ap f (zero-add k)
 
-pub tab-ext {ℓ} : {A : Type ℓ} (f g : ℕ → A) (a b n : ℕ) → ((k : ℕ) → k < n → f (a + k) ≡ g (b + k)) → tab f a n ≡ tab g b n
-unfolding tab
-tab-ext f g a b zero h = refl
-tab-ext f g a b (suc n) h = ap₂ (λ l x. l ++ (x ∷ [])) (tab-ext f g a b n (λ k l. h k (omega arith))) (h n (omega arith))
+pub tabulate-ext {ℓ} : {A : Type ℓ} (f g : ℕ → A) (a b n : ℕ) → ((k : ℕ) → k < n → f (a + k) ≡ g (b + k)) → tabulate f a n ≡ tabulate g b n
+unfolding tabulate
+tabulate-ext f g a b zero h = refl
+tabulate-ext f g a b (suc n) h = ap₂ (λ l x. l ++ (x ∷ [])) (tabulate-ext f g a b n (λ k l. h k (omega arith))) (h n (omega arith))
 
 -- a list in two parts
-pub tab-split {ℓ} : {A : Type ℓ} (f : ℕ → A) (a m n : ℕ) → tab f a (m + n) ≡ tab f a m ++ tab f (a + m) n
-unfolding tab
-tab-split f a m zero = rw add-zero (sym (append-nil (tab f a m)))
-tab-split f a m (suc n) =
+pub tabulate-split {ℓ} : {A : Type ℓ} (f : ℕ → A) (a m n : ℕ) → tabulate f a (m + n) ≡ tabulate f a m ++ tabulate f (a + m) n
+unfolding tabulate
+tabulate-split f a m zero = rw add-zero (sym (append-nil (tabulate f a m)))
+tabulate-split f a m (suc n) =
     rw add-suc
-    (ap₂ (λ l x. l ++ (f x ∷ [])) (tab-split f a m n) (let e : a + (m + n) ≡ a + m + n = omega arith in e)
-    ∙ append-assoc (tab f a m) (tab f (a + m) n) (f (a + m + n) ∷ []))
+    (ap₂ (λ l x. l ++ (f x ∷ [])) (tabulate-split f a m n) (let e : a + (m + n) ≡ a + m + n = omega arith in e)
+    ∙ append-assoc (tabulate f a m) (tabulate f (a + m) n) (f (a + m + n) ∷ []))
 
 module _ {ℓ} {A : Type ℓ} (f : ℕ → List A) where
   -- `flat` from the front
-  pub flat-front : (a n : ℕ) → flat f a (suc n) ≡ f a ++ flat f (suc a) n
-  unfolding flat
-  flat-front a zero = rw add-zero (sym (append-nil (f a)))
-  flat-front a (suc n) =
-      ap₂ (λ x y. x ++ y) (flat-front a n) (ap f (let e : a + suc n ≡ suc a + n = omega arith in e))
-      ∙ append-assoc (f a) (flat f (suc a) n) (f (suc a + n))
+  pub concatenated-front : (a n : ℕ) → concatenated f a (suc n) ≡ f a ++ concatenated f (suc a) n
+  unfolding concatenated
+  concatenated-front a zero = rw add-zero (sym (append-nil (f a)))
+  concatenated-front a (suc n) =
+      ap₂ (λ x y. x ++ y) (concatenated-front a n) (ap f (let e : a + suc n ≡ suc a + n = omega arith in e))
+      ∙ append-assoc (f a) (concatenated f (suc a) n) (f (suc a + n))
 
-  pub flat-more : (a n : ℕ) → flat f a (n + 1) ≡ flat f a n ++ f (a + n)
-  unfolding flat
-  flat-more a n = rw add-one
+  pub concatenated-more : (a n : ℕ) → concatenated f a (n + 1) ≡ concatenated f a n ++ f (a + n)
+  unfolding concatenated
+  concatenated-more a n = rw add-one
 
-pub flat-ext {ℓ} : {A : Type ℓ} (f g : ℕ → List A) (a n : ℕ) → ((t : ℕ) → a ≤ t → t < a + n → f t ≡ g t) → flat f a n ≡ flat g a n
-unfolding flat
-flat-ext f g a zero h = refl
-flat-ext f g a (suc n) h = ap₂ (λ x y. x ++ y) (flat-ext f g a n (λ t p q. h t p (omega arith))) (h (a + n) (omega arith) (omega arith))
+pub concatenated-ext {ℓ} : {A : Type ℓ} (f g : ℕ → List A) (a n : ℕ) → ((t : ℕ) → a ≤ t → t < a + n → f t ≡ g t) → concatenated f a n ≡ concatenated g a n
+unfolding concatenated
+concatenated-ext f g a zero h = refl
+concatenated-ext f g a (suc n) h = ap₂ (λ x y. x ++ y) (concatenated-ext f g a n (λ t p q. h t p (omega arith))) (h (a + n) (omega arith) (omega arith))
 
 -- a stretch that gives nothing
-pub flat-over {ℓ} : {A : Type ℓ} (f : ℕ → List A) (t u : ℕ) → t ≤ u → ((s : ℕ) → t ≤ s → s < u → f s ≡ []) → flat f 0 u ≡ flat f 0 t
-unfolding flat
-flat-over f t zero h e = let z : t ≡ 0 = omega arith in rw z
-flat-over f t (suc u) h e =
+pub concatenated-over {ℓ} : {A : Type ℓ} (f : ℕ → List A) (t u : ℕ) → t ≤ u → ((s : ℕ) → t ≤ s → s < u → f s ≡ []) → concatenated f 0 u ≡ concatenated f 0 t
+unfolding concatenated
+concatenated-over f t zero h e = let z : t ≡ 0 = omega arith in rw z
+concatenated-over f t (suc u) h e =
     ⊎-elim (λ (q : t ≡ suc u). rw q)
     (λ (l : t < suc u).
     let z : 0 + u ≡ u = omega arith in
-    ap (λ x. flat f 0 u ++ f x) z ∙ ap (λ x. flat f 0 u ++ x) (e u (omega arith) (omega arith)) ∙ append-nil (flat f 0 u)
-    ∙ flat-over f t u (omega arith) (λ s p q. e s p (omega arith)))
+    ap (λ x. concatenated f 0 u ++ f x) z ∙ ap (λ x. concatenated f 0 u ++ x) (e u (omega arith) (omega arith)) ∙ append-nil (concatenated f 0 u)
+    ∙ concatenated-over f t u (omega arith) (λ s p q. e s p (omega arith)))
     (eq-or-lt-of-le h)

@@ -4,9 +4,9 @@ use mathlib.Core.Path.{_≡_, refl, sym, ap, _∙_}
 use mathlib.Core.Bool.{Bool, true, false, cond, _||_, true≢false}
 use native.Mathlib.Nat.{add-zero}
 use native.Mathlib.Omega.{arith}
-use Rattle.model.specs.declared.Place.{Place}
-use Rattle.model.specs.declared.Place.the-variants.{At, Nowhere}
-use Rattle.model.specs.Search.{scan, first, isAt, some}
+use Rattle.model.specs.declared.Lowest.{Lowest}
+use Rattle.model.specs.declared.Lowest.the-variants.{At, Nowhere}
+use Rattle.model.specs.Search.{scan, first, isAt, anyBelow}
 use Rattle.laws.proofs.Search.{scan-here, scan-next, scan-end}
 
 pub at-nowhere : {i : ℕ} → At i ≡ Nowhere → ⊥
@@ -33,19 +33,19 @@ module _ {p : ℕ → Bool} {n i : ℕ} (S : Seeking p n i) where
 
 -- ---- a search in two parts
 
-abbrev pub orFound : Place → Place → Place
+abbrev pub orFound : Lowest → Lowest → Lowest
 orFound (At i) r = At i
 orFound Nowhere r = r
 
-or-cond : (b : Bool) (i : ℕ) (r s : Place) → cond b (At i) (orFound r s) ≡ orFound (cond b (At i) r) s
+or-cond : (b : Bool) (i : ℕ) (r s : Lowest) → cond b (At i) (orFound r s) ≡ orFound (cond b (At i) r) s
 or-cond true i r s = refl
 or-cond false i r s = refl
 
-pub or-nowhere : (r : Place) → orFound r Nowhere ≡ r
+pub or-nowhere : (r : Lowest) → orFound r Nowhere ≡ r
 or-nowhere (At i) = refl
 or-nowhere Nowhere = refl
 
-is-or : (r : Place) (b : Bool) (i : ℕ) → (b || isAt r) ≡ isAt (orFound r (cond b (At i) Nowhere))
+is-or : (r : Lowest) (b : Bool) (i : ℕ) → (b || isAt r) ≡ isAt (orFound r (cond b (At i) Nowhere))
 is-or (At k) true i = refl
 is-or (At k) false i = refl
 is-or Nowhere true i = refl
@@ -69,10 +69,10 @@ module _ (p : ℕ → Bool) where
       rw (s, scan-append (n - 0) 1 0, z)
 
   -- the test holds somewhere: the search finds
-  pub some-first : (n : ℕ) → some p n ≡ isAt (first p n)
-  unfolding some scan
-  some-first zero = refl
-  some-first (suc n) = ap (λ b. p n || b) (some-first n) ∙ is-or (first p n) (p n) n ∙ ap isAt (sym (first-suc n))
+  pub anyBelow-first : (n : ℕ) → anyBelow p n ≡ isAt (first p n)
+  unfolding anyBelow scan
+  anyBelow-first zero = refl
+  anyBelow-first (suc n) = ap (λ b. p n || b) (anyBelow-first n) ∙ is-or (first p n) (p n) n ∙ ap isAt (sym (first-suc n))
 
   module _ (m n : ℕ) where
     -- what is found below m stays found

@@ -5,13 +5,13 @@ use mathlib.Core.List.{List, [], _∷_, _++_, append-assoc, append-nil}
 use native.Mathlib.Nat.{add-zero}
 use native.Mathlib.Omega.{arith}
 use lib.ListN.{length, length-append}
-use Rattle.model.specs.Bytes.{beBytes, run, put}
+use Rattle.model.specs.Bytes.{beBytes, bytesFrom, put}
 use Rattle.model.specs.WriteList.{Record, sectorWrite, recordSize, contentsStart, recordBytes, listBytes, emit, Emitted}
-use Rattle.laws.proofs.Bytes.{length-beBytes, length-run, length-put, run-all, put-append, put-nil, put-in}
+use Rattle.laws.proofs.Bytes.{length-beBytes, length-bytesFrom, length-put, bytesFrom-all, put-append, put-nil, put-in}
 
 pub length-recordBytes : (r : Record) → length (recordBytes r) ≡ recordSize
 unfolding recordBytes
-length-recordBytes r = simp (length-append, length-beBytes, length-run)
+length-recordBytes r = simp (length-append, length-beBytes, length-bytesFrom)
 
 pub listBytes-append : (a b : List Record) → listBytes (a ++ b) ≡ listBytes a ++ listBytes b
 unfolding listBytes
@@ -34,7 +34,7 @@ emit-append l k a b =
     rw (listBytes-append, put-append, e)
 
 -- one record, as a number and then 512 bytes
-pub emit-run : (l : List ℕ) (k s : ℕ) (c : List ℕ) → emit l k (sectorWrite s c ∷ []) ≡ put (put l (k * recordSize) (beBytes 8 s)) (k * recordSize + contentsStart) (run c 0 512)
+pub emit-run : (l : List ℕ) (k s : ℕ) (c : List ℕ) → emit l k (sectorWrite s c ∷ []) ≡ put (put l (k * recordSize) (beBytes 8 s)) (k * recordSize + contentsStart) (bytesFrom c 0 512)
 unfolding emit listBytes recordBytes
 emit-run l k s c = rw (append-nil, put-append, length-beBytes)
 
@@ -42,8 +42,8 @@ emit-run l k s c = rw (append-nil, put-append, length-beBytes)
 pub emit-patched : (l : List ℕ) (k s : ℕ) (c : List ℕ) (o : ℕ) (vs : List ℕ) → length c ≡ 512 → o + length vs ≤ 512
     → put (emit l k (sectorWrite s c ∷ [])) (k * recordSize + contentsStart + o) vs ≡ emit l k (sectorWrite s (put c o vs) ∷ [])
 emit-patched l k s c o vs h r =
-    let a : run c 0 512 ≡ c = run-all c 512 h in
-    let b : run (put c o vs) 0 512 ≡ put c o vs = run-all (put c o vs) 512 (length-put c o vs ∙ h) in
+    let a : bytesFrom c 0 512 ≡ c = bytesFrom-all c 512 h in
+    let b : bytesFrom (put c o vs) 0 512 ≡ put c o vs = bytesFrom-all (put c o vs) 512 (length-put c o vs ∙ h) in
     rw (emit-run l k s c, emit-run l k s (put c o vs), a, b)
     (put-in (put l (k * recordSize) (beBytes 8 s)) (k * recordSize + contentsStart) c o vs (omega arith))
 

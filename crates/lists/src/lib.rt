@@ -4,7 +4,7 @@ ghost use mathlib.Core.Path.{_≡_};
 ghost use mathlib.Core.List.{[], _∷_};
 ghost use Prim.Native.Nat.{_+_, _*_, _≤_};
 ghost use lib.ListN.{length};
-ghost use Rattle.model.specs.Bytes.{run, put};
+ghost use Rattle.model.specs.Bytes.{bytesFrom, put};
 ghost use Rattle.model.specs.Disk.{view};
 ghost use Rattle.model.specs.Superblock.{withJournalLength};
 ghost use Rattle.model.specs.WriteList.{sectorWrite, barrier, recordSize, Emitted};
@@ -19,11 +19,11 @@ pub const CONTENTS_START: usize = 8;
 pub fn copy_sector(src: &[u8], from: usize, dst: &mut [u8], at: usize)
     requires { ⌜ from + 512 ≤ length (now src) ⌝ }
     requires { ⌜ at + 512 ≤ length (now dst) ⌝ }
-    ensures { λ _. ⌜ now (dst .exit) ≡ put (now (dst .entry)) at (run (now (src .entry)) from 512) ⌝ }
+    ensures { λ _. ⌜ now (dst .exit) ≡ put (now (dst .entry)) at (bytesFrom (now (src .entry)) from 512) ⌝ }
 {
     let mut a = [0u8; 512];
-    fields::copy_run(src, from, &mut a, 0, 512);
-    fields::copy_run(&a, 0, dst, at, 512);
+    fields::copy_bytes(src, from, &mut a, 0, 512);
+    fields::copy_bytes(&a, 0, dst, at, 512);
 }
 
 // Record k: a sector's number and its new contents. The answer is the next position.
@@ -38,7 +38,7 @@ pub fn put_sector(list: &mut [u8], k: usize, sector: Sector, s: [u8; 512]) -> us
 pub fn put_from(list: &mut [u8], k: usize, sector: Sector, src: &[u8], from: usize) -> usize
     requires { ⌜ (k + 1) * recordSize ≤ length (now list) ⌝ }
     requires { ⌜ from + 512 ≤ length (now src) ⌝ }
-    ensures { λ r. ⌜ Emitted (now (list .entry)) k (sectorWrite (sector .0) (run (now (src .entry)) from 512) ∷ []) (now (list .exit)) r ⌝ }
+    ensures { λ r. ⌜ Emitted (now (list .entry)) k (sectorWrite (sector .0) (bytesFrom (now (src .entry)) from 512) ∷ []) (now (list .exit)) r ⌝ }
 {
     let at = k * RECORD_SIZE;
     fields::put_be(list, at, 8, sector.0);

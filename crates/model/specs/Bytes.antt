@@ -16,9 +16,9 @@ beBytes zero v = []
 beBytes (suc w) v = beBytes w (v / 256) ++ (v % 256 ∷ [])
 
 -- the n bytes of s from index from; past its end they are 0
-unfoldable pub run : List ℕ → ℕ → ℕ → List ℕ
-run s from zero = []
-run s from (suc n) = run s from n ++ (getD s (from + n) 0 ∷ [])
+unfoldable pub bytesFrom : List ℕ → ℕ → ℕ → List ℕ
+bytesFrom s from zero = []
+bytesFrom s from (suc n) = bytesFrom s from n ++ (getD s (from + n) 0 ∷ [])
 
 -- l with vs stored from index at; what would lie past the end of l is left out
 unfoldable pub put : List ℕ → ℕ → List ℕ → List ℕ
@@ -51,9 +51,9 @@ abbrev pub setTo : Field → ℕ → Store
 setTo f v = (f .offset, beBytes (f .width) v)
 
 -- s with these stores made, in order: "In any other rewritten sector, bytes not named here stay."
-abbrev pub stamped : List ℕ → List Store → List ℕ
-stamped s [] = s
-stamped s (f ∷ fs) = stamped (put s (f .0) (f .1)) fs
+abbrev pub withStores : List ℕ → List Store → List ℕ
+withStores s [] = s
+withStores s (f ∷ fs) = withStores (put s (f .0) (f .1)) fs
 
 -- "A version of 4,294,967,295 is followed by 0."
 abbrev pub raised : ℕ → ℕ

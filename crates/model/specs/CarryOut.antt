@@ -7,29 +7,29 @@ use lib.Dec.{eqb, leb}
 use lib.ListN.{length, getD}
 use Rattle.model.specs.declared.CarriedOut.{CarriedOut}
 use Rattle.model.specs.declared.Verdict.{Verdict}
-use Rattle.model.specs.Bytes.{beAt, run}
-use Rattle.model.specs.Search.{some, every, tab}
+use Rattle.model.specs.Bytes.{beAt, bytesFrom}
+use Rattle.model.specs.Search.{anyBelow, allBelow, tabulate}
 use Rattle.model.specs.Refusals.{verdictOf, given, refusal, isWhole}
 use Rattle.model.specs.WriteList.{Record, barrierNumber, recordSize, stored}
 
 -- record k of a list, and all its whole records
 unfoldable pub recordIn : List ℕ → ℕ → Record
-recordIn list k = record { sector = beAt list (k * recordSize) 8; contents = run list (k * recordSize + 8) 512 }
+recordIn list k = record { sector = beAt list (k * recordSize) 8; contents = bytesFrom list (k * recordSize + 8) 512 }
 
 unfoldable pub recordsIn : List ℕ → List Record
-recordsIn list = tab (recordIn list) 0 (length list / recordSize)
+recordsIn list = tabulate (recordIn list) 0 (length list / recordSize)
 
 -- record k of a list for an image of so many sectors is bad; a barrier's number is none of a sector
 unfoldable pub badRecord : ℕ → List ℕ → ℕ → Bool
 badRecord sectors list k =
     let r = recordIn list k in
-    cond (eqb (r .sector) barrierNumber) (not (every (λ b. eqb (getD (r .contents) b 0) 0) 512)) (leb sectors (r .sector))
+    cond (eqb (r .sector) barrierNumber) (not (allBelow (λ b. eqb (getD (r .contents) b 0) 0) 512)) (leb sectors (r .sector))
 
 unfoldable pub carryVerdict : List ℕ → List ℕ → Verdict
 carryVerdict img list =
     verdictOf
     ((not (isWhole (length img)), refusal 1)
-    ∷ (not (eqb (length list % recordSize) 0) || some (badRecord (length img / 512) list) (length list / recordSize), refusal 8) ∷ [])
+    ∷ (not (eqb (length list % recordSize) 0) || anyBelow (badRecord (length img / 512) list) (length list / recordSize), refusal 8) ∷ [])
 
 unfoldable pub carryAnswer : List ℕ → List ℕ → CarriedOut
 carryAnswer img list = record { number = carryVerdict img list .number }

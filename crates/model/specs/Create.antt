@@ -3,11 +3,11 @@
 use Prim.Native.Nat.{ℕ}
 use mathlib.Core.Bool.{not, _||_}
 use mathlib.Core.List.{List, [], _∷_}
-use mathlib.Core.Option.{some as just}
+use mathlib.Core.Option.{some}
 use lib.Dec.{eqb}
 use lib.ListN.{length}
 use Rattle.model.specs.declared.Changed.{Changed}
-use Rattle.model.specs.Search.{some, isAt, indexOf}
+use Rattle.model.specs.Search.{anyBelow, isAt, indexOf}
 use Rattle.model.specs.Geometry.{rootAt, entryAt}
 use Rattle.model.specs.Disk.{Disk}
 use Rattle.model.specs.Root.{updatedRootSector}
@@ -20,7 +20,7 @@ use Rattle.model.specs.WriteList.{Plan, sectorWrite, recordCount, Decisi
 unfoldable pub createConditions : Catalogue → List ℕ → ℕ → Conditions
 createConditions c name id =
     (badName name || eqb id 0, refusal 8)
-    ∷ (isAt (fileNamed c name) || some (λ i. hasId id (c .entries i)) (c .geometry .files) || eqb id (c .root .id), refusal 10)
+    ∷ (isAt (fileNamed c name) || anyBelow (λ i. hasId id (c .entries i)) (c .geometry .files) || eqb id (c .root .id), refusal 10)
     ∷ (not (isAt (freeEntry c)), refusal 11) ∷ []
 
 unfoldable pub createPlan : Catalogue → Disk → List ℕ → ℕ → ℕ → ℕ → Plan
@@ -37,7 +37,7 @@ createCount = recordCount 0 2
 unfoldable pub createDecision : ℕ → Disk → List ℕ → ℕ → ℕ → ℕ → ℕ → Decision
 createDecision len d name id mode time room =
     let c = catalogueOf d in
-    decided len d (createConditions c name id) (just (createPlan c d name id mode time)) room
+    decided len d (createConditions c name id) (some (createPlan c d name id mode time)) room
 
 unfoldable pub createAnswer : ℕ → Disk → List ℕ → ℕ → ℕ → ℕ → ℕ → Changed
 createAnswer len d name id mode time room = answerOf d (createDecision len d name id mode time room)

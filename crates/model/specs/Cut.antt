@@ -3,7 +3,7 @@ use Prim.Native.Nat.{ℕ, zero, suc}
 use mathlib.Core.Bool.{Bool, true, false, cond}
 use mathlib.Core.List.{List, [], _∷_, _++_}
 use lib.ListN.{getD}
-use Rattle.model.specs.Search.{tab}
+use Rattle.model.specs.Search.{tabulate}
 use Rattle.model.specs.WriteList.{Record, Group}
 
 -- how many groups landed before, and of each record of the next whether it did
@@ -40,4 +40,4 @@ dataBy (suc n) m k = true
 
 -- of each of a call's n data sectors, whether it landed
 abbrev pub dataLanded : Cut → ℕ → List Bool
-dataLanded x n = tab (dataBy (x .before) (x .mask)) 0 n
+dataLanded x n = tabulate (dataBy (x .before) (x .mask)) 0 n

@@ -3,16 +3,16 @@
 use Prim.Native.Nat.{ℕ, _+_, _*_}
 use mathlib.Core.Bool.{cond}
 use mathlib.Core.List.{List, [], _∷_}
-use mathlib.Core.Option.{some as just}
+use mathlib.Core.Option.{some}
 use lib.ListN.{length}
 use Rattle.model.specs.declared.Changed.{Changed}
 use Rattle.model.specs.Bytes.{zeroSector}
-use Rattle.model.specs.Search.{flat, indexOf}
+use Rattle.model.specs.Search.{concatenated, indexOf}
 use Rattle.model.specs.Geometry.{FileNumber, rootAt, entryAt, tableAt, tableSectors}
 use Rattle.model.specs.Disk.{Disk}
 use Rattle.model.specs.Root.{updatedRootSector}
 use Rattle.model.specs.Table.{freedIn}
-use Rattle.model.specs.Catalogue.{Catalogue, catalogueOf, fileNamed, isBeyond, holdsBeyond}
+use Rattle.model.specs.Catalogue.{Catalogue, catalogueOf, fileNamed, ownedFrom, holdsFrom}
 use Rattle.model.specs.WriteList.{Plan, Record, sectorWrite, Decision, decided, answerOf, listAfter}
 use Rattle.model.specs.Find.{nameConditions}
 
@@ -20,10 +20,10 @@ use Rattle.model.specs.Find.{nameConditions}
 unfoldable pub freedSector : Catalogue → Disk → FileNumber → ℕ → ℕ → List Record
 freedSector c d i o t =
     let at = tableAt (c .geometry) + t in
-    cond (holdsBeyond c i o t) (sectorWrite at (freedIn (λ k. isBeyond i o (c .table (128 * t + k))) (d at) 128) ∷ []) []
+    cond (holdsFrom c i o t) (sectorWrite at (freedIn (λ k. ownedFrom i o (c .table (128 * t + k))) (d at) 128) ∷ []) []
 
 unfoldable pub freedSectors : Catalogue → Disk → FileNumber → ℕ → List Record
-freedSectors c d i o = flat (freedSector c d i o) 0 (tableSectors (c .geometry))
+freedSectors c d i o = concatenated (freedSector c d i o) 0 (tableSectors (c .geometry))
 
 unfoldable pub deletePlan : Catalogue → Disk → FileNumber → ℕ → Plan
 deletePlan c d i time = record {
@@ -34,7 +34,7 @@ deletePlan c d i time = record {
 unfoldable pub deleteDecision : ℕ → Disk → List ℕ → ℕ → ℕ → Decision
 deleteDecision len d name time room =
     let c = catalogueOf d in
-    decided len d (nameConditions c name) (just (deletePlan c d (indexOf (fileNamed c name)) time)) room
+    decided len d (nameConditions c name) (some (deletePlan c d (indexOf (fileNamed c name)) time)) room
 
 unfoldable pub deleteAnswer : ℕ → Disk → List ℕ → ℕ → ℕ → Changed
 deleteAnswer len d name time room = answerOf d (deleteDecision len d name time room)

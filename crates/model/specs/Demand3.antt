@@ -4,7 +4,7 @@ use Prim.Native.Nat.{ℕ, _<_}
 use mathlib.Core.Path.{_≡_}
 use mathlib.Core.Bool.{true, cond}
 use mathlib.Core.List.{List}
-use mathlib.Core.Option.{some as just}
+use mathlib.Core.Option.{some}
 use lib.Dec.{ltb}
 use lib.ListN.{length}
 use Rattle.model.specs.declared.State.the-variants.{Clean}
@@ -32,7 +32,7 @@ pub record Says (L : Ledger) (img : List ℕ) : Type 0 where
   pub marks : (i : ℕ) → i < L .geometry .files → numberIn (view img (entryAt i)) (entryField .mark) ≡ cond (isFree (L .slots i)) 0 65535
   pub directory : (i : ℕ) → catalogueOf (view img) .entries i ≡ catalogue L .entries i
   pub table : (e : ℕ) → catalogueOf (view img) .table e ≡ catalogue L .table e
-  pub bytes : (i : ℕ) (f : File) → L .slots i ≡ just f → fileBytes (catalogueOf (view img)) (view img) i 0 (f .entry .size) ≡ f .bytes
+  pub bytes : (i : ℕ) (f : File) → L .slots i ≡ some f → fileBytes (catalogueOf (view img)) (view img) i 0 (f .entry .size) ≡ f .bytes
 
 -- what is claimed at the end of a run; a run does not end in the broken phase
 abbrev pub Settled : Phase → Ledger → List ℕ → Type 0

@@ -2,11 +2,11 @@
 -- volume says takes a disk, and where a refusal needs it the image's length.
 use Prim.Native.Nat.{ℕ, _*_}
 use mathlib.Core.List.{List}
-use Rattle.model.specs.Bytes.{run}
+use Rattle.model.specs.Bytes.{bytesFrom}
 use Rattle.model.specs.Geometry.{SectorNumber}
 
 abbrev pub Disk : Type 0
 Disk = SectorNumber → List ℕ
 
 unfoldable pub view : List ℕ → Disk
-view img k = run img (512 * k) 512
+view img k = bytesFrom img (512 * k) 512

@@ -6,8 +6,8 @@ use mathlib.Core.List.{List, [], _∷_}
 use lib.Dec.{eqb, leb}
 use lib.ListN.{length, getD}
 use Rattle.model.specs.declared.Fields.{Fields}
-use Rattle.model.specs.Bytes.{Field, field, numberIn, setTo, stamped, raised, run, zeroSector}
-use Rattle.model.specs.Search.{some}
+use Rattle.model.specs.Bytes.{Field, field, numberIn, setTo, withStores, raised, bytesFrom, zeroSector}
+use Rattle.model.specs.Search.{anyBelow}
 
 pub record EntryLayout : Type 0 where
   pub mark : Field
@@ -51,7 +51,7 @@ pub record Entry : Type 0 where
 
 -- "the bytes that start at 36 and end with the name"
 unfoldable pub nameIn : List ℕ → List ℕ
-nameIn s = run s (entryField .name) (numberIn s (entryField .nameLength))
+nameIn s = bytesFrom s (entryField .name) (numberIn s (entryField .nameLength))
 
 unfoldable pub entryIn : List ℕ → Entry
 entryIn s = record {
@@ -87,7 +87,7 @@ abbrev pub longestName : ℕ
 longestName = 476
 
 unfoldable pub hasZero : List ℕ → Bool
-hasZero n = some (λ k. eqb (getD n k 0) 0) (length n)
+hasZero n = anyBelow (λ k. eqb (getD n k 0) 0) (length n)
 
 unfoldable pub badName : List ℕ → Bool
 badName n = not (leb 1 (length n) && leb (length n) longestName) || hasZero n
@@ -95,13 +95,13 @@ badName n = not (leb 1 (length n) && leb (length n) longestName) || hasZero n
 -- create's: "size 0, version 0, given id, mode and time (both times), bytes after the name zero"
 unfoldable pub newEntrySector : List ℕ → ℕ → ℕ → ℕ → List ℕ
 newEntrySector name id mode time =
-    stamped zeroSector
+    withStores zeroSector
     (setTo (entryField .mark) occupiedMark ∷ setTo (entryField .id) id ∷ setTo (entryField .mode) mode ∷ setTo (entryField .accessTime) time
     ∷ setTo (entryField .changeTime) time ∷ setTo (entryField .nameLength) (length name) ∷ (entryField .name, name) ∷ [])
 
 -- write's and resize's: the size given, "version up, change time set"
 unfoldable pub updatedEntrySector : ℕ → ℕ → List ℕ → List ℕ
 updatedEntrySector size time s =
-    stamped s
+    withStores s
     (setTo (entryField .size) size ∷ setTo (entryField .version) (raised (numberIn s (entryField .version)))
     ∷ setTo (entryField .changeTime) time ∷ [])

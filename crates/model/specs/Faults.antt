@@ -2,23 +2,23 @@
 -- But for the entry marks, faults are read off the catalogue.
 use Prim.Native.Nat.{ℕ, _*_}
 use mathlib.Core.Bool.{Bool, false, not, _&&_, _||_}
-use mathlib.Core.Option.{Option, none, some as just}
+use mathlib.Core.Option.{Option, none, some}
 use lib.Dec.{eqb, leb, ltb}
-use Rattle.model.specs.declared.Place.{Place}
-use Rattle.model.specs.declared.Place.the-variants.{At, Nowhere}
+use Rattle.model.specs.declared.Lowest.{Lowest}
+use Rattle.model.specs.declared.Lowest.the-variants.{At, Nowhere}
 use Rattle.model.specs.declared.Soundness.{Soundness}
 use Rattle.model.specs.declared.Soundness.the-variants.{Sound, Faulty}
 use Rattle.model.specs.Bytes.{numberIn}
-use Rattle.model.specs.Search.{first, some, every, count}
+use Rattle.model.specs.Search.{first, anyBelow, allBelow, countBelow}
 use Rattle.model.specs.Geometry.{ExtentNumber, FileNumber, extentBytes, usable, entryAt, extentsFor}
 use Rattle.model.specs.Disk.{Disk}
 use Rattle.model.specs.Entry.{entryField, freeMark, isOccupied, badName}
-use Rattle.model.specs.Catalogue.{Catalogue, catalogueOf, isFree, hasName, hasId, isPart, isBeyond}
+use Rattle.model.specs.Catalogue.{Catalogue, catalogueOf, isFree, hasName, hasId, isPart, ownedFrom}
 
 -- an occupied entry, a taken extent, of which a test holds: "only occupied entries are judged by 22, 23, 24 and 26"
-abbrev pub among {ℓ} : {A : Type ℓ} → Option A → (A → Bool) → Bool
-among none p = false
-among (just a) p = p a
+abbrev pub holdsOf {ℓ} : {A : Type ℓ} → Option A → (A → Bool) → Bool
+holdsOf none p = false
+holdsOf (some a) p = p a
 
 -- 21 entry mark is neither value
 unfoldable pub fault21 : Disk → FileNumber → Bool
@@ -27,32 +27,32 @@ fault21 d i = not (eqb (numberIn (d (entryAt i)) (entryField .mark)) freeMark ||
 module _ (c : Catalogue) where
   -- 22 occupied, and the name length isn't 1 to 476, or a name byte is 0, or size exceeds (N - K) x E
   unfoldable pub fault22 : FileNumber → Bool
-  fault22 i = among (c .entries i) (λ e. badName (e .name) || ltb (usable (c .geometry) * extentBytes (c .geometry)) (e .size))
+  fault22 i = holdsOf (c .entries i) (λ e. badName (e .name) || ltb (usable (c .geometry) * extentBytes (c .geometry)) (e .size))
 
   -- 23 same name as an occupied entry of lower index
   unfoldable pub fault23 : FileNumber → Bool
-  fault23 i = among (c .entries i) (λ e. some (λ j. hasName (e .name) (c .entries j)) i)
+  fault23 i = holdsOf (c .entries i) (λ e. anyBelow (λ j. hasName (e .name) (c .entries j)) i)
 
   -- 24 id is 0, the root's, or that of an occupied entry of lower index
   unfoldable pub fault24 : FileNumber → Bool
-  fault24 i = among (c .entries i) (λ e. eqb (e .id) 0 || eqb (e .id) (c .root .id) || some (λ j. hasId (e .id) (c .entries j)) i)
+  fault24 i = holdsOf (c .entries i) (λ e. eqb (e .id) 0 || eqb (e .id) (c .root .id) || anyBelow (λ j. hasId (e .id) (c .entries j)) i)
 
   -- 25 a table entry names no occupied file and isn't free, or a reserve entry isn't free
   unfoldable pub fault25 : ExtentNumber → Bool
-  fault25 e = among (c .table e) (λ w. isFree (c .entries (w .file)) || leb (usable (c .geometry)) e)
+  fault25 e = holdsOf (c .table e) (λ w. isFree (c .entries (w .file)) || leb (usable (c .geometry)) e)
 
   -- "exactly one entry for each offset 0 to k - 1 and no others"
   unfoldable pub exact : FileNumber → ℕ → Bool
   exact i k =
-      every (λ o. eqb (count (λ e. isPart i o (c .table e)) (c .geometry .extents)) 1) k
-      && every (λ e. not (isBeyond i k (c .table e))) (c .geometry .extents)
+      allBelow (λ o. eqb (countBelow (λ e. isPart i o (c .table e)) (c .geometry .extents)) 1) k
+      && allBelow (λ e. not (ownedFrom i k (c .table e))) (c .geometry .extents)
 
   -- 26 a file of size z doesn't have exactly one entry for each offset 0 to C - 1 and no others, C = z / E rounded up
   unfoldable pub fault26 : FileNumber → Bool
-  fault26 i = among (c .entries i) (λ e. not (exact i (extentsFor (c .geometry) (e .size))))
+  fault26 i = holdsOf (c .entries i) (λ e. not (exact i (extentsFor (c .geometry) (e .size))))
 
 -- the fault of this number at the place found, else the later ones
-abbrev pub orElse : ℕ → Place → Soundness → Soundness
+abbrev pub orElse : ℕ → Lowest → Soundness → Soundness
 orElse n (At i) later = Faulty n i
 orElse n Nowhere later = later
 

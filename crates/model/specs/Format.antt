@@ -8,7 +8,7 @@ use Rattle.model.specs.declared.Geometry.{Geometry}
 use Rattle.model.specs.declared.Verdict.{Verdict}
 use Rattle.model.specs.declared.Formatted.{Formatted}
 use Rattle.model.specs.Bytes.{zeroSector, onesSector}
-use Rattle.model.specs.Search.{tab}
+use Rattle.model.specs.Search.{tabulate}
 use Rattle.model.specs.Geometry.{inBounds, tableSectors, superblockAt, rootAt, entryAt, tableAt}
 use Rattle.model.specs.Superblock.{newSuperblock}
 use Rattle.model.specs.Root.{newRootSector}
@@ -69,4 +69,4 @@ formatOutput a p out =
 
 -- the image on which all records of the format landed in order
 unfoldable pub formattedImage : Format → List ℕ → List ℕ
-formattedImage a img = let g = geometryFor (a .sectors) (a .files) in stored (tab (formatRecord g a) 0 (formatCount g)) img
+formattedImage a img = let g = geometryFor (a .sectors) (a .files) in stored (tabulate (formatRecord g a) 0 (formatCount g)) img

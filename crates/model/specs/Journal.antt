@@ -11,14 +11,14 @@ use Rattle.model.specs.Disk.{Disk}
 abbrev pub journalSectorOf : Geometry → ℕ → SectorNumber
 journalSectorOf g k = journalAt g + k / 32
 
-abbrev pub journalPlace : ℕ → ℕ
-journalPlace k = 16 * (k % 32)
+abbrev pub journalEntryStart : ℕ → ℕ
+journalEntryStart k = 16 * (k % 32)
 
 unfoldable pub sourceAt : Geometry → Disk → ℕ → SectorNumber
-sourceAt g d k = numberIn (d (journalSectorOf g k)) (field (journalPlace k) 8)
+sourceAt g d k = numberIn (d (journalSectorOf g k)) (field (journalEntryStart k) 8)
 
 unfoldable pub targetAt : Geometry → Disk → ℕ → SectorNumber
-targetAt g d k = numberIn (d (journalSectorOf g k)) (field (journalPlace k + 8) 8)
+targetAt g d k = numberIn (d (journalSectorOf g k)) (field (journalEntryStart k + 8) 8)
 
 -- how many sectors n entries fill
 abbrev pub journalSectors : ℕ → ℕ

@@ -11,7 +11,7 @@ use Rattle.model.specs.declared.State.{State}
 use Rattle.model.specs.declared.State.the-variants.{Clean, Waiting, Damaged, Unfinished}
 use Rattle.model.specs.declared.Verdict.{Verdict}
 use Rattle.model.specs.declared.Recovered.{Recovered}
-use Rattle.model.specs.Search.{first, some, every, flat, isAt, indexOf}
+use Rattle.model.specs.Search.{first, anyBelow, allBelow, concatenated, isAt, indexOf}
 use Rattle.model.specs.Geometry.{SectorNumber, superblockAt, rootAt, journalAt, tableAt, dataAt, volumeSectors}
 use Rattle.model.specs.Disk.{Disk}
 use Rattle.model.specs.Superblock.{geometryIn, stateOn}
@@ -29,7 +29,7 @@ isMetadata g t = (leb rootAt t && ltb t (journalAt g)) || (leb (tableAt g) t && 
 module _ (g : Geometry) (d : Disk) where
   -- journal entry k is good
   unfoldable pub goodEntry : ℕ → Bool
-  goodEntry k = isData g (sourceAt g d k) && isMetadata g (targetAt g d k) && not (some (λ j. eqb (targetAt g d j) (targetAt g d k)) k)
+  goodEntry k = isData g (sourceAt g d k) && isMetadata g (targetAt g d k) && not (anyBelow (λ j. eqb (targetAt g d j) (targetAt g d k)) k)
 
   -- sector t from its source, if one of the n entries has it as a target
   unfoldable pub replayedSector : ℕ → SectorNumber → List Record
@@ -39,12 +39,12 @@ module _ (g : Geometry) (d : Disk) where
 
   -- "group C from the sources": the targets of n entries in rising order
   unfoldable pub replayed : ℕ → Group
-  replayed n = flat (replayedSector n) 0 (dataAt g)
+  replayed n = concatenated (replayedSector n) 0 (dataAt g)
 
   -- 6 "state damaged, or in recovery a bad journal entry"
   abbrev pub badJournal : State → Bool
   badJournal Clean = false
-  badJournal (Waiting n) = not (every goodEntry n)
+  badJournal (Waiting n) = not (allBelow goodEntry n)
   badJournal Damaged = true
   badJournal Unfinished = false
 

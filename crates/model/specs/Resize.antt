@@ -3,11 +3,11 @@
 use Prim.Native.Nat.{ℕ, _+_, _-_}
 use mathlib.Core.Bool.{cond, not, _&&_, _||_}
 use mathlib.Core.List.{List, [], _∷_}
-use mathlib.Core.Option.{Option, some as just}
+use mathlib.Core.Option.{Option, some}
 use lib.Dec.{ltb}
 use lib.ListN.{length}
 use Rattle.model.specs.declared.Changed.{Changed}
-use Rattle.model.specs.Bytes.{run}
+use Rattle.model.specs.Bytes.{bytesFrom}
 use Rattle.model.specs.Search.{isAt, indexOf}
 use Rattle.model.specs.Geometry.{FileNumber, entryAt, extentsFor}
 use Rattle.model.specs.Disk.{Disk}
@@ -21,7 +21,7 @@ use Rattle.model.specs.Write.{noRoom, writePlanned}
 
 -- n zeros
 abbrev pub zeros : ℕ → List ℕ
-zeros n = run [] 0 n
+zeros n = bytesFrom [] 0 n
 
 unfoldable pub shrinkPlan : Catalogue → Disk → FileNumber → ℕ → ℕ → Plan
 shrinkPlan c d i z time = record {
@@ -33,7 +33,7 @@ shrinkPlan c d i z time = record {
 unfoldable pub resizePlanned : Catalogue → Disk → FileNumber → ℕ → ℕ → Option Plan
 resizePlanned c d i z time =
     let size = entryOf c i .size in
-    cond (ltb z size) (just (shrinkPlan c d i z time)) (writePlanned c i d size (zeros (z - size)) time)
+    cond (ltb z size) (some (shrinkPlan c d i z time)) (writePlanned c i d size (zeros (z - size)) time)
 
 -- 8 bad name, or "a resize that grows a file by more than 65,536"; 9; 13
 unfoldable pub resizeConditions : Catalogue → List ℕ → ℕ → Conditions

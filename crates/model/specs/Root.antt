@@ -1,7 +1,7 @@
 -- "Root: 0 version (4), 4 id (8), 12 mode (4), 16 access time (4), 20 change time (4)."
 use Prim.Native.Nat.{ℕ}
 use mathlib.Core.List.{List, [], _∷_}
-use Rattle.model.specs.Bytes.{Field, field, numberIn, setTo, stamped, raised, zeroSector}
+use Rattle.model.specs.Bytes.{Field, field, numberIn, setTo, withStores, raised, zeroSector}
 
 pub record RootLayout : Type 0 where
   pub version : Field
@@ -33,10 +33,10 @@ rootIn s = record {
 -- create's and delete's: "Root: version up, change time set"
 unfoldable pub updatedRootSector : ℕ → List ℕ → List ℕ
 updatedRootSector time s =
-    stamped s (setTo (rootField .version) (raised (numberIn s (rootField .version))) ∷ setTo (rootField .changeTime) time ∷ [])
+    withStores s (setTo (rootField .version) (raised (numberIn s (rootField .version))) ∷ setTo (rootField .changeTime) time ∷ [])
 
 -- format's: "root (version 0, given id, mode and time, for both times)"; "unused bytes are zero"
 unfoldable pub newRootSector : ℕ → ℕ → ℕ → List ℕ
 newRootSector id mode time =
-    stamped zeroSector
+    withStores zeroSector
     (setTo (rootField .id) id ∷ setTo (rootField .mode) mode ∷ setTo (rootField .accessTime) time ∷ setTo (rootField .changeTime) time ∷ [])

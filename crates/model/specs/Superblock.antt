@@ -6,8 +6,8 @@ use lib.Dec.{eqb, leb}
 use Rattle.model.specs.declared.Geometry.{Geometry}
 use Rattle.model.specs.declared.State.{State}
 use Rattle.model.specs.declared.State.the-variants.{Clean, Waiting, Damaged, Unfinished}
-use Rattle.model.specs.Bytes.{Field, field, numberIn, setTo, stamped, run, zeroSector}
-use Rattle.model.specs.Search.{same}
+use Rattle.model.specs.Bytes.{Field, field, numberIn, setTo, withStores, bytesFrom, zeroSector}
+use Rattle.model.specs.Search.{equalBytes}
 use Rattle.model.specs.Geometry.{extentSectors, superblockAt}
 use Rattle.model.specs.Disk.{Disk}
 
@@ -29,7 +29,7 @@ magic = 47 ∷ 71 ∷ 111 ∷ 111 ∷ 47 ∷ 70 ∷ 83 ∷ 47 ∷ []
 
 -- "A reader compares bytes 8 to 15 with the magic"; and the version is 1
 unfoldable pub isVolume : List ℕ → Bool
-isVolume s = same (run s (superblockField .magic) 8) magic && eqb (numberIn s (superblockField .version)) 1
+isVolume s = equalBytes (bytesFrom s (superblockField .magic) 8) magic && eqb (numberIn s (superblockField .version)) 1
 
 unfoldable pub geometryIn : List ℕ → Geometry
 geometryIn s = record {
@@ -50,12 +50,12 @@ stateOn d = stateOf (journalLength (d superblockAt))
 
 -- a superblock with another journal length: all its other bytes stay
 unfoldable pub withJournalLength : ℕ → List ℕ → List ℕ
-withJournalLength n s = stamped s (setTo (superblockField .journalLength) n ∷ [])
+withJournalLength n s = withStores s (setTo (superblockField .journalLength) n ∷ [])
 
 -- format's: "unused bytes are zero"
 unfoldable pub newSuperblock : Geometry → ℕ → List ℕ
 newSuperblock g n =
-    stamped zeroSector
+    withStores zeroSector
     (setTo (superblockField .files) (g .files) ∷ setTo (superblockField .extents) (g .extents)
     ∷ setTo (superblockField .extentSectors) (extentSectors g) ∷ (superblockField .magic, magic) ∷ setTo (superblockField .version) 1
     ∷ setTo (superblockField .journalLength) n ∷ [])

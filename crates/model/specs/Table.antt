@@ -14,21 +14,21 @@ freeFile = 65535
 abbrev pub tableSectorOf : Geometry → ExtentNumber → SectorNumber
 tableSectorOf g e = tableAt g + e / 128
 
-abbrev pub tablePlace : ExtentNumber → ℕ
-tablePlace e = 4 * (e % 128)
+abbrev pub tableEntryStart : ExtentNumber → ℕ
+tableEntryStart e = 4 * (e % 128)
 
 unfoldable pub tableFile : Geometry → Disk → ExtentNumber → FileNumber
-tableFile g d e = numberIn (d (tableSectorOf g e)) (field (tablePlace e) 2)
+tableFile g d e = numberIn (d (tableSectorOf g e)) (field (tableEntryStart e) 2)
 
 unfoldable pub tableOffset : Geometry → Disk → ExtentNumber → ℕ
-tableOffset g d e = numberIn (d (tableSectorOf g e)) (field (tablePlace e + 2) 2)
+tableOffset g d e = numberIn (d (tableSectorOf g e)) (field (tableEntryStart e + 2) 2)
 
 abbrev pub tableEntryBytes : FileNumber → ℕ → List ℕ
 tableEntryBytes file offset = beBytes 2 file ++ beBytes 2 offset
 
 -- a table sector in which extent e was given to a file
 unfoldable pub takenIn : ExtentNumber → FileNumber → ℕ → List ℕ → List ℕ
-takenIn e file offset s = put s (tablePlace e) (tableEntryBytes file offset)
+takenIn e file offset s = put s (tableEntryStart e) (tableEntryBytes file offset)
 
 -- a table sector in which those of its first n entries that p picks "become 65535, 65535"
 unfoldable pub freedIn : (ℕ → Bool) → List ℕ → ℕ → List ℕ

@@ -4,12 +4,12 @@
 use Prim.Native.Nat.{ℕ, _+_, _*_, _-_, _/_, _%_, min, max}
 use mathlib.Core.Bool.{Bool, cond, not, _&&_, _||_}
 use mathlib.Core.List.{List, [], _∷_}
-use mathlib.Core.Option.{Option, none, some as just}
+use mathlib.Core.Option.{Option, none, some}
 use lib.Dec.{eqb, ltb}
 use lib.ListN.{length}
 use Rattle.model.specs.declared.Changed.{Changed}
-use Rattle.model.specs.Bytes.{run, put}
-use Rattle.model.specs.Search.{tab, isAt, indexOf}
+use Rattle.model.specs.Bytes.{bytesFrom, put}
+use Rattle.model.specs.Search.{tabulate, isAt, indexOf}
 use Rattle.model.specs.Geometry.{SectorNumber, FileNumber, extentSectors, entryAt, extentAt, extentsFor}
 use Rattle.model.specs.Disk.{Disk}
 use Rattle.model.specs.Entry.{badName, updatedEntrySector}
@@ -25,7 +25,7 @@ touchedSectors offset n = (offset + n + 511) / 512 - offset / 512
 
 -- a sector whose first byte is the file's byte base, with the file's bytes from to to - 1 taken from a span that starts at offset
 unfoldable pub splicedFrom : List ℕ → ℕ → ℕ → List ℕ → ℕ → ℕ → List ℕ
-splicedFrom old base offset bytes from to = put old (from - base) (run bytes (from - offset) (to - from))
+splicedFrom old base offset bytes from to = put old (from - base) (bytesFrom bytes (from - offset) (to - from))
 
 -- file sector s, which held the bytes old, with what of the span falls into it: "bytes of a touched sector outside the span stay"
 unfoldable pub spliced : ℕ → List ℕ → ℕ → List ℕ → List ℕ
@@ -45,15 +45,15 @@ module _ (c : Catalogue) (i : FileNumber) where
   noRoom z = grows z && not (isAt (freeExtent c))
 
   -- where file sector s stands: in the file's extents, or behind them in the one that is taken
-  unfoldable pub placeOf : ℕ → SectorNumber
-  placeOf s =
+  unfoldable pub fileSectorAt : ℕ → SectorNumber
+  fileSectorAt s =
       let o = s / extentSectors (c .geometry) in
       let e = cond (ltb o heldExtents) (extentOf c i o) (indexOf (freeExtent c)) in
       extentAt (c .geometry) e + s % extentSectors (c .geometry)
 
   -- the record of file sector s
   unfoldable pub dataSector : Disk → ℕ → List ℕ → ℕ → Record
-  dataSector d offset bytes s = sectorWrite (placeOf s) (spliced offset bytes s (d (placeOf s)))
+  dataSector d offset bytes s = sectorWrite (fileSectorAt s) (spliced offset bytes s (d (fileSectorAt s)))
 
   -- the size that the file has after a write of n bytes
   abbrev pub sizeAfter : ℕ → ℕ → ℕ
@@ -65,7 +65,7 @@ module _ (c : Catalogue) (i : FileNumber) where
       let x = indexOf (freeExtent c) in
       let t = tableSectorOf (c .geometry) x in
       record {
-        dataSectors = tab (dataSector d offset bytes) (offset / 512) (touchedSectors offset (length bytes));
+        dataSectors = tabulate (dataSector d offset bytes) (offset / 512) (touchedSectors offset (length bytes));
         targets =
             sectorWrite (entryAt i) (updatedEntrySector z time (d (entryAt i)))
             ∷ cond (grows z) (sectorWrite t (takenIn x i heldExtents (d t)) ∷ []) [];
@@ -73,7 +73,7 @@ module _ (c : Catalogue) (i : FileNumber) where
 
   -- "A write of 0 bytes is done with an empty list": no plan
   unfoldable pub writePlanned : Disk → ℕ → List ℕ → ℕ → Option Plan
-  writePlanned d offset bytes time = cond (eqb (length bytes) 0) none (just (writePlan d offset bytes time))
+  writePlanned d offset bytes time = cond (eqb (length bytes) 0) none (some (writePlan d offset bytes time))
 
 -- 8 bad name or more than 65,536 bytes, 9, 12 offset greater than size, 13
 unfoldable pub writeConditions : Catalogue → List ℕ → ℕ → ℕ → Conditions

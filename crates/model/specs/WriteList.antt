@@ -5,14 +5,14 @@ use Prim.Native.Nat.{ℕ, _+_, _*_, _-_, _^_}
 use mathlib.Core.Path.{_≡_}
 use mathlib.Core.Bool.{cond}
 use mathlib.Core.List.{List, [], _∷_, _++_, map}
-use mathlib.Core.Option.{Option, none, some as just}
+use mathlib.Core.Option.{Option, none, some}
 use lib.Dec.{eqb, ltb}
 use lib.ListN.{length, getD}
 use Rattle.model.specs.declared.Geometry.{Geometry}
 use Rattle.model.specs.declared.Verdict.{Verdict}
 use Rattle.model.specs.declared.Changed.{Changed}
-use Rattle.model.specs.Bytes.{beBytes, run, put, zeroSector}
-use Rattle.model.specs.Search.{tab}
+use Rattle.model.specs.Bytes.{beBytes, bytesFrom, put, zeroSector}
+use Rattle.model.specs.Search.{tabulate}
 use Rattle.model.specs.Geometry.{SectorNumber, superblockAt, journalAt, reserveAt}
 use Rattle.model.specs.Disk.{Disk}
 use Rattle.model.specs.Superblock.{geometryIn, withJournalLength}
@@ -43,7 +43,7 @@ abbrev pub contentsStart : ℕ
 contentsStart = 8
 
 unfoldable pub recordBytes : Record → List ℕ
-recordBytes r = beBytes 8 (r .sector) ++ run (r .contents) 0 512
+recordBytes r = beBytes 8 (r .sector) ++ bytesFrom (r .contents) 0 512
 
 unfoldable pub listBytes : List Record → List ℕ
 listBytes [] = []
@@ -75,10 +75,10 @@ Group = List Record
 
 -- "The k-th target's copy goes to the k-th reserve sector": the staging sectors of n copies
 unfoldable pub staging : Geometry → ℕ → List SectorNumber
-staging g n = tab (λ k. reserveAt g + k) 0 n
+staging g n = tabulate (λ k. reserveAt g + k) 0 n
 
 unfoldable pub copies : List SectorNumber → Group → Group
-copies stages ts = tab (λ k. sectorWrite (getD stages k 0) (getD ts k barrier .contents)) 0 (length ts)
+copies stages ts = tabulate (λ k. sectorWrite (getD stages k 0) (getD ts k barrier .contents)) 0 (length ts)
 
 abbrev pub sectorsOf : Group → List SectorNumber
 sectorsOf ts = map (λ (r : Record). r .sector) ts
@@ -87,7 +87,7 @@ sectorsOf ts = map (λ (r : Record). r .sector) ts
 unfoldable pub journalOf : Geometry → List SectorNumber → List SectorNumber → Group
 journalOf g stages targets =
     let n = length targets in
-    tab (λ j. sectorWrite (journalAt g + j) (journalSector (λ k. getD stages k 0) (λ k. getD targets k 0) n j)) 0 (journalSectors n)
+    tabulate (λ j. sectorWrite (journalAt g + j) (journalSector (λ k. getD stages k 0) (λ k. getD targets k 0) n j)) 0 (journalSectors n)
 
 unfoldable pub groupA : Geometry → List SectorNumber → Plan → Group
 groupA g stages p = p .dataSectors ++ copies stages (p .targets) ++ journalOf g stages (sectorsOf (p .targets))
@@ -103,7 +103,7 @@ groupsOf g d p =
 -- no plan, no groups: an empty list
 unfoldable pub groupsFor : Disk → Option Plan → List Group
 groupsFor d none = []
-groupsFor d (just p) = groupsOf (geometryIn (d superblockAt)) d p
+groupsFor d (some p) = groupsOf (geometryIn (d superblockAt)) d p
 
 -- the records of groups, a barrier after each, behind those of acc
 abbrev pub closedAfter : List Record → List Group → List Record

@@ -2,7 +2,7 @@
 ghost use mathlib.Core.Path.{_≡_};
 ghost use Prim.Native.Nat.{_+_, _*_, _≤_, _<_};
 ghost use Rattle.model.specs.Geometry.{inBounds, tableSectors, reserveExtents, usable, entryAt, journalAt, tableAt, dataAt, extentAt, reserveAt, volumeSectors};
-ghost use Rattle.model.specs.Table.{tableSectorOf, tablePlace};
+ghost use Rattle.model.specs.Table.{tableSectorOf, tableEntryStart};
 ghost use Rattle.model.specs.Summary.{areaAt, located};
 ghost use Rattle.model.specs.Opened.{Bounded};
 
@@ -42,7 +42,7 @@ pub struct Summary {
 }
 
 // What a search over indexes answers.
-pub enum Place {
+pub enum Lowest {
     At(usize),
     Nowhere,
 }
@@ -139,7 +139,7 @@ impl FileIndex {
 impl Extent {
     // Where its entry stands in its table sector.
     pub fn table_place(self) -> usize
-        ensures { λ r. ⌜ r ≡ tablePlace (self .0) ⌝ }
+        ensures { λ r. ⌜ r ≡ tableEntryStart (self .0) ⌝ }
     {
         4 * (self.0 % 128) as usize
     }

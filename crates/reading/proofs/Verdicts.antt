@@ -6,8 +6,8 @@ use mathlib.Core.List.{List}
 use lib.Dec.{ltb}
 use lib.ListN.{length}
 use borrow.Author.Tests.{le-leb, lt-leb, lt-ltb, le-ltb}
-use Rattle.model.specs.declared.Place.{Place}
-use Rattle.model.specs.declared.Place.the-variants.{At}
+use Rattle.model.specs.declared.Lowest.{Lowest}
+use Rattle.model.specs.declared.Lowest.the-variants.{At}
 use Rattle.model.specs.declared.Verdict.{Verdict}
 use Rattle.model.specs.Bytes.{beAt}
 use Rattle.model.specs.Search.{isAt, indexOf}
@@ -85,7 +85,7 @@ module _ (d : Disk) (name : List ℕ) (offset asked room : ℕ) where
 
     pub size-named : (i : ℕ) → At i ≡ fileNamed (catalogueOf d) name → sizeNamed (catalogueOf d) name ≡ beAt (d (entryAt i)) 2 8
     unfolding sizeNamed entryIn
-    size-named i e = ap (λ (p : Place). entryOf (catalogueOf d) (indexOf p) .size) (sym e) ∙ ap (λ (x : Entry). x .size) (named-entry d name i e)
+    size-named i e = ap (λ (p : Lowest). entryOf (catalogueOf d) (indexOf p) .size) (sym e) ∙ ap (λ (x : Entry). x .size) (named-entry d name i e)
 
     pub read-file : (i : ℕ) → At i ≡ fileNamed (catalogueOf d) name
         → verdictOf (readConditions (catalogueOf d) name offset asked room) ≡ fileVerdict (beAt (d (entryAt i)) 2 8) offset asked room

@@ -5,7 +5,7 @@ use model::FileIndex;
 use model::Found;
 use model::Geometry;
 use model::Listed;
-use model::Place;
+use model::Lowest;
 use model::Verdict;
 ghost use mathlib.Core.Path.{_≡_};
 ghost use Prim.Native.Nat.{_+_, _*_, _≤_, _<_, _^_, min};
@@ -73,7 +73,7 @@ pub fn find_in(img: &[u8], name: &[u8]) -> Found
         return not_found(volume::refusal(8));
     }
     let g = volume::geometry_in(img);
-    if let Place::At(i) = directory::file_named(img, g, name) {
+    if let Lowest::At(i) = directory::file_named(img, g, name) {
         let index = FileIndex(i as u64);
         let fields = directory::fields_at(img, index);
         let verdict = volume::refusal(0);
@@ -93,7 +93,7 @@ fn copy_name(img: &[u8], i: FileIndex, out: &mut [u8], n: usize)
     ensures { λ _. ⌜ now (out .exit) ≡ put (now (out .entry)) 0 (nameIn (view (now (img .entry)) (entryAt (i .0)))) ⌝ }
 {
     let k = i.sector();
-    fields::copy_run(img, 512 * (k.0 as usize) + 36, out, 0, n);
+    fields::copy_bytes(img, 512 * (k.0 as usize) + 36, out, 0, n);
 }
 
 pub fn list_in(img: &[u8], index: u64, out: &mut [u8]) -> Listed
@@ -167,7 +167,7 @@ pub fn read_in(img: &[u8], name: &[u8], offset: u64, asked: u64, out: &mut [u8])
         return not_read(volume::refusal(8));
     }
     let g = volume::geometry_in(img);
-    if let Place::At(i) = directory::file_named(img, g, name) {
+    if let Lowest::At(i) = directory::file_named(img, g, name) {
         let index = FileIndex(i as u64);
         let size = fields::number(img, index.sector(), 2, 8);
         return read_file(img, g, index, size, offset, asked, out);

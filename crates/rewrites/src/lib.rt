@@ -11,7 +11,7 @@ ghost use Rattle.model.specs.Root.{updatedRootSector};
 ghost use Rattle.model.specs.Entry.{updatedEntrySector};
 
 // A version of 4,294,967,295 is followed by 0.
-fn next_version(version: u32) -> u32
+fn raised_version(version: u32) -> u32
     ensures { λ r. ⌜ r ≡ raised version ⌝ }
 {
     std::num::wrapping_add_u32(version, 1)
@@ -23,7 +23,7 @@ pub fn updated_root(img: &[u8], time: u32) -> [u8; 512]
     ensures { λ r. ⌜ r ≡ updatedRootSector time (view (now (img .entry)) rootAt) ⌝ }
 {
     let mut a = fields::sector(img, Sector(1));
-    let version = next_version(fields::be32(&a, 0));
+    let version = raised_version(fields::be32(&a, 0));
     fields::put_be(&mut a, 0, 4, version as u64);
     fields::put_be(&mut a, 20, 4, time as u64);
     a
@@ -35,7 +35,7 @@ pub fn updated_entry(img: &[u8], i: FileIndex, size: u64, time: u32) -> [u8; 512
     ensures { λ r. ⌜ r ≡ updatedEntrySector size time (view (now (img .entry)) (entryAt (i .0))) ⌝ }
 {
     let mut a = fields::sector(img, i.sector());
-    let version = next_version(fields::be32(&a, 10));
+    let version = raised_version(fields::be32(&a, 10));
     fields::put_be(&mut a, 2, 8, size);
     fields::put_be(&mut a, 10, 4, version as u64);
     fields::put_be(&mut a, 30, 4, time as u64);

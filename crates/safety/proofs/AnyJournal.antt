@@ -24,7 +24,7 @@ use Rattle.model.specs.Recovery.{isData, isMetadata, goodEntry, replayed, badJo
 use Rattle.model.specs.Cut.{Cut, landedOf, landed}
 use Rattle.laws.proofs.Booleans.{and-left, and-right, and-yes, range-yes}
 use Rattle.laws.proofs.Disk.{length-view}
-use Rattle.laws.proofs.Search.{every-at, some-no, none-at}
+use Rattle.laws.proofs.Search.{allBelow-at, anyBelow-no, none-at}
 use Rattle.laws.proofs.Refusals.{image-passed}
 use Rattle.safety.specs.Room.{geometryOn}
 use Rattle.safety.specs.AnyJournal.{InMetadata, GoodEntries, recoveryNumber, recoveredBy, Replayed, StillWaits, CutRecoveries, none, oneMore, AnyJournal}
@@ -93,7 +93,7 @@ module _ (img : List ℕ) (n room : ℕ) (st : stateOn (view img) ≡ Waiting n)
   good : (k : ℕ) → k < n → goodEntry (geometryOn img) (view img) k ≡ true
   unfolding recoveryVerdict verdictOf
   good =
-      every-at (goodEntry g d) n (not-no _ (ap (badJournal g d) (sym st)
+      allBelow-at (goodEntry g d) n (not-no _ (ap (badJournal g d) (sym st)
       ∙ no-6 (eqb (stateNumber (stateOn d)) 4) (badJournal g d (stateOn d))
       (earlier-done (cond (eqb (stateNumber (stateOn d)) 4) (refusal 4) (cond (badJournal g d (stateOn d)) (refusal 6) done)) (byRoom room (recoveryGroups d))
       (later-done (imageVerdict (length img) (view img)) _ accepted))))
@@ -286,7 +286,7 @@ module _ (n : ℕ) (img : List ℕ) where
       and-yes _ _
       (and-yes _ _ (range-yes (dataAt geo) (volumeSectors geo) _ (h .sources k l .0) (h .sources k l .1))
       (⊎-elim (λ q. metadata-directory geo _ (q .0) (q .1)) (λ q. metadata-table geo _ (q .0) (q .1)) (h .targets k l)))
-      (ap not (some-no _ k (λ j q. ne-eqb _ _ (λ e. let z = h .once j k (omega arith) l e in omega arith))))
+      (ap not (anyBelow-no _ k (λ j q. ne-eqb _ _ (λ e. let z = h .once j k (omega arith) l e in omega arith))))
 
 no-14 : (b : Bool) → cond {A = ℕ} b 14 0 ≡ 0 → b ≡ false
 no-14 true e = absurd (omega (arith, e))

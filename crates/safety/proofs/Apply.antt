@@ -12,7 +12,7 @@ use lib.Dec.{eqb}
 use lib.ListN.{length, getD}
 use borrow.Author.Tests.{eqb-true, eq-eqb, ne-eqb}
 use Rattle.model.specs.Bytes.{put}
-use Rattle.model.specs.Search.{tab}
+use Rattle.model.specs.Search.{tabulate}
 use Rattle.model.specs.Disk.{Disk, view}
 use Rattle.model.specs.WriteList.{Record, sectorWrite, barrierNumber, barrier, stored, Group, closedAfter, closed}
 use Rattle.model.specs.Cut.{kept, landedOf}
@@ -108,13 +108,13 @@ module _ (P : Record → Type 0) where
   all-right [] b h = h
   all-right (w ∷ ws) b h = all-right ws b (h .1)
 
-  pub all-tab : (f : ℕ → Record) (from n : ℕ) → ((k : ℕ) → k < n → P (f (from + k))) → All P (tab f from n)
-  unfolding tab
-  all-tab f from zero h = tt
-  all-tab f from (suc n) h = all-append (tab f from n) (f (from + n) ∷ []) (all-tab f from n (λ k l. h k (omega arith))) (h n (omega arith), tt)
+  pub all-tabulate : (f : ℕ → Record) (from n : ℕ) → ((k : ℕ) → k < n → P (f (from + k))) → All P (tabulate f from n)
+  unfolding tabulate
+  all-tabulate f from zero h = tt
+  all-tabulate f from (suc n) h = all-append (tabulate f from n) (f (from + n) ∷ []) (all-tabulate f from n (λ k l. h k (omega arith))) (h n (omega arith), tt)
 
-  pub all-tab0 : (f : ℕ → Record) (n : ℕ) → ((k : ℕ) → k < n → P (f k)) → All P (tab f 0 n)
-  all-tab0 f n h = all-tab f 0 n (λ k l. rw zero-add (h k l))
+  pub all-tab0 : (f : ℕ → Record) (n : ℕ) → ((k : ℕ) → k < n → P (f k)) → All P (tabulate f 0 n)
+  all-tab0 f n h = all-tabulate f 0 n (λ k l. rw zero-add (h k l))
 
   pub all-at : (ws : Group) (k : ℕ) (z : Record) → All P ws → k < length ws → P (getD ws k z)
   all-at [] k z h l = absurd (not-suc-le-zero l)
@@ -141,12 +141,12 @@ pub own-append : (a b : Group) → Own a → Own b → All (λ v. All (λ w. v .
 own-append [] b p q h = q
 own-append (w ∷ ws) b p q h = (all-append (λ v. w .sector ≢ v .sector) ws b (p .0) (h .0), own-append ws b (p .1) q (h .1))
 
-pub own-tab : (f : ℕ → Record) (a n : ℕ) → ((j k : ℕ) → j < n → k < n → f (a + j) .sector ≡ f (a + k) .sector → j ≡ k) → Own (tab f a n)
-unfolding tab
-own-tab f a zero h = tt
-own-tab f a (suc n) h =
-    own-append (tab f a n) (f (a + n) ∷ []) (own-tab f a n (λ j k u v e. h j k (omega arith) (omega arith) e)) (tt, tt)
-    (all-tab (λ v. All (λ w. v .sector ≢ w .sector) (f (a + n) ∷ [])) f a n (λ k l. ((λ e. let q : k ≡ n = h k n (omega arith) (omega arith) e in omega arith), tt)))
+pub own-tabulate : (f : ℕ → Record) (a n : ℕ) → ((j k : ℕ) → j < n → k < n → f (a + j) .sector ≡ f (a + k) .sector → j ≡ k) → Own (tabulate f a n)
+unfolding tabulate
+own-tabulate f a zero h = tt
+own-tabulate f a (suc n) h =
+    own-append (tabulate f a n) (f (a + n) ∷ []) (own-tabulate f a n (λ j k u v e. h j k (omega arith) (omega arith) e)) (tt, tt)
+    (all-tabulate (λ v. All (λ w. v .sector ≢ w .sector) (f (a + n) ∷ [])) f a n (λ k l. ((λ e. let q : k ≡ n = h k n (omega arith) (omega arith) e in omega arith), tt)))
 
 or-no : (a b c : Bool) → (a || b) ≡ false → (b ≡ false → c ≡ false) → (a || c) ≡ false
 or-no true b c e f = absurd (true≢false e)
@@ -177,22 +177,22 @@ kept-miss (b ∷ m) (w ∷ ws) j h = keep-head (eqb j (w .sector)) b w ws (kept 
 
 -- ---- consecutive sectors, written in order
 
-pub tab-next {ℓ} : {A : Type ℓ} (f : ℕ → A) (n : ℕ) → tab f 0 (suc n) ≡ tab f 0 n ++ (f n ∷ [])
-unfolding tab
-tab-next f n = rw zero-add
+pub tabulate-next {ℓ} : {A : Type ℓ} (f : ℕ → A) (n : ℕ) → tabulate f 0 (suc n) ≡ tabulate f 0 n ++ (f n ∷ [])
+unfolding tabulate
+tabulate-next f n = rw zero-add
 
 module _ (a : ℕ) (f : ℕ → List ℕ) where
   abbrev writes : ℕ → Group
-  writes n = tab (λ k. sectorWrite (a + k) (f k)) 0 n
+  writes n = tabulate (λ k. sectorWrite (a + k) (f k)) 0 n
 
-  pub tab-miss : (n j : ℕ) → (a ≤ j → j < a + n → ⊥) → hits (tab (λ k. sectorWrite (a + k) (f k)) 0 n) j ≡ false
-  tab-miss n j h = all-miss j _ (all-tab0 (λ w. j ≢ w .sector) (λ k. sectorWrite (a + k) (f k)) n (λ k l e. h (omega arith) (omega arith)))
+  pub tabulate-miss : (n j : ℕ) → (a ≤ j → j < a + n → ⊥) → hits (tabulate (λ k. sectorWrite (a + k) (f k)) 0 n) j ≡ false
+  tabulate-miss n j h = all-miss j _ (all-tab0 (λ w. j ≢ w .sector) (λ k. sectorWrite (a + k) (f k)) n (λ k l e. h (omega arith) (omega arith)))
 
-  pub tab-at : (n k : ℕ) (x : List ℕ) → k < n → over (tab (λ i. sectorWrite (a + i) (f i)) 0 n) (a + k) x ≡ f k
-  tab-at zero k x h = absurd (not-suc-le-zero h)
-  tab-at (suc n) k x h =
-      ap (λ (ws : Group). over ws (a + k) x) (tab-next (λ i. sectorWrite (a + i) (f i)) n)
-      ∙ over-append (writes n) (sectorWrite (a + n) (f n) ∷ []) (a + k) x ∙ go (decLt k n) (tab-at n k x)
+  pub tabulate-at : (n k : ℕ) (x : List ℕ) → k < n → over (tabulate (λ i. sectorWrite (a + i) (f i)) 0 n) (a + k) x ≡ f k
+  tabulate-at zero k x h = absurd (not-suc-le-zero h)
+  tabulate-at (suc n) k x h =
+      ap (λ (ws : Group). over ws (a + k) x) (tabulate-next (λ i. sectorWrite (a + i) (f i)) n)
+      ∙ over-append (writes n) (sectorWrite (a + n) (f n) ∷ []) (a + k) x ∙ go (decLt k n) (tabulate-at n k x)
     where
       go : Dec (k < n) → (k < n → over (writes n) (a + k) x ≡ f k) → over (sectorWrite (a + n) (f n) ∷ []) (a + k) (over (writes n) (a + k) x) ≡ f k
       go (yes l) t = over-skip (sectorWrite (a + n) (f n)) [] (a + k) _ (λ e. omega arith) ∙ over-none (a + k) _ ∙ t l
@@ -275,24 +275,24 @@ one-other r img j ne l = go (eqb (r .sector) barrierNumber)
 
 pub stored-last : (f : ℕ → Record) (n p : ℕ) (img : List ℕ) → p < n → f p .sector ≢ barrierNumber → 512 * f p .sector + 512 ≤ length img
     → ((q : ℕ) → length (f q .contents) ≡ 512) → ((q : ℕ) → p < q → q < n → f q .sector ≢ f p .sector)
-    → view (stored (tab f 0 n) img) (f p .sector) ≡ f p .contents
+    → view (stored (tabulate f 0 n) img) (f p .sector) ≡ f p .contents
 stored-last f zero p img h nb w l ne = absurd (not-suc-le-zero h)
 stored-last f (suc n) p img h nb w l ne =
-    ap (λ (ws : Group). view (stored ws img) (f p .sector)) (tab-next f n) ∙ ap (λ (x : List ℕ). view x (f p .sector)) (stored-append (tab f 0 n) (f n ∷ []) img)
+    ap (λ (ws : Group). view (stored ws img) (f p .sector)) (tabulate-next f n) ∙ ap (λ (x : List ℕ). view x (f p .sector)) (stored-append (tabulate f 0 n) (f n ∷ []) img)
     ∙ go (decLt p n) (λ k. stored-last f n p img k nb w l (λ q a b. ne q a (omega arith)))
   where
-    go : Dec (p < n) → (p < n → view (stored (tab f 0 n) img) (f p .sector) ≡ f p .contents)
-        → view (stored (f n ∷ []) (stored (tab f 0 n) img)) (f p .sector) ≡ f p .contents
-    go (yes k) t = one-other (f n) (stored (tab f 0 n) img) (f p .sector) (ne n k (omega arith)) (l n) ∙ t k
+    go : Dec (p < n) → (p < n → view (stored (tabulate f 0 n) img) (f p .sector) ≡ f p .contents)
+        → view (stored (f n ∷ []) (stored (tabulate f 0 n) img)) (f p .sector) ≡ f p .contents
+    go (yes k) t = one-other (f n) (stored (tabulate f 0 n) img) (f p .sector) (ne n k (omega arith)) (l n) ∙ t k
     go (no k) t =
         let e : p ≡ n = omega arith in
-        let i : length (stored (tab f 0 n) img) ≡ length img = length-stored (tab f 0 n) img in
+        let i : length (stored (tabulate f 0 n) img) ≡ length img = length-stored (tabulate f 0 n) img in
         one-last e (subst (λ (x : ℕ). f x .sector ≢ barrierNumber) e nb) (omega (arith, ap (λ x. f x .sector) e))
       where
-        one-last : p ≡ n → f n .sector ≢ barrierNumber → 512 * f n .sector + 512 ≤ length (stored (tab f 0 n) img)
-            → view (stored (f n ∷ []) (stored (tab f 0 n) img)) (f p .sector) ≡ f p .contents
+        one-last : p ≡ n → f n .sector ≢ barrierNumber → 512 * f n .sector + 512 ≤ length (stored (tabulate f 0 n) img)
+            → view (stored (f n ∷ []) (stored (tabulate f 0 n) img)) (f p .sector) ≡ f p .contents
         one-last q x y =
-            ap (λ (z : ℕ). view (stored (f n ∷ []) (stored (tab f 0 n) img)) (f z .sector)) q ∙ one-same (f n) (stored (tab f 0 n) img) x y (l n) ∙ ap (λ z. f z .contents) (sym q)
+            ap (λ (z : ℕ). view (stored (f n ∷ []) (stored (tabulate f 0 n) img)) (f z .sector)) q ∙ one-same (f n) (stored (tabulate f 0 n) img) x y (l n) ∙ ap (λ z. f z .contents) (sym q)
 
 -- ---- what landed
 

@@ -4,13 +4,13 @@ use mathlib.Core.Path.{_≡_, refl, sym, ap, _∙_, subst}
 use mathlib.Core.Logic.{_≢_}
 use mathlib.Core.Bool.{true, false, cond, _&&_, _||_, false≢true}
 use mathlib.Core.List.{List, [], _∷_}
-use mathlib.Core.Option.{Option, none, some as just, Option·some-injective}
+use mathlib.Core.Option.{Option, none, some, Option·some-injective}
 use native.Mathlib.Omega.{arith}
 use lib.Dec.{eqb}
 use lib.ListN.{length}
 use borrow.Author.Tests.{lt-ltb, not-false}
-use Rattle.model.specs.declared.Place.{Place}
-use Rattle.model.specs.Search.{tab, some, isAt, indexOf}
+use Rattle.model.specs.declared.Lowest.{Lowest}
+use Rattle.model.specs.Search.{tabulate, anyBelow, isAt, indexOf}
 use Rattle.model.specs.Geometry.{rootAt, entryAt, extentsFor}
 use Rattle.model.specs.Disk.{view}
 use Rattle.model.specs.Root.{rootIn, updatedRootSector}
@@ -25,7 +25,7 @@ use Rattle.model.specs.Ledger.{Ledger, File, entryOfFile, catalogue, create, ne
 use Rattle.model.specs.Run.{volumeAnswer, onVolume}
 use Rattle.laws.proofs.Disk.{length-view}
 use Rattle.safety.proofs.OwnWords.{named-is, slot-is, ids-is, name-is}
-use Rattle.safety.proofs.Searches.{place-found, place-none, or-left-no, or-right-no, some-none}
+use Rattle.safety.proofs.Searches.{place-found, place-none, or-left-no, or-right-no, anyBelow-none}
 use Rattle.safety.proofs.Apply.{over-here, over-skip, over-none}
 use Rattle.safety.proofs.Plan.{UsableGeometry, WellFormed, metadata-directory}
 use Rattle.safety.proofs.Commit.{Ready, uncut, ready-uncut}
@@ -40,12 +40,12 @@ use Rattle.safety.proofs.NewFile.{newFile, created, disjoint-created, t
 use Rattle.safety.proofs.Induction.{Effect}
 
 bytes-none : (c : Catalogue) (d : ℕ → List ℕ) (i : ℕ) → fileBytes c d i 0 0 ≡ []
-unfolding fileBytes tab
+unfolding fileBytes tabulate
 bytes-none c d i = refl
 
 empty-slot : (o : Option File) → isFree (entryOfFile o) ≡ true → o ≡ none
 empty-slot none e = refl
-empty-slot (just f) e = absurd (false≢true e)
+empty-slot (some f) e = absurd (false≢true e)
 
 module _ (L : Ledger) (img : List ℕ) (rep : Rep L img) (name : List ℕ) (id mode time room : ℕ) where
   abbrev c : Catalogue
@@ -63,11 +63,11 @@ module _ (L : Ledger) (img : List ℕ) (rep : Rep L img) (name : List ℕ) (id m
   abbrev p : Plan
   p = createPlan (catalogue L) (view img) name id mode time
 
-  size : listLength (groupsFor (view img) (just p)) ≡ createCount * recordSize
+  size : listLength (groupsFor (view img) (some p)) ≡ createCount * recordSize
   unfolding groupsFor createPlan
   size = length-groups _ (view img) p
 
-  decides : Decides L img (create name id mode time room) conditions (λ x. just (plan x)) room createCount
+  decides : Decides L img (create name id mode time room) conditions (λ x. some (plan x)) room createCount
   unfolding onVolume createDecision step createConditions catalogue
   decides = record { volume = refl; reply = refl; conditions = rw (name-is name, named-is L name, ids-is L id, slot-is L); refusing = refl; size = size }
 
@@ -88,15 +88,15 @@ module _ (L : Ledger) (img : List ℕ) (rep : Rep L img) (name : List ℕ) (id m
     new-name : (k : ℕ) → k < L .geometry .files → hasName name (catalogue L .entries k) ≡ false
     unfolding createConditions fileNamed catalogue
     new-name =
-        place-none (λ k. hasName name (c .entries k)) (L .geometry .files) (or-left-no _ (some (λ k. hasId id (c .entries k)) (L .geometry .files)) (or-left-no _ (eqb id (L .root .id)) (passed .1 .0)))
+        place-none (λ k. hasName name (c .entries k)) (L .geometry .files) (or-left-no _ (anyBelow (λ k. hasId id (c .entries k)) (L .geometry .files)) (or-left-no _ (eqb id (L .root .id)) (passed .1 .0)))
 
     new-id : (k : ℕ) → k < L .geometry .files → hasId id (catalogue L .entries k) ≡ false
     unfolding createConditions catalogue
-    new-id = some-none (λ k. hasId id (c .entries k)) (L .geometry .files) (or-right-no (isAt (fileNamed c name)) _ (or-left-no _ (eqb id (L .root .id)) (passed .1 .0)))
+    new-id = anyBelow-none (λ k. hasId id (c .entries k)) (L .geometry .files) (or-right-no (isAt (fileNamed c name)) _ (or-left-no _ (eqb id (L .root .id)) (passed .1 .0)))
 
     not-root : eqb id (L .root .id) ≡ false
     unfolding createConditions catalogue
-    not-root = or-right-no (isAt (fileNamed c name) || some (λ k. hasId id (c .entries k)) (L .geometry .files)) (eqb id (L .root .id)) (passed .1 .0)
+    not-root = or-right-no (isAt (fileNamed c name) || anyBelow (λ k. hasId id (c .entries k)) (L .geometry .files)) (eqb id (L .root .id)) (passed .1 .0)
 
     free : (i < L .geometry .files) × (isFree (catalogue L .entries i) ≡ true)
     unfolding createConditions freeEntry catalogue
@@ -160,11 +160,11 @@ module _ (L : Ledger) (img : List ℕ) (rep : Rep L img) (name : List ℕ) (id m
     ready : Ready (L .geometry) out
     ready = ready-uncut (L .geometry) img p geo fits (rep .ready)
 
-    entry-new : catalogueOf (view out) .entries i ≡ just (newEntry name id mode time)
+    entry-new : catalogueOf (view out) .entries i ≡ some (newEntry name id mode time)
     entry-new =
         entry-is (L .geometry) (view out) (view out) (ready .volume .geometry) (ready .volume .geometry) i
         ∙ ap (λ (s : List ℕ). slotIn (L .geometry) s i) at-entry
-        ∙ (λ j. cond (lt-ltb i (L .geometry .files) (free .0) j && new-occupied name id mode time j) (just (new-entry name id mode time good hi hm ht j)) none)
+        ∙ (λ j. cond (lt-ltb i (L .geometry .files) (free .0) j && new-occupied name id mode time j) (some (new-entry name id mode time good hi hm ht j)) none)
 
     table-same : (e : ℕ) → catalogueOf (view out) .table e ≡ catalogue (created L i name id mode time) .table e
     table-same e =
@@ -173,13 +173,13 @@ module _ (L : Ledger) (img : List ℕ) (rep : Rep L img) (name : List ℕ) (id m
         (λ q. at-other (tableSectorOf (L .geometry) e) (out-table (L .geometry) geo e q) (λ z. omega arith) (λ z. omega arith) (λ z. omega arith))
         ∙ rep .says .table e ∙ sym (table-created L i name id mode time empty e)
 
-    bytes-new : (x : File) → just (newFile L i name id mode time) ≡ just x → fileBytes (catalogueOf (view out)) (view out) i 0 (x .entry .size) ≡ x .bytes
+    bytes-new : (x : File) → some (newFile L i name id mode time) ≡ some x → fileBytes (catalogueOf (view out)) (view out) i 0 (x .entry .size) ≡ x .bytes
     unfolding newEntry
     bytes-new x e =
         subst (λ (y : File). fileBytes (catalogueOf (view out)) (view out) i 0 (y .entry .size) ≡ y .bytes) (Option·some-injective _ _ e)
         (bytes-none (catalogueOf (view out)) (view out) i)
 
-    sized-new : (x : File) → just (newFile L i name id mode time) ≡ just x → length (x .extents) ≡ extentsFor (L .geometry) (x .entry .size)
+    sized-new : (x : File) → some (newFile L i name id mode time) ≡ some x → length (x .extents) ≡ extentsFor (L .geometry) (x .entry .size)
     unfolding newEntry
     sized-new x e =
         subst (λ (y : File). length (y .extents) ≡ extentsFor (L .geometry) (y .entry .size)) (Option·some-injective _ _ e) (sym (no-extent (L .geometry) (rep .bounded)))
@@ -188,7 +188,7 @@ module _ (L : Ledger) (img : List ℕ) (rep : Rep L img) (name : List ℕ) (id m
     unfolding fault21
     mark-new = occupied-mark (view out (entryAt i)) (ap isOccupied at-entry ∙ new-occupied name id mode time)
 
-    rewrites : Rewrites L img (updatedRoot time (L .root)) i (just (newFile L i name id mode time)) out
+    rewrites : Rewrites L img (updatedRoot time (L .root)) i (some (newFile L i name id mode time)) out
     rewrites =
         let l : i < L .geometry .files = free .0 in
         record {
@@ -210,8 +210,8 @@ module _ (L : Ledger) (img : List ℕ) (rep : Rep L img) (name : List ℕ) (id m
     unfolding step createPlan
     carries = record {
       fits = fits;
-      done = subst (λ (x : Place). Rep (created L (indexOf x) name id mode time) out) (sym (slot-is L))
-          (rep-replaced L img rep (updatedRoot time (L .root)) i (just (newFile L i name id mode time)) out rewrites);
+      done = subst (λ (x : Lowest). Rep (created L (indexOf x) name id mode time) out) (sym (slot-is L))
+          (rep-replaced L img rep (updatedRoot time (L .root)) i (some (newFile L i name id mode time)) out rewrites);
       partly = λ k m. part-keeps L img p rep fits refl k m;
     }
 

@@ -4,20 +4,20 @@ use mathlib.Core.Path.{_≡_, refl, sym, ap, _∙_, subst}
 use mathlib.Core.Logic.{_≢_}
 use mathlib.Core.Bool.{Bool, true, false, cond, not, _&&_, _||_}
 use mathlib.Core.List.{List, _∷_}
-use mathlib.Core.Option.{Option, none, some as just, Option·none-ne-some}
+use mathlib.Core.Option.{Option, none, some, Option·none-ne-some}
 use native.Mathlib.Omega.{arith}
 use lib.Dec.{eqb, leb, ltb, leb·zero}
 use lib.ListN.{length}
 use borrow.Author.Tests.{not-false}
-use Rattle.model.specs.declared.Place.{Place}
+use Rattle.model.specs.declared.Lowest.{Lowest}
 use Rattle.model.specs.Bytes.{beAt, zeroSector}
 use Rattle.model.specs.Search.{isAt, indexOf}
 use Rattle.model.specs.Geometry.{rootAt, entryAt, tableAt, dataAt, tableSectors}
 use Rattle.model.specs.Disk.{view}
 use Rattle.model.specs.Root.{rootIn, updatedRootSector}
 use Rattle.model.specs.Entry.{entryIn, isOccupied}
-use Rattle.model.specs.Catalogue.{Catalogue, Owner, catalogueOf, fileNamed, hasName, isBeyond, sectorsBeyond}
-use Rattle.model.specs.Faults.{among, fault21}
+use Rattle.model.specs.Catalogue.{Catalogue, Owner, catalogueOf, fileNamed, hasName, ownedFrom, sectorsFrom}
+use Rattle.model.specs.Faults.{holdsOf, fault21}
 use Rattle.model.specs.Refusals.{Conditions}
 use Rattle.model.specs.WriteList.{Plan, Record, Group, sectorWrite, groupsFor, listLength, recordSize, recordCount}
 use Rattle.model.specs.Find.{nameConditions}
@@ -43,12 +43,12 @@ use Rattle.safety.proofs.FreedTable.{freed, length-freed, freed-few, fr
 use Rattle.safety.proofs.Induction.{Effect}
 
 -- a table entry that is not beyond 0 is not the file's
-not-owned : (i : ℕ) (o : Option Owner) (s : Owner → Bool) → among (cond (isBeyond i 0 o) none o) (λ w. eqb (w .file) i && s w) ≡ false
+not-owned : (i : ℕ) (o : Option Owner) (s : Owner → Bool) → holdsOf (cond (ownedFrom i 0 o) none o) (λ w. eqb (w .file) i && s w) ≡ false
 not-owned i none s = refl
-not-owned i (just w) s = go (eqb (w .file) i) refl
+not-owned i (some w) s = go (eqb (w .file) i) refl
   where
-    go : (b : Bool) → eqb (w .file) i ≡ b → among (cond (b && leb 0 (w .offset)) none (just w)) (λ v. eqb (v .file) i && s v) ≡ false
-    go true e = ap (λ (b : Bool). among (cond b none (just w)) (λ v. eqb (v .file) i && s v)) (leb·zero (w .offset))
+    go : (b : Bool) → eqb (w .file) i ≡ b → holdsOf (cond (b && leb 0 (w .offset)) none (some w)) (λ v. eqb (v .file) i && s v) ≡ false
+    go true e = ap (λ (b : Bool). holdsOf (cond b none (some w)) (λ v. eqb (v .file) i && s v)) (leb·zero (w .offset))
     go false e = ap (λ (b : Bool). b && s w) e
 
 module _ (L : Ledger) (img : List ℕ) (rep : Rep L img) (name : List ℕ) (time room : ℕ) where
@@ -79,16 +79,16 @@ module _ (L : Ledger) (img : List ℕ) (rep : Rep L img) (name : List ℕ) (time
   abbrev records : ℕ
   records = freedRecords L name 0 2
 
-  size : listLength (groupsFor (view img) (just p)) ≡ freedRecords L name 0 2 * recordSize
+  size : listLength (groupsFor (view img) (some p)) ≡ freedRecords L name 0 2 * recordSize
   unfolding groupsFor deletePlan freedRecords
   size =
       rw (named-is L name)
       (length-groups _ (view img) p
       ∙ ap (λ n. recordCount 0 n * recordSize)
-      (let e : length table-writes ≡ sectorsBeyond (catalogue L) i 0 = length-freed L img i 0 in
-      let q : suc (suc (length table-writes)) ≡ 2 + sectorsBeyond (catalogue L) i 0 = omega arith in q))
+      (let e : length table-writes ≡ sectorsFrom (catalogue L) i 0 = length-freed L img i 0 in
+      let q : suc (suc (length table-writes)) ≡ 2 + sectorsFrom (catalogue L) i 0 = omega arith in q))
 
-  decides : Decides L img (delete name time room) conditions (λ x. just (plan x)) room records
+  decides : Decides L img (delete name time room) conditions (λ x. some (plan x)) room records
   unfolding onVolume deleteDecision step nameConditions
   decides = record { volume = refl; reply = refl; conditions = rw (name-is name, named-is L name); refusing = refl; size = size }
 
@@ -160,8 +160,8 @@ module _ (L : Ledger) (img : List ℕ) (rep : Rep L img) (name : List ℕ) (time
         entry-is (L .geometry) (view out) (view out) (ready .volume .geometry) (ready .volume .geometry) i ∙ ap (λ (s : List ℕ). slotIn (L .geometry) s i) at-entry
         ∙ go (ltb i (L .geometry .files))
       where
-        go : (x : Bool) → cond (x && isOccupied zeroSector) (just (entryIn zeroSector)) none ≡ none
-        go true = ap (λ (b : Bool). cond b (just (entryIn zeroSector)) none) zero-free
+        go : (x : Bool) → cond (x && isOccupied zeroSector) (some (entryIn zeroSector)) none ≡ none
+        go true = ap (λ (b : Bool). cond b (some (entryIn zeroSector)) none) zero-free
         go false = refl
 
     mark-free : fault21 (view out) i ≡ false
@@ -178,7 +178,7 @@ module _ (L : Ledger) (img : List ℕ) (rep : Rep L img) (name : List ℕ) (time
       names = λ k l ne. refl;
       ids = λ k l ne. refl;
       others = others-freed L (updatedRoot time (L .root)) i 0 none refl (rep .disjoint);
-      owned = λ e l. ap (λ (o : Option Owner). among o (λ w. eqb (w .file) i && true)) (table-freed L (updatedRoot time (L .root)) i 0 none refl (rep .disjoint) e)
+      owned = λ e l. ap (λ (o : Option Owner). holdsOf o (λ w. eqb (w .file) i && true)) (table-freed L (updatedRoot time (L .root)) i 0 none refl (rep .disjoint) e)
           ∙ not-owned i (c .table e) (λ w. true);
       exactly = refl;
     }
@@ -206,7 +206,7 @@ module _ (L : Ledger) (img : List ℕ) (rep : Rep L img) (name : List ℕ) (time
     unfolding step deletePlan
     carries = record {
       fits = fits;
-      done = subst (λ (x : Place). Rep (withRootUpdated L time (indexOf x) none) out) (sym (named-is L name)) (rep-replaced L img rep (updatedRoot time (L .root)) i none out rewrites);
+      done = subst (λ (x : Lowest). Rep (withRootUpdated L time (indexOf x) none) out) (sym (named-is L name)) (rep-replaced L img rep (updatedRoot time (L .root)) i none out rewrites);
       partly = λ k m. part-keeps L img p rep fits refl k m;
     }
 

@@ -10,14 +10,14 @@ use lib.ListN.{length, getD, replicate, getD-replicate}
 use borrow.Author.Tests.{lt-ltb}
 use Rattle.model.specs.declared.Geometry.{Geometry}
 use Rattle.model.specs.Geometry.{extentSectors}
-use Rattle.model.specs.Bytes.{beAt, beBytes, run, put, stamped, raised, zeroSector, onesSector}
-use Rattle.model.specs.Search.{every, same}
+use Rattle.model.specs.Bytes.{beAt, beBytes, bytesFrom, put, withStores, raised, zeroSector, onesSector}
+use Rattle.model.specs.Search.{allBelow, equalBytes}
 use Rattle.model.specs.Superblock.{magic, newSuperblock, geometryIn, journalLength, isVolume}
 use Rattle.model.specs.Root.{rootIn, updatedRootSector, newRootSector}
 use Rattle.model.specs.Entry.{nameIn, entryIn, isOccupied, badName, newEntrySector, occupiedMark, updatedEntrySector}
 use Rattle.model.specs.Ledger.{newEntry, updatedEntry, updatedRoot, newRoot}
 use Rattle.laws.proofs.Booleans.{or-right}
-use Rattle.laws.proofs.Bytes.{length-put, length-zeroSector, number-same, number-other, bytes-other, number-apart, run-put-same, zeros-at}
+use Rattle.laws.proofs.Bytes.{length-put, length-zeroSector, number-same, number-other, bytes-other, number-apart, bytesFrom-put-same, zeros-at}
 use Rattle.laws.proofs.Named.{short-name}
 
 -- a number put into a whole sector
@@ -90,14 +90,14 @@ module _ (g : Geometry) (n : ℕ) (f : g .files < 65536) (e : g .extents < 65536
   newSuperblock-length = let a : ltb n (256 ^ 2) ≡ true = lt-ltb n (256 ^ 2) h in simp (fields, a)
 
   pub newSuperblock-volume : isVolume (newSuperblock g n) ≡ true
-  unfolding isVolume newSuperblock same every
+  unfolding isVolume newSuperblock equalBytes allBelow
   newSuperblock-volume =
-      let x : List ℕ = stamped zeroSector ((0, beBytes 2 (g .files)) ∷ (2, beBytes 2 (g .extents)) ∷ (4, beBytes 4 (extentSectors g)) ∷ []) in
+      let x : List ℕ = withStores zeroSector ((0, beBytes 2 (g .files)) ∷ (2, beBytes 2 (g .extents)) ∷ (4, beBytes 4 (extentSectors g)) ∷ []) in
       let l : length x ≡ 512 = simp (length-put, length-zeroSector) in
-      let r : run (newSuperblock g n) 8 8 ≡ magic =
-      bytes-other (put (put x 8 magic) 16 (beBytes 2 1)) 18 2 n 8 8 refl ∙ bytes-other (put x 8 magic) 16 2 1 8 8 refl ∙ run-put-same x 8 magic 8 refl (omega arith) in
+      let r : bytesFrom (newSuperblock g n) 8 8 ≡ magic =
+      bytes-other (put (put x 8 magic) 16 (beBytes 2 1)) 18 2 n 8 8 refl ∙ bytes-other (put x 8 magic) 16 2 1 8 8 refl ∙ bytesFrom-put-same x 8 magic 8 refl (omega arith) in
       let v : beAt (newSuperblock g n) 16 2 ≡ 1 = simp fields in
-      ap₂ (λ a b. same a magic && eqb b 1) r v
+      ap₂ (λ a b. equalBytes a magic && eqb b 1) r v
 
 -- ---- a new entry
 
@@ -116,11 +116,11 @@ module _ (name : List ℕ) (id mode time : ℕ) where
     new-name =
         let short : length name ≤ 476 = short-name name good in
         let t : ltb (length name) (256 ^ 2) ≡ true = lt-ltb (length name) (256 ^ 2) (omega arith) in
-        let x : List ℕ = stamped zeroSector
+        let x : List ℕ = withStores zeroSector
         ((0, beBytes 2 occupiedMark) ∷ (14, beBytes 8 id) ∷ (22, beBytes 4 mode) ∷ (26, beBytes 4 time) ∷ (30, beBytes 4 time) ∷ (34, beBytes 2 (length name)) ∷ []) in
         let l : length x ≡ 512 = simp (length-put, length-zeroSector) in
         let n : beAt (put x 36 name) 34 2 ≡ length name = simp (fields, t) in
-        ap (λ k. run (put x 36 name) 36 k) n ∙ run-put-same x 36 name (length name) refl (omega arith)
+        ap (λ k. bytesFrom (put x 36 name) 36 k) n ∙ bytesFrom-put-same x 36 name (length name) refl (omega arith)
 
     pub new-entry : entryIn (newEntrySector name id mode time) ≡ newEntry name id mode time
     unfolding entryIn newEntry newEntrySector
@@ -156,7 +156,7 @@ module _ (size time : ℕ) (s : List ℕ) where
         let a = put s 2 (beBytes 8 size) in
         let b = put a 10 (beBytes 4 v) in
         let n : beAt (put b 30 (beBytes 4 time)) 34 2 ≡ beAt s 34 2 = simp fields in
-        ap (λ k. run (put b 30 (beBytes 4 time)) 36 k) n
+        ap (λ k. bytesFrom (put b 30 (beBytes 4 time)) 36 k) n
         ∙ bytes-other b 30 4 time 36 (beAt s 34 2) (or-right (leb (36 + beAt s 34 2) 30) _ refl) ∙ bytes-other a 10 4 v 36 (beAt s 34 2) (or-right (leb (36 + beAt s 34 2) 10) _ refl)
         ∙ bytes-other s 2 8 size 36 (beAt s 34 2) (or-right (leb (36 + beAt s 34 2) 2) _ refl)
 

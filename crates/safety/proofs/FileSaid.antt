@@ -5,27 +5,27 @@ use mathlib.Core.Path.{_≡_, refl, sym, ap, _∙_}
 use mathlib.Core.Logic.{_≢_}
 use mathlib.Core.Bool.{Bool, true, false, cond, _&&_, true≢false, false≢true}
 use mathlib.Core.List.{List, []}
-use mathlib.Core.Option.{Option, none, some as just}
+use mathlib.Core.Option.{Option, none, some}
 use native.Mathlib.Omega.{arith}
 use lib.Dec.{eqb, leb, ltb}
 use lib.ListN.{length, getD, List·getD-eq-default}
 use lib.Seq.{ext-getD}
 use borrow.Author.Tests.{leb-true, ltb-true, ltb-false, eqb-true, eqb-false, eq-eqb, ne-eqb}
-use Rattle.model.specs.declared.Place.{Place}
-use Rattle.model.specs.declared.Place.the-variants.{At, Nowhere}
-use Rattle.model.specs.Bytes.{run, put}
-use Rattle.model.specs.Search.{some, indexOf, same}
+use Rattle.model.specs.declared.Lowest.{Lowest}
+use Rattle.model.specs.declared.Lowest.the-variants.{At, Nowhere}
+use Rattle.model.specs.Bytes.{bytesFrom, put}
+use Rattle.model.specs.Search.{anyBelow, indexOf, equalBytes}
 use Rattle.model.specs.Disk.{view}
 use Rattle.model.specs.Entry.{Entry}
 use Rattle.model.specs.Catalogue.{Catalogue, catalogueOf, hasName, fileNamed, entryOf, entryOr, fileByte, fileBytes}
-use Rattle.model.specs.Faults.{among}
+use Rattle.model.specs.Faults.{holdsOf}
 use Rattle.model.specs.Resize.{zeros}
 use Rattle.model.specs.Ledger.{Ledger, File, fileOr, entryOfFile, catalogue, create, delete, resize, write, withFile, withRootUpdated, shrunk, newEntry, updatedEntry, holdsName, slotNamed}
 use Rattle.model.specs.Ledger.{freeSlot, fileOf, written, afterWrite, step}
 use Rattle.model.specs.Demand3.{Says}
 use Rattle.laws.proofs.Booleans.{and-left}
-use Rattle.laws.proofs.Bytes.{length-run, getD-run, run-all, length-put, getD-put}
-use Rattle.laws.proofs.Search.{length-tab, Hit, first-none}
+use Rattle.laws.proofs.Bytes.{length-bytesFrom, getD-bytesFrom, bytesFrom-all, length-put, getD-put}
+use Rattle.laws.proofs.Search.{length-tabulate, Hit, first-none}
 use Rattle.safety.specs.Naming.{Contents, contentsAt, fileOn, contentsIn, fileIn}
 use Rattle.safety.proofs.OwnWords.{name-if, named-is, zeros-are}
 use Rattle.safety.proofs.Searches.{place-none}
@@ -40,38 +40,38 @@ use Rattle.safety.proofs.Naming.{same-refl, same-true, named-hit, named
 abbrev pub writtenInto : File → ℕ → List ℕ → ℕ → Contents
 writtenInto f offset bytes time =
     let size = max (f .entry .size) (offset + length bytes) in
-    record { entry = updatedEntry size time (f .entry); bytes = put (run (f .bytes) 0 size) offset bytes }
+    record { entry = updatedEntry size time (f .entry); bytes = put (bytesFrom (f .bytes) 0 size) offset bytes }
 
 module _ (L : Ledger) (m : List ℕ) where
   -- a slot that alone has the name
-  said-at : (M : Ledger) (i : ℕ) (f : File) → M .slots i ≡ just f → slotNamed M m ≡ At i → fileIn M m ≡ just (record { entry = f .entry; bytes = f .bytes })
+  said-at : (M : Ledger) (i : ℕ) (f : File) → M .slots i ≡ some f → slotNamed M m ≡ At i → fileIn M m ≡ some (record { entry = f .entry; bytes = f .bytes })
   unfolding fileIn
-  said-at M i f e q = ap (contentsIn M) q ∙ ap (λ (o : Option File). just (record { entry = fileOr o .entry; bytes = fileOr o .bytes })) e
+  said-at M i f e q = ap (contentsIn M) q ∙ ap (λ (o : Option File). some (record { entry = fileOr o .entry; bytes = fileOr o .bytes })) e
 
   slot-here : (i : ℕ) (f : Option File) → cond (eqb i i) f (L .slots i) ≡ f
   slot-here i f = ap (λ (b : Bool). cond b f (L .slots i)) (eq-eqb i i refl)
 
-  pub renewed-said : Found L m → (f : File) → f .entry .name ≡ fileOf L m .entry .name → fileIn (withFile L (slotOf L m) f) m ≡ just (record { entry = f .entry; bytes = f .bytes })
+  pub renewed-said : Found L m → (f : File) → f .entry .name ≡ fileOf L m .entry .name → fileIn (withFile L (slotOf L m) f) m ≡ some (record { entry = f .entry; bytes = f .bytes })
   unfolding fileOf
   renewed-said h f e =
       let i = slotOf L m in
-      said-at (withFile L i f) i f (slot-here i (just f))
-      (named-by L (L .root) i (just f) m (ap (λ (x : List ℕ). same x m) e ∙ by-file (L .slots i) (h .has)) ∙ h .at)
+      said-at (withFile L i f) i f (slot-here i (some f))
+      (named-by L (L .root) i (some f) m (ap (λ (x : List ℕ). equalBytes x m) e ∙ by-file (L .slots i) (h .has)) ∙ h .at)
     where
-      by-file : (o : Option File) → holdsName m o ≡ true → same (fileOr o .entry .name) m ≡ holdsName m o
+      by-file : (o : Option File) → holdsName m o ≡ true → equalBytes (fileOr o .entry .name) m ≡ holdsName m o
       by-file none q = absurd (false≢true q)
-      by-file (just x) q = refl
+      by-file (some x) q = refl
 
-  pub found-said : Found L m → fileIn L m ≡ just (record { entry = fileOf L m .entry; bytes = fileOf L m .bytes })
+  pub found-said : Found L m → fileIn L m ≡ some (record { entry = fileOf L m .entry; bytes = fileOf L m .bytes })
   unfolding fileOf
   found-said h = said-at L (slotOf L m) (fileOr (L .slots (slotOf L m))) (filled (L .slots (slotOf L m)) m (h .has)) (h .at)
 
-  pub created-said : Fresh L m → (id mode time room : ℕ) → fileIn (step (create m id mode time room) L .done) m ≡ just (record { entry = newEntry m id mode time; bytes = [] })
+  pub created-said : Fresh L m → (id mode time room : ℕ) → fileIn (step (create m id mode time room) L .done) m ≡ some (record { entry = newEntry m id mode time; bytes = [] })
   unfolding step slotNamed newEntry
   created-said h id mode time room =
-      said-at (withRootUpdated L time i (just f)) i f (slot-here i (just f))
-      (first-only (λ k. holdsName m (cond (eqb k i) (just f) (L .slots k))) (L .geometry .files) i (h .within)
-      (ap (λ (o : Option File). holdsName m o) (slot-here i (just f)) ∙ same-refl m) (λ k l. go k l (eqb k i) refl))
+      said-at (withRootUpdated L time i (some f)) i f (slot-here i (some f))
+      (first-only (λ k. holdsName m (cond (eqb k i) (some f) (L .slots k))) (L .geometry .files) i (h .within)
+      (ap (λ (o : Option File). holdsName m o) (slot-here i (some f)) ∙ same-refl m) (λ k l. go k l (eqb k i) refl))
     where
       i : ℕ
       i = indexOf (freeSlot L)
@@ -79,7 +79,7 @@ module _ (L : Ledger) (m : List ℕ) where
       f : File
       f = record { entry = newEntry m id mode time; bytes = []; extents = [] }
 
-      go : (k : ℕ) → k < L .geometry .files → (b : Bool) → eqb k i ≡ b → holdsName m (cond b (just f) (L .slots k)) ≡ true → k ≡ i
+      go : (k : ℕ) → k < L .geometry .files → (b : Bool) → eqb k i ≡ b → holdsName m (cond b (some f) (L .slots k)) ≡ true → k ≡ i
       go k l true e q = eqb-true k i e
       go k l false e q = absurd (true≢false (sym q ∙ place-none (λ x. holdsName m (L .slots x)) (L .geometry .files) (h .unused) k l))
 
@@ -93,42 +93,42 @@ module _ (L : Ledger) (m : List ℕ) where
       i : ℕ
       i = slotOf L m
 
-      apart : (o : Option File) (k : ℕ) → holdsName m o ≡ true → among (entryOfFile o) (λ e. hasName (e .name) (entryOfFile (L .slots k))) ≡ false → holdsName m (L .slots k) ≡ false
+      apart : (o : Option File) (k : ℕ) → holdsName m o ≡ true → holdsOf (entryOfFile o) (λ e. hasName (e .name) (entryOfFile (L .slots k))) ≡ false → holdsName m (L .slots k) ≡ false
       apart none k q r = absurd (false≢true q)
-      apart (just f) k q r = name-if m (L .slots k) ∙ ap (λ (x : List ℕ). hasName x (entryOfFile (L .slots k))) (sym (same-true (f .entry .name) m q)) ∙ r
+      apart (some f) k q r = name-if m (L .slots k) ∙ ap (λ (x : List ℕ). hasName x (entryOfFile (L .slots k))) (sym (same-true (f .entry .name) m q)) ∙ r
 
       go : (k : ℕ) → k < L .geometry .files → (b : Bool) → eqb k i ≡ b → holdsName m (cond b none (L .slots k)) ≡ false
       go k l true q = refl
       go k l false q = apart (L .slots i) k (h .has) (names-apart (catalogue L) nf i k (h .within) l (eqb-false k i q))
 
   written-file : Found L m → (offset : ℕ) (bytes : List ℕ) (time : ℕ)
-      → fileIn (withFile L (slotOf L m) (written L (slotOf L m) offset bytes time)) m ≡ just (writtenInto (fileOf L m) offset bytes time)
+      → fileIn (withFile L (slotOf L m) (written L (slotOf L m) offset bytes time)) m ≡ some (writtenInto (fileOf L m) offset bytes time)
   unfolding written fileOf updatedEntry
   written-file h offset bytes time = renewed-said h (written L (slotOf L m) offset bytes time) refl
 
   pub written-said : Found L m → (offset : ℕ) (bytes : List ℕ) (time room : ℕ) → 0 < length bytes
-      → fileIn (step (write m offset bytes time room) L .done) m ≡ just (writtenInto (fileOf L m) offset bytes time)
+      → fileIn (step (write m offset bytes time room) L .done) m ≡ some (writtenInto (fileOf L m) offset bytes time)
   unfolding step afterWrite
-  written-said h offset bytes time room some =
+  written-said h offset bytes time room anyBelow =
       ap (λ (b : Bool). fileIn (cond b L (withFile L (slotOf L m) (written L (slotOf L m) offset bytes time))) m) (ne-eqb (length bytes) 0 (λ e. omega arith))
       ∙ written-file h offset bytes time
 
 -- zeros written at the end of a file's bytes are what lies past them
-zeros-at-end : (b : List ℕ) (o s : ℕ) → length b ≡ o → o ≤ s → put (run b 0 s) o (zeros (s - o)) ≡ run b 0 s
+zeros-at-end : (b : List ℕ) (o s : ℕ) → length b ≡ o → o ≤ s → put (bytesFrom b 0 s) o (zeros (s - o)) ≡ bytesFrom b 0 s
 zeros-at-end b o s e h =
-    ext-getD 0 (put (run b 0 s) o (zeros (s - o))) (run b 0 s) (length-put (run b 0 s) o (zeros (s - o)))
-    (λ k l. let q : k < length (run b 0 s) = rw (length-put (run b 0 s) o (zeros (s - o))) at l in
-    getD-put (run b 0 s) o (zeros (s - o)) k q ∙ go k q (leb o k && ltb k (o + length (zeros (s - o)))) refl)
+    ext-getD 0 (put (bytesFrom b 0 s) o (zeros (s - o))) (bytesFrom b 0 s) (length-put (bytesFrom b 0 s) o (zeros (s - o)))
+    (λ k l. let q : k < length (bytesFrom b 0 s) = rw (length-put (bytesFrom b 0 s) o (zeros (s - o))) at l in
+    getD-put (bytesFrom b 0 s) o (zeros (s - o)) k q ∙ go k q (leb o k && ltb k (o + length (zeros (s - o)))) refl)
   where
-    go : (k : ℕ) → k < length (run b 0 s) → (t : Bool) → (leb o k && ltb k (o + length (zeros (s - o)))) ≡ t
-        → cond t (getD (zeros (s - o)) (k - o) 0) (getD (run b 0 s) k 0) ≡ getD (run b 0 s) k 0
+    go : (k : ℕ) → k < length (bytesFrom b 0 s) → (t : Bool) → (leb o k && ltb k (o + length (zeros (s - o)))) ≡ t
+        → cond t (getD (zeros (s - o)) (k - o) 0) (getD (bytesFrom b 0 s) k 0) ≡ getD (bytesFrom b 0 s) k 0
     go k l false q = refl
     go k l true q =
-        let n = length-run b 0 s in
-        let z = length-run [] 0 (s - o) in
+        let n = length-bytesFrom b 0 s in
+        let z = length-bytesFrom [] 0 (s - o) in
         let a : o ≤ k = leb-true o k (and-left _ _ q) in
         let u : k < s = omega arith in
-        getD-run [] 0 (s - o) (k - o) (omega arith) ∙ sym (getD-run b 0 s k u ∙ List·getD-eq-default b 0 (omega arith))
+        getD-bytesFrom [] 0 (s - o) (k - o) (omega arith) ∙ sym (getD-bytesFrom b 0 s k u ∙ List·getD-eq-default b 0 (omega arith))
 
 module _ (L : Ledger) (m : List ℕ) (h : Found L m) (sized : length (fileOf L m .bytes) ≡ fileOf L m .entry .size) (size time room : ℕ) where
   abbrev old : File
@@ -142,7 +142,7 @@ module _ (L : Ledger) (m : List ℕ) (h : Found L m) (sized : length (fileOf L m
   resizedEntry b = cond b (fileOf L m .entry) (updatedEntry size time (fileOf L m .entry))
 
   abbrev resized : Bool → Option Contents
-  resized b = just (record { entry = resizedEntry b; bytes = run (fileOf L m .bytes) 0 size })
+  resized b = some (record { entry = resizedEntry b; bytes = bytesFrom (fileOf L m .bytes) 0 size })
 
   shrunk-said : size < old .entry .size → fileIn (withFile L i (shrunk L i size time)) m ≡ resized (eqb size (old .entry .size))
   unfolding shrunk fileOf updatedEntry
@@ -152,28 +152,28 @@ module _ (L : Ledger) (m : List ℕ) (h : Found L m) (sized : length (fileOf L m
   abbrev end : List ℕ
   end = zeros (size - fileOf L m .entry .size)
 
-  grown-file : old .entry .size ≤ size → writtenInto old (old .entry .size) end time ≡ record { entry = updatedEntry size time (old .entry); bytes = run (old .bytes) 0 size }
+  grown-file : old .entry .size ≤ size → writtenInto old (old .entry .size) end time ≡ record { entry = updatedEntry size time (old .entry); bytes = bytesFrom (old .bytes) 0 size }
   grown-file l =
-      let z = length-run [] 0 (size - old .entry .size) in
+      let z = length-bytesFrom [] 0 (size - old .entry .size) in
       let q : max (old .entry .size) (old .entry .size + length end) ≡ size = omega arith in
-      (λ k. record { entry = updatedEntry (q k) time (old .entry); bytes = put (run (old .bytes) 0 (q k)) (old .entry .size) end })
+      (λ k. record { entry = updatedEntry (q k) time (old .entry); bytes = put (bytesFrom (old .bytes) 0 (q k)) (old .entry .size) end })
       ∙ ap (λ (x : List ℕ). record { entry = updatedEntry size time (old .entry); bytes = x }) (zeros-at-end (old .bytes) (old .entry .size) size sized l)
 
   grown-said : old .entry .size ≤ size → (b : Bool) → eqb (length end) 0 ≡ b
       → fileIn (cond b L (withFile L i (written L i (old .entry .size) end time))) m ≡ resized (eqb size (old .entry .size))
   grown-said l true e =
-      let z = length-run [] 0 (size - old .entry .size) in
+      let z = length-bytesFrom [] 0 (size - old .entry .size) in
       let n : length end ≡ 0 = eqb-true _ 0 e in
       let q : size ≡ old .entry .size = omega arith in
-      found-said L m h ∙ ap (λ (x : List ℕ). just (record { entry = old .entry; bytes = x })) (sym (run-all (old .bytes) size (sized ∙ sym q)))
+      found-said L m h ∙ ap (λ (x : List ℕ). some (record { entry = old .entry; bytes = x })) (sym (bytesFrom-all (old .bytes) size (sized ∙ sym q)))
       ∙ ap resized (sym (eq-eqb size (old .entry .size) q))
   grown-said l false e =
-      let z = length-run [] 0 (size - old .entry .size) in
+      let z = length-bytesFrom [] 0 (size - old .entry .size) in
       let ne : length end ≢ 0 = eqb-false _ 0 e in
-      written-file L m h (old .entry .size) end time ∙ ap just (grown-file l) ∙ ap resized (sym (ne-eqb size (old .entry .size) (λ x. omega arith)))
+      written-file L m h (old .entry .size) end time ∙ ap some (grown-file l) ∙ ap resized (sym (ne-eqb size (old .entry .size) (λ x. omega arith)))
 
   pub resized-said : fileIn (step (resize m size time room) L .done) m
-      ≡ just (record { entry = cond (eqb size (fileOf L m .entry .size)) (fileOf L m .entry) (updatedEntry size time (fileOf L m .entry)); bytes = run (fileOf L m .bytes) 0 size })
+      ≡ some (record { entry = cond (eqb size (fileOf L m .entry .size)) (fileOf L m .entry) (updatedEntry size time (fileOf L m .entry)); bytes = bytesFrom (fileOf L m .bytes) 0 size })
   unfolding step afterWrite
   resized-said = rw (zeros-are (size - fileOf L m .entry .size)) (go (ltb size (old .entry .size)) refl)
     where
@@ -184,10 +184,10 @@ module _ (L : Ledger) (m : List ℕ) (h : Found L m) (sized : length (fileOf L m
 
 -- ---- AN IMAGE SAYS OF A FILE WHAT THE LEDGER SAYS
 
-entry-or : (o : Option Entry) (e : Entry) → o ≡ just e → entryOr o ≡ e
+entry-or : (o : Option Entry) (e : Entry) → o ≡ some e → entryOr o ≡ e
 entry-or o e q = ap entryOr q
 
-entry-of : (L : Ledger) (img : List ℕ) → Says L img → (k : ℕ) (f : File) → L .slots k ≡ just f → entryOf (catalogueOf (view img)) k ≡ f .entry
+entry-of : (L : Ledger) (img : List ℕ) → Says L img → (k : ℕ) (f : File) → L .slots k ≡ some f → entryOf (catalogueOf (view img)) k ≡ f .entry
 unfolding entryOf catalogue
 entry-of L img s k f e = entry-or (catalogueOf (view img) .entries k) (f .entry) (s .directory k ∙ ap entryOfFile e)
 
@@ -196,13 +196,13 @@ unfolding fileOn fileIn
 said L img s n =
     ap (λ (c : Catalogue). contentsAt (view img) (fileNamed c n)) (catalogue-is L img s) ∙ ap (contentsAt (view img)) (sym (named-is L n)) ∙ go (slotNamed L n) (named-hit L n)
   where
-    at-slot : (k : ℕ) (f : File) → L .slots k ≡ just f → contentsAt (view img) (At k) ≡ just (record { entry = f .entry; bytes = f .bytes })
+    at-slot : (k : ℕ) (f : File) → L .slots k ≡ some f → contentsAt (view img) (At k) ≡ some (record { entry = f .entry; bytes = f .bytes })
     at-slot k f e =
         let q : entryOf (catalogueOf (view img)) k ≡ f .entry = entry-of L img s k f e in
-        ap (λ (x : Entry). just (record { entry = x; bytes = fileBytes (catalogueOf (view img)) (view img) k 0 (x .size) })) q
-        ∙ ap (λ (b : List ℕ). just (record { entry = f .entry; bytes = b })) (s .bytes k f e)
+        ap (λ (x : Entry). some (record { entry = x; bytes = fileBytes (catalogueOf (view img)) (view img) k 0 (x .size) })) q
+        ∙ ap (λ (b : List ℕ). some (record { entry = f .entry; bytes = b })) (s .bytes k f e)
 
-    go : (r : Place) → Hit (λ k. holdsName n (L .slots k)) (L .geometry .files - 0) 0 r → contentsAt (view img) r ≡ contentsIn L r
+    go : (r : Lowest) → Hit (λ k. holdsName n (L .slots k)) (L .geometry .files - 0) 0 r → contentsAt (view img) r ≡ contentsIn L r
     go Nowhere h = refl
     go (At k) h = at-slot k (fileOr (L .slots k)) (filled (L .slots k) n (h .2))
 
@@ -211,4 +211,4 @@ pub said-length : (L : Ledger) (img : List ℕ) → Says L img → (m : List ℕ
 unfolding fileOf fileBytes
 said-length L img s m h =
     let i = slotOf L m in
-    ap length (sym (s .bytes i (fileOr (L .slots i)) (filled (L .slots i) m (h .has)))) ∙ length-tab (fileByte (catalogueOf (view img)) (view img) i) 0 (fileOr (L .slots i) .entry .size)
+    ap length (sym (s .bytes i (fileOr (L .slots i)) (filled (L .slots i) m (h .has)))) ∙ length-tabulate (fileByte (catalogueOf (view img)) (view img) i) 0 (fileOr (L .slots i) .entry .size)

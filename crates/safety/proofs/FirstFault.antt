@@ -8,8 +8,8 @@ use native.Mathlib.Omega.{arith}
 use native.Mathlib.Decide.{decLt}
 use lib.ListN.{length}
 use borrow.Author.Tests.{eqb-true, eq-eqb}
-use Rattle.model.specs.declared.Place.{Place}
-use Rattle.model.specs.declared.Place.the-variants.{At, Nowhere}
+use Rattle.model.specs.declared.Lowest.{Lowest}
+use Rattle.model.specs.declared.Lowest.the-variants.{At, Nowhere}
 use Rattle.model.specs.declared.Soundness.{Soundness}
 use Rattle.model.specs.declared.Soundness.the-variants.{Sound, Faulty}
 use Rattle.model.specs.declared.State.{State}
@@ -30,7 +30,7 @@ use Rattle.safety.proofs.Passes.{judged-clean}
 
 -- ---- what a search found is the lowest
 
-pub record Lowest (t : ℕ → Bool) (n p : ℕ) : Type 0 where
+pub record IsLowest (t : ℕ → Bool) (n p : ℕ) : Type 0 where
   pub below : p < n
   pub holds : t p ≡ true
   pub lowest : (q : ℕ) → q < p → t q ≡ false
@@ -38,20 +38,20 @@ pub record Lowest (t : ℕ → Bool) (n p : ℕ) : Type 0 where
 at-index : (i j : ℕ) → At i ≡ At j → i ≡ j
 at-index i j e = cc
 
-first-lowest : (t : ℕ → Bool) (n p : ℕ) → first t n ≡ At p → Lowest t n p
+first-lowest : (t : ℕ → Bool) (n p : ℕ) → first t n ≡ At p → IsLowest t n p
 first-lowest t n p e =
     let h : Hit t (n - 0) 0 (At p) = subst (Hit t (n - 0) 0) e (scan-hit t (n - 0) 0) in
     let l : p < n = omega (arith, h .1) in
     record { below = l; holds = h .2; lowest = first-missed t p (go (first t p) refl (scan-hit t (p - 0) 0)) }
   where
-    go : (r : Place) → first t p ≡ r → Hit t (p - 0) 0 r → first t p ≡ Nowhere
+    go : (r : Lowest) → first t p ≡ r → Hit t (p - 0) 0 r → first t p ≡ Nowhere
     go (At j) f k =
         let h : Hit t (n - 0) 0 (At p) = subst (Hit t (n - 0) 0) e (scan-hit t (n - 0) 0) in
         let q : j ≡ p = at-index j p (sym (first-found t p n j (omega (arith, h .1)) f) ∙ e) in
         absurd (omega (arith, k .1))
     go Nowhere f k = f
 
-lowest-first : (t : ℕ → Bool) (n p : ℕ) → Lowest t n p → first t n ≡ At p
+lowest-first : (t : ℕ → Bool) (n p : ℕ) → IsLowest t n p → first t n ≡ At p
 lowest-first t n p h = first-there t p n (h .below) (first-none t p (h .lowest)) (h .holds)
 
 -- ---- the faults in their order
@@ -69,7 +69,7 @@ module _ (d : Disk) where
   -- what the faults of numbers below 21 + h come to
   abbrev Result : ℕ → Soundness → Type 0
   Result h Sound = (j : ℕ) → j < h → NoFault d (21 + j)
-  Result h (Faulty n p) = (21 ≤ n) × (n < 21 + h) × Lowest (faultTest d n) (placesOf d n) p × ((j : ℕ) → 21 + j < n → NoFault d (21 + j))
+  Result h (Faulty n p) = (21 ≤ n) × (n < 21 + h) × IsLowest (faultTest d n) (placesOf d n) p × ((j : ℕ) → 21 + j < n → NoFault d (21 + j))
 
   result : (m k : ℕ) → ((j : ℕ) → j < k → NoFault d (21 + j)) → Result (k + m) (faultsFrom m k)
   result zero k none = λ j l. none j (omega arith)
@@ -79,7 +79,7 @@ module _ (d : Disk) where
       more h j l (yes q) = none j q
       more h j l (no q) = let e : k ≡ j = omega arith in subst (λ (i : ℕ). NoFault d (21 + i)) e h
 
-      go : (r : Place) → first (faultTest d (21 + k)) (placesOf d (21 + k)) ≡ r
+      go : (r : Lowest) → first (faultTest d (21 + k)) (placesOf d (21 + k)) ≡ r
           → (((j : ℕ) → j < suc k → NoFault d (21 + j)) → Result (suc k + m) (faultsFrom m (suc k)))
           → Result (k + suc m) (orElse (21 + k) r (faultsFrom m (suc k)))
       go (At p) e rest = (omega arith, omega arith, first-lowest _ _ p e, λ j l. none j (omega arith))
@@ -116,7 +116,7 @@ module _ (d : Disk) where
       never : NoFault d n → ⊥
       never h = true≢false (sym (f .holds) ∙ h p (f .place))
 
-      same-place : (q : ℕ) → Lowest (faultTest d n) (placesOf d n) q → Dec (p < q) → Dec (q < p) → q ≡ p
+      same-place : (q : ℕ) → IsLowest (faultTest d n) (placesOf d n) q → Dec (p < q) → Dec (q < p) → q ≡ p
       same-place q h (yes l) k = absurd (true≢false (sym (f .holds) ∙ h .lowest p l))
       same-place q h (no l) (yes k) = absurd (true≢false (sym (h .holds) ∙ f .lowest q k))
       same-place q h (no l) (no k) = omega arith
@@ -126,7 +126,7 @@ module _ (d : Disk) where
       by-number m q r (no l) (yes k) = absurd (never (subst (NoFault d) at (r .3 (n - 21) (omega arith))))
       by-number m q r (no l) (no k) =
           let e : m ≡ n = omega arith in
-          let h : Lowest (faultTest d n) (placesOf d n) q = subst (λ (i : ℕ). Lowest (faultTest d i) (placesOf d i) q) e (r .2) in
+          let h : IsLowest (faultTest d n) (placesOf d n) q = subst (λ (i : ℕ). IsLowest (faultTest d i) (placesOf d i) q) e (r .2) in
           let z : q ≡ p = same-place q h (decLt p q) (decLt q p) in
           λ i. Faulty (e i) (z i)
 

@@ -14,7 +14,7 @@ use Rattle.model.specs.WriteList.{Record, sectorWrite, barrier, stored, Plan, G
 use Rattle.model.specs.Superblock.{withJournalLength}
 use Rattle.model.specs.Journal.{journalSectors}
 use Rattle.model.specs.Cut.{kept}
-use Rattle.laws.proofs.Search.{length-tab}
+use Rattle.laws.proofs.Search.{length-tabulate}
 use Rattle.safety.proofs.Apply.{over, apply, hits, over-append, over-miss, over-skip, over-none, kept-miss, kept-nil, hits-append, stored-view}
 use Rattle.safety.proofs.Plan.{UsableGeometry, WellFormed, A, A-is, copyWrites, journalWrites, journal-miss, copies-miss, mark, clear, committed, final}
 use Rattle.safety.proofs.Commit.{Ready, partOf, part-in-image, uncut, uncut-shows}
@@ -83,7 +83,7 @@ closed-cons x gs =
     length-after ([] ++ x ++ (barrier ∷ [])) gs ∙ ap (λ n. n + length (closed gs)) f
 
 pub length-A : (g : Geometry) (p : Plan) → length (A g p) ≡ length (p .dataSectors) + length (p .targets) + journalSectors (length (p .targets))
-length-A g p = ap length (A-is g p) ∙ simp (length-append, length-tab)
+length-A g p = ap length (A-is g p) ∙ simp (length-append, length-tabulate)
 
 pub length-groups : (g : Geometry) (d : Disk) (p : Plan) → listLength (groupsOf g d p) ≡ recordCount (length (p .dataSectors)) (length (p .targets)) * recordSize
 unfolding groupsOf

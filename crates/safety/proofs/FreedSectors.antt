@@ -9,10 +9,10 @@ use native.Mathlib.Decide.{decLt}
 use native.Mathlib.Nat.{not-suc-le-zero, zero-add}
 use lib.ListN.{length, length-append}
 use Rattle.model.specs.Bytes.{beAt, beBytes, put}
-use Rattle.model.specs.Search.{flat, count}
+use Rattle.model.specs.Search.{concatenated, countBelow}
 use Rattle.model.specs.WriteList.{Record, sectorWrite, Group}
 use Rattle.model.specs.Table.{tableEntryBytes, freedIn}
-use Rattle.laws.proofs.Search.{flat-front}
+use Rattle.laws.proofs.Search.{concatenated-front}
 use Rattle.laws.proofs.Bytes.{length-put, beAt-put-other, beAt-put-in}
 use Rattle.safety.proofs.Apply.{over, over-append, over-here, over-skip, over-none, over-miss, All, all-append, all-miss}
 use Rattle.safety.proofs.Journal.{Rising}
@@ -23,42 +23,42 @@ module _ (base : ℕ) (p : ℕ → Bool) (r : ℕ → List ℕ) where
   abbrev pub pick : ℕ → Group
   pick t = cond (p t) (sectorWrite (base + t) (r t) ∷ []) []
 
-  pub length-picks : (n : ℕ) → length (flat pick 0 n) ≡ count p n
-  unfolding flat count
+  pub length-picks : (n : ℕ) → length (concatenated pick 0 n) ≡ countBelow p n
+  unfolding concatenated countBelow
   length-picks zero = refl
   length-picks (suc n) =
-      let e : length (flat pick 0 n) ≡ count p n = length-picks n in
+      let e : length (concatenated pick 0 n) ≡ countBelow p n = length-picks n in
       let q : length (pick (0 + n)) ≡ cond (p n) 1 0 = ap (λ x. length (pick x)) (zero-add n) ∙ go (p n) in
-      length-append (flat pick 0 n) (pick (0 + n)) ∙ (let z : length (flat pick 0 n) + length (pick (0 + n)) ≡ cond (p n) 1 0 + count p n = omega arith in z)
+      length-append (concatenated pick 0 n) (pick (0 + n)) ∙ (let z : length (concatenated pick 0 n) + length (pick (0 + n)) ≡ cond (p n) 1 0 + countBelow p n = omega arith in z)
     where
       go : (b : Bool) → length (cond b (sectorWrite (base + n) (r n) ∷ []) []) ≡ cond b 1 0
       go true = refl
       go false = refl
 
-  pub all-picks : (P : Record → Type 0) (n : ℕ) → ((t : ℕ) → t < n → P (sectorWrite (base + t) (r t))) → All P (flat pick 0 n)
-  unfolding flat
+  pub all-picks : (P : Record → Type 0) (n : ℕ) → ((t : ℕ) → t < n → P (sectorWrite (base + t) (r t))) → All P (concatenated pick 0 n)
+  unfolding concatenated
   all-picks P zero h = tt
-  all-picks P (suc n) h = all-append P (flat pick 0 n) (pick (0 + n)) (all-picks P n (λ t l. h t (omega arith))) (go (p (0 + n)))
+  all-picks P (suc n) h = all-append P (concatenated pick 0 n) (pick (0 + n)) (all-picks P n (λ t l. h t (omega arith))) (go (p (0 + n)))
     where
       go : (b : Bool) → All P (cond b (sectorWrite (base + (0 + n)) (r (0 + n)) ∷ []) [])
       go true = (h (0 + n) (omega arith), tt)
       go false = tt
 
-  pub rising-picks : (n a lo : ℕ) → lo ≤ base + a → Rising lo (flat pick a n)
-  unfolding flat
+  pub rising-picks : (n a lo : ℕ) → lo ≤ base + a → Rising lo (concatenated pick a n)
+  unfolding concatenated
   rising-picks zero a lo h = tt
-  rising-picks (suc n) a lo h = subst (Rising lo) (sym (flat-front pick a n)) (go (p a) (rising-picks n (suc a) (suc (base + a)) (omega arith)) (rising-picks n (suc a) lo (omega arith)))
+  rising-picks (suc n) a lo h = subst (Rising lo) (sym (concatenated-front pick a n)) (go (p a) (rising-picks n (suc a) (suc (base + a)) (omega arith)) (rising-picks n (suc a) lo (omega arith)))
     where
-      go : (b : Bool) → Rising (suc (base + a)) (flat pick (suc a) n) → Rising lo (flat pick (suc a) n) → Rising lo (cond b (sectorWrite (base + a) (r a) ∷ []) [] ++ flat pick (suc a) n)
+      go : (b : Bool) → Rising (suc (base + a)) (concatenated pick (suc a) n) → Rising lo (concatenated pick (suc a) n) → Rising lo (cond b (sectorWrite (base + a) (r a) ∷ []) [] ++ concatenated pick (suc a) n)
       go true x y = (h, x)
       go false x y = y
 
-  pub over-picks : (n t : ℕ) (x : List ℕ) → t < n → over (flat pick 0 n) (base + t) x ≡ cond (p t) (r t) x
-  unfolding flat
+  pub over-picks : (n t : ℕ) (x : List ℕ) → t < n → over (concatenated pick 0 n) (base + t) x ≡ cond (p t) (r t) x
+  unfolding concatenated
   over-picks zero t x h = absurd (not-suc-le-zero h)
   over-picks (suc n) t x h =
-      over-append (flat pick 0 n) (pick (0 + n)) (base + t) x
-      ∙ ap (λ k. over (pick k) (base + t) (over (flat pick 0 n) (base + t) x)) (zero-add n) ∙ go (decLt t n) (λ l. over-picks n t x l)
+      over-append (concatenated pick 0 n) (pick (0 + n)) (base + t) x
+      ∙ ap (λ k. over (pick k) (base + t) (over (concatenated pick 0 n) (base + t) x)) (zero-add n) ∙ go (decLt t n) (λ l. over-picks n t x l)
     where
       skip : (b : Bool) (y : List ℕ) → t ≢ n → over (cond b (sectorWrite (base + n) (r n) ∷ []) []) (base + t) y ≡ y
       skip true y ne = over-skip (sectorWrite (base + n) (r n)) [] (base + t) y (λ e. ne (omega arith)) ∙ over-none (base + t) y
@@ -68,13 +68,13 @@ module _ (base : ℕ) (p : ℕ → Bool) (r : ℕ → List ℕ) where
       here true y = over-here (sectorWrite (base + n) (r n)) [] y ∙ over-none (base + n) (r n)
       here false y = over-none (base + n) y
 
-      go : Dec (t < n) → (t < n → over (flat pick 0 n) (base + t) x ≡ cond (p t) (r t) x)
-          → over (pick n) (base + t) (over (flat pick 0 n) (base + t) x) ≡ cond (p t) (r t) x
+      go : Dec (t < n) → (t < n → over (concatenated pick 0 n) (base + t) x ≡ cond (p t) (r t) x)
+          → over (pick n) (base + t) (over (concatenated pick 0 n) (base + t) x) ≡ cond (p t) (r t) x
       go (yes l) ih = skip (p n) _ (λ e. omega arith) ∙ ih l
       go (no l) ih =
           let e : t ≡ n = omega arith in
-          let m : over (flat pick 0 n) (base + n) x ≡ x = over-miss (flat pick 0 n) (base + n) x (all-miss (base + n) (flat pick 0 n) (all-picks (λ w. base + n ≢ w .sector) n (λ k u z. omega arith))) in
-          ap (λ k. over (pick n) (base + k) (over (flat pick 0 n) (base + k) x)) e ∙ ap (over (pick n) (base + n)) m ∙ here (p n) x ∙ ap (λ k. cond (p k) (r k) x) (sym e)
+          let m : over (concatenated pick 0 n) (base + n) x ≡ x = over-miss (concatenated pick 0 n) (base + n) x (all-miss (base + n) (concatenated pick 0 n) (all-picks (λ w. base + n ≢ w .sector) n (λ k u z. omega arith))) in
+          ap (λ k. over (pick n) (base + k) (over (concatenated pick 0 n) (base + k) x)) e ∙ ap (over (pick n) (base + n)) m ∙ here (p n) x ∙ ap (λ k. cond (p k) (r k) x) (sym e)
 
 -- ---- freed entries
 

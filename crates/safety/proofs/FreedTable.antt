@@ -11,17 +11,17 @@ use lib.Dec.{ltb}
 use lib.ListN.{length}
 use borrow.Author.Tests.{ltb-true}
 use Rattle.model.specs.Bytes.{beAt}
-use Rattle.model.specs.Search.{flat, count}
+use Rattle.model.specs.Search.{concatenated, countBelow}
 use Rattle.model.specs.Geometry.{superblockAt, tableAt, dataAt, tableSectors}
 use Rattle.model.specs.Disk.{view}
 use Rattle.model.specs.Superblock.{geometryIn}
-use Rattle.model.specs.Table.{tablePlace, tableSectorOf, tableFile, tableOffset, freedIn, tableEntryBytes}
-use Rattle.model.specs.Catalogue.{Catalogue, Owner, catalogueOf, isBeyond, holdsBeyond, sectorsBeyond}
+use Rattle.model.specs.Table.{tableEntryStart, tableSectorOf, tableFile, tableOffset, freedIn, tableEntryBytes}
+use Rattle.model.specs.Catalogue.{Catalogue, Owner, catalogueOf, ownedFrom, holdsFrom, sectorsFrom}
 use Rattle.model.specs.WriteList.{Group}
 use Rattle.model.specs.Delete.{freedSector, freedSectors}
 use Rattle.model.specs.Ledger.{Ledger, catalogue}
 use Rattle.laws.proofs.Disk.{length-view}
-use Rattle.safety.proofs.Searches.{some-none, count-le}
+use Rattle.safety.proofs.Searches.{anyBelow-none, countBelow-le}
 use Rattle.safety.proofs.Apply.{over, hits, All, all-miss}
 use Rattle.safety.proofs.Journal.{Rising}
 use Rattle.safety.proofs.Plan.{Metadata, Whole, metadata-table}
@@ -38,28 +38,28 @@ module _ (L : Ledger) (img : List ℕ) (i n : ℕ) where
 
   -- table sector t holds an extent that is freed; what it becomes
   abbrev pub changed : ℕ → Bool
-  changed t = holdsBeyond (catalogue L) i n t
+  changed t = holdsFrom (catalogue L) i n t
 
   abbrev pub contents : ℕ → List ℕ
-  contents t = freedIn (λ k. isBeyond i n (catalogue L .table (128 * t + k))) (view img (tableAt (L .geometry) + t)) 128
+  contents t = freedIn (λ k. ownedFrom i n (catalogue L .table (128 * t + k))) (view img (tableAt (L .geometry) + t)) 128
 
   abbrev T : ℕ
   T = tableSectors (L .geometry)
 
   -- ---- the records
 
-  freed-is : freed ≡ flat (pick (tableAt (L .geometry)) changed contents) 0 T
+  freed-is : freed ≡ concatenated (pick (tableAt (L .geometry)) changed contents) 0 T
   unfolding freedSectors freedSector catalogue
   freed-is = refl
 
-  pub length-freed : length freed ≡ sectorsBeyond (catalogue L) i n
-  unfolding sectorsBeyond catalogue
+  pub length-freed : length freed ≡ sectorsFrom (catalogue L) i n
+  unfolding sectorsFrom catalogue
   length-freed = ap length freed-is ∙ length-picks (tableAt (L .geometry)) changed contents T
 
   pub freed-few : length freed ≤ tableSectors (L .geometry)
   freed-few =
-      let e : length freed ≡ count changed T = ap length freed-is ∙ length-picks (tableAt (L .geometry)) changed contents T in
-      let m : count changed T ≤ T = count-le changed T in
+      let e : length freed ≡ countBelow changed T = ap length freed-is ∙ length-picks (tableAt (L .geometry)) changed contents T in
+      let m : countBelow changed T ≤ T = countBelow-le changed T in
       omega arith
 
   pub freed-metadata : All (Metadata (L .geometry)) freed
@@ -90,48 +90,48 @@ module _ (L : Ledger) (img : List ℕ) (i n : ℕ) where
 
     -- a half of a table entry
     half : (e o : ℕ) → e < L .geometry .extents → o + 2 ≤ 4 → beAt (tableEntryBytes 65535 65535) o 2 ≡ 65535
-        → beAt (view out (tableSectorOf (L .geometry) e)) (tablePlace e + o) 2
-        ≡ cond (isBeyond i n (c .table e)) 65535 (beAt (view img (tableSectorOf (L .geometry) e)) (tablePlace e + o) 2)
-    unfolding holdsBeyond
+        → beAt (view out (tableSectorOf (L .geometry) e)) (tableEntryStart e + o) 2
+        ≡ cond (ownedFrom i n (c .table e)) 65535 (beAt (view img (tableSectorOf (L .geometry) e)) (tableEntryStart e + o) 2)
+    unfolding holdsFrom
     half e o l b f =
         let q : 128 * (e / 128) + e % 128 ≡ e = omega arith in
-        ap (λ (s : List ℕ). beAt s (tablePlace e + o) 2) (at-table (e / 128) (omega arith))
+        ap (λ (s : List ℕ). beAt s (tableEntryStart e + o) 2) (at-table (e / 128) (omega arith))
         ∙ go (changed (e / 128)) refl
-        ∙ ap (λ x. cond (isBeyond i n (c .table x)) 65535 (beAt (view img (tableSectorOf (L .geometry) e)) (tablePlace e + o) 2)) q
+        ∙ ap (λ x. cond (ownedFrom i n (c .table x)) 65535 (beAt (view img (tableSectorOf (L .geometry) e)) (tableEntryStart e + o) 2)) q
       where
         go : (t : Bool) → changed (e / 128) ≡ t
-            → beAt (cond t (contents (e / 128)) (view img (tableSectorOf (L .geometry) e))) (tablePlace e + o) 2
-            ≡ cond (isBeyond i n (c .table (128 * (e / 128) + e % 128))) 65535 (beAt (view img (tableSectorOf (L .geometry) e)) (tablePlace e + o) 2)
+            → beAt (cond t (contents (e / 128)) (view img (tableSectorOf (L .geometry) e))) (tableEntryStart e + o) 2
+            ≡ cond (ownedFrom i n (c .table (128 * (e / 128) + e % 128))) 65535 (beAt (view img (tableSectorOf (L .geometry) e)) (tableEntryStart e + o) 2)
         go true z =
-            freed-at (λ k. isBeyond i n (c .table (128 * (e / 128) + k))) (view img (tableSectorOf (L .geometry) e)) 128 (e % 128) o (omega arith) (omega arith)
+            freed-at (λ k. ownedFrom i n (c .table (128 * (e / 128) + k))) (view img (tableSectorOf (L .geometry) e)) 128 (e % 128) o (omega arith) (omega arith)
             (length-view img (tableSectorOf (L .geometry) e)) b f
         go false z =
-            sym (ap (λ (x : Bool). cond x 65535 (beAt (view img (tableSectorOf (L .geometry) e)) (tablePlace e + o) 2))
-            (some-none (λ k. isBeyond i n (c .table (128 * (e / 128) + k))) 128 z (e % 128) (omega arith)))
+            sym (ap (λ (x : Bool). cond x 65535 (beAt (view img (tableSectorOf (L .geometry) e)) (tableEntryStart e + o) 2))
+            (anyBelow-none (λ k. ownedFrom i n (c .table (128 * (e / 128) + k))) 128 z (e % 128) (omega arith)))
 
-    file-is : (e : ℕ) → e < L .geometry .extents → tableFile (L .geometry) (view out) e ≡ cond (isBeyond i n (c .table e)) 65535 (tableFile (L .geometry) (view img) e)
+    file-is : (e : ℕ) → e < L .geometry .extents → tableFile (L .geometry) (view out) e ≡ cond (ownedFrom i n (c .table e)) 65535 (tableFile (L .geometry) (view img) e)
     unfolding tableFile
     file-is e l =
-        ap (λ o. beAt (view out (tableSectorOf (L .geometry) e)) o 2) (let q : tablePlace e ≡ tablePlace e + 0 = omega arith in q)
+        ap (λ o. beAt (view out (tableSectorOf (L .geometry) e)) o 2) (let q : tableEntryStart e ≡ tableEntryStart e + 0 = omega arith in q)
         ∙ half e 0 l (omega arith) free-file
-        ∙ ap (λ o. cond (isBeyond i n (c .table e)) 65535 (beAt (view img (tableSectorOf (L .geometry) e)) o 2)) (let q : tablePlace e + 0 ≡ tablePlace e = omega arith in q)
+        ∙ ap (λ o. cond (ownedFrom i n (c .table e)) 65535 (beAt (view img (tableSectorOf (L .geometry) e)) o 2)) (let q : tableEntryStart e + 0 ≡ tableEntryStart e = omega arith in q)
 
-    offset-is : (e : ℕ) → e < L .geometry .extents → tableOffset (L .geometry) (view out) e ≡ cond (isBeyond i n (c .table e)) 65535 (tableOffset (L .geometry) (view img) e)
+    offset-is : (e : ℕ) → e < L .geometry .extents → tableOffset (L .geometry) (view out) e ≡ cond (ownedFrom i n (c .table e)) 65535 (tableOffset (L .geometry) (view img) e)
     unfolding tableOffset
     offset-is e l = half e 2 l (omega arith) free-offset
 
     table-before : (e : ℕ) → ownerBy (ltb e (L .geometry .extents)) (tableFile (L .geometry) (view img) e) (tableOffset (L .geometry) (view img) e) ≡ c .table e
     table-before e = sym (owner-is (L .geometry) (view img) (view img) (rep .ready .volume .geometry) (rep .ready .volume .geometry) e) ∙ rep .says .table e
 
-    pub table-after : (e : ℕ) → catalogueOf (view out) .table e ≡ cond (isBeyond i n (catalogue L .table e)) none (catalogue L .table e)
-    table-after e = owner-is (L .geometry) (view out) (view out) eg eg e ∙ go (ltb e (L .geometry .extents)) refl (isBeyond i n (c .table e)) refl
+    pub table-after : (e : ℕ) → catalogueOf (view out) .table e ≡ cond (ownedFrom i n (catalogue L .table e)) none (catalogue L .table e)
+    table-after e = owner-is (L .geometry) (view out) (view out) eg eg e ∙ go (ltb e (L .geometry .extents)) refl (ownedFrom i n (c .table e)) refl
       where
-        go : (x : Bool) → ltb e (L .geometry .extents) ≡ x → (b : Bool) → isBeyond i n (c .table e) ≡ b
-            → ownerBy (ltb e (L .geometry .extents)) (tableFile (L .geometry) (view out) e) (tableOffset (L .geometry) (view out) e) ≡ cond (isBeyond i n (c .table e)) none (c .table e)
+        go : (x : Bool) → ltb e (L .geometry .extents) ≡ x → (b : Bool) → ownedFrom i n (c .table e) ≡ b
+            → ownerBy (ltb e (L .geometry .extents)) (tableFile (L .geometry) (view out) e) (tableOffset (L .geometry) (view out) e) ≡ cond (ownedFrom i n (c .table e)) none (c .table e)
         go false ex b eb =
             let z : c .table e ≡ none = sym (table-before e) ∙ ap (λ (x : Bool). ownerBy x (tableFile (L .geometry) (view img) e) (tableOffset (L .geometry) (view img) e)) ex in
             ap (λ (x : Bool). ownerBy x (tableFile (L .geometry) (view out) e) (tableOffset (L .geometry) (view out) e)) ex
-            ∙ sym (ap (λ (o : Option Owner). cond (isBeyond i n o) none o) z)
+            ∙ sym (ap (λ (o : Option Owner). cond (ownedFrom i n o) none o) z)
         go true ex true eb =
             let l : e < L .geometry .extents = ltb-true e (L .geometry .extents) ex in
             let fi : tableFile (L .geometry) (view out) e ≡ 65535 = file-is e l ∙ ap (λ (b : Bool). cond b 65535 (tableFile (L .geometry) (view img) e)) eb in

@@ -10,14 +10,14 @@ use native.Mathlib.Nat.{not-suc-le-zero, add-zero}
 use lib.Dec.{eqb}
 use lib.ListN.{length, getD, length-append}
 use borrow.Author.Tests.{eqb-true, eqb-false, ne-eqb}
-use Rattle.model.specs.declared.Place.{Place}
-use Rattle.model.specs.declared.Place.the-variants.{At}
+use Rattle.model.specs.declared.Lowest.{Lowest}
+use Rattle.model.specs.declared.Lowest.the-variants.{At}
 use Rattle.model.specs.Bytes.{put, beAt, beBytes}
-use Rattle.model.specs.Search.{scan, flat, isAt, indexOf}
+use Rattle.model.specs.Search.{scan, concatenated, isAt, indexOf}
 use Rattle.model.specs.Disk.{Disk}
 use Rattle.model.specs.WriteList.{Record, sectorWrite, barrier, Group}
 use Rattle.model.specs.Journal.{entriesIn, journalSector}
-use Rattle.laws.proofs.Search.{flat-front, flat-ext}
+use Rattle.laws.proofs.Search.{concatenated-front, concatenated-ext}
 use Rattle.laws.proofs.Bytes.{length-put, length-beBytes, length-zeroSector, beAt-put-other, beAt-put-in, beAt-left, beAt-right, beAt-beBytes}
 use Rattle.safety.proofs.Apply.{All, all-map}
 
@@ -116,21 +116,21 @@ picked-skip : (w : Record) (ws : Group) (t : ℕ) → w .sector ≢ t → picked
 unfolding picked
 picked-skip w ws t ne = ap (λ (b : Bool). cond b (w ∷ []) (picked ws t)) (ne-eqb (w .sector) t ne)
 
-pub flat-picked : (n a : ℕ) (ws : Group) → Rising a ws → All (λ w. w .sector < a + n) ws → flat (picked ws) a n ≡ ws
-unfolding flat picked
-flat-picked zero a [] r h = refl
-flat-picked zero a (w ∷ ws) r h = absurd (let p : a ≤ w .sector = r .0 in let q : w .sector < a + 0 = h .0 in omega arith)
-flat-picked (suc n) a [] r h = flat-front (picked []) a n ∙ flat-picked n (suc a) [] tt tt
-flat-picked (suc n) a (w ∷ ws) r h = flat-front (picked (w ∷ ws)) a n ∙ go (eqb (w .sector) a) refl (flat-picked n (suc a) ws) (flat-picked n (suc a) (w ∷ ws))
+pub concatenated-picked : (n a : ℕ) (ws : Group) → Rising a ws → All (λ w. w .sector < a + n) ws → concatenated (picked ws) a n ≡ ws
+unfolding concatenated picked
+concatenated-picked zero a [] r h = refl
+concatenated-picked zero a (w ∷ ws) r h = absurd (let p : a ≤ w .sector = r .0 in let q : w .sector < a + 0 = h .0 in omega arith)
+concatenated-picked (suc n) a [] r h = concatenated-front (picked []) a n ∙ concatenated-picked n (suc a) [] tt tt
+concatenated-picked (suc n) a (w ∷ ws) r h = concatenated-front (picked (w ∷ ws)) a n ∙ go (eqb (w .sector) a) refl (concatenated-picked n (suc a) ws) (concatenated-picked n (suc a) (w ∷ ws))
   where
     go : (b : Bool) → eqb (w .sector) a ≡ b
-        → (Rising (suc a) ws → All (λ v. v .sector < suc a + n) ws → flat (picked ws) (suc a) n ≡ ws)
-        → (Rising (suc a) (w ∷ ws) → All (λ v. v .sector < suc a + n) (w ∷ ws) → flat (picked (w ∷ ws)) (suc a) n ≡ w ∷ ws)
-        → cond (eqb (w .sector) a) (w ∷ []) (picked ws a) ++ flat (picked (w ∷ ws)) (suc a) n ≡ w ∷ ws
+        → (Rising (suc a) ws → All (λ v. v .sector < suc a + n) ws → concatenated (picked ws) (suc a) n ≡ ws)
+        → (Rising (suc a) (w ∷ ws) → All (λ v. v .sector < suc a + n) (w ∷ ws) → concatenated (picked (w ∷ ws)) (suc a) n ≡ w ∷ ws)
+        → cond (eqb (w .sector) a) (w ∷ []) (picked ws a) ++ concatenated (picked (w ∷ ws)) (suc a) n ≡ w ∷ ws
     go true e f g =
         let q : w .sector ≡ a = eqb-true (w .sector) a e in
         ap₂ (λ x y. x ++ y) (ap (λ (b : Bool). cond b (w ∷ []) (picked ws a)) e)
-        (flat-ext (picked (w ∷ ws)) (picked ws) (suc a) n (λ t u v. picked-skip w ws t (λ z. omega arith))
+        (concatenated-ext (picked (w ∷ ws)) (picked ws) (suc a) n (λ t u v. picked-skip w ws t (λ z. omega arith))
         ∙ f (rw q at (r .1)) (all-map (λ v. v .sector < a + suc n) (λ v. v .sector < suc a + n) (λ v l. omega arith) ws (h .1)))
     go false e f g =
         let q : a ≤ w .sector = r .0 in
@@ -144,11 +144,11 @@ flat-picked (suc n) a (w ∷ ws) r h = flat-front (picked (w ∷ ws)) a n ∙ go
 pub write-path : (s : ℕ) (c : List ℕ) (w : Record) → s ≡ w .sector → c ≡ w .contents → sectorWrite s c ≡ w
 write-path s c w e f = λ i. record { sector = e i; contents = f i }
 
-abbrev pub made : Disk → (ℕ → ℕ) → ℕ → Place → Group
+abbrev pub made : Disk → (ℕ → ℕ) → ℕ → Lowest → Group
 made d source t k = cond (isAt k) (sectorWrite t (d (source (indexOf k))) ∷ []) []
 
 module _ (d : Disk) (source target : ℕ → ℕ) (t : ℕ) where
-  made-case : (b : Bool) (i : ℕ) (w : Record) (ws : Group) (rest : Place) → eqb (w .sector) t ≡ b → d (source i) ≡ w .contents
+  made-case : (b : Bool) (i : ℕ) (w : Record) (ws : Group) (rest : Lowest) → eqb (w .sector) t ≡ b → d (source i) ≡ w .contents
       → made d source t rest ≡ picked ws t → made d source t (cond b (At i) rest) ≡ cond b (w ∷ []) (picked ws t)
   made-case true i w ws rest e c h = ap (λ (r : Record). r ∷ []) (write-path t (d (source i)) w (sym (eqb-true (w .sector) t e)) c)
   made-case false i w ws rest e c h = h

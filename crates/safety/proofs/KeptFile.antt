@@ -5,18 +5,18 @@ use mathlib.Core.Path.{_≡_, refl, sym, ap, ap₂, _∙_}
 use mathlib.Core.Logic.{_≢_}
 use mathlib.Core.Bool.{Bool, true, false, cond, not, _&&_, _||_}
 use mathlib.Core.List.{List}
-use mathlib.Core.Option.{Option, none, some as just, Option·some-injective, Option·none-ne-some}
+use mathlib.Core.Option.{Option, none, some, Option·some-injective, Option·none-ne-some}
 use native.Mathlib.Omega.{arith}
 use native.Mathlib.Nat.{mul-le-mul}
 use lib.Dec.{eqb, leb, ltb}
 use borrow.Author.Tests.{le-ltb, ltb-false, ltb-true}
-use Rattle.model.specs.Search.{some}
+use Rattle.model.specs.Search.{anyBelow}
 use Rattle.model.specs.Geometry.{superblockAt, extentBytes, usable, entryAt, extentsFor}
 use Rattle.model.specs.Disk.{view}
 use Rattle.model.specs.Superblock.{geometryIn}
 use Rattle.model.specs.Entry.{Entry, entryIn, isOccupied, badName, updatedEntrySector}
 use Rattle.model.specs.Catalogue.{catalogueOf, isFree, hasName, hasId}
-use Rattle.model.specs.Faults.{among, fault21, fault22, fault24, fault25, exact}
+use Rattle.model.specs.Faults.{holdsOf, fault21, fault22, fault24, fault25, exact}
 use Rattle.model.specs.Ledger.{Ledger, File, entryOfFile, catalogue, updatedEntry}
 use Rattle.laws.proofs.Disk.{length-view}
 use Rattle.safety.proofs.Searches.{or-left-no, or-right-no, among-or-right}
@@ -26,24 +26,24 @@ use Rattle.safety.proofs.Fields.{updated-occupied, updated-entry, occup
 use Rattle.safety.proofs.Replaced.{replaced, names-apart, ids-apart, OthersKept, Admissible}
 
 -- what the sector of an occupied slot says
-occupied-slot : (b : Bool) (s : List ℕ) (e : Entry) → cond (b && isOccupied s) (just (entryIn s)) none ≡ just e → (b ≡ true) × (isOccupied s ≡ true) × (entryIn s ≡ e)
+occupied-slot : (b : Bool) (s : List ℕ) (e : Entry) → cond (b && isOccupied s) (some (entryIn s)) none ≡ some e → (b ≡ true) × (isOccupied s ≡ true) × (entryIn s ≡ e)
 occupied-slot true s e q = go (isOccupied s) refl q
   where
-    go : (o : Bool) → isOccupied s ≡ o → cond o (just (entryIn s)) none ≡ just e → (true ≡ true) × (isOccupied s ≡ true) × (entryIn s ≡ e)
+    go : (o : Bool) → isOccupied s ≡ o → cond o (some (entryIn s)) none ≡ some e → (true ≡ true) × (isOccupied s ≡ true) × (entryIn s ≡ e)
     go true p r = (refl, p, Option·some-injective (entryIn s) e r)
     go false p r = absurd (Option·none-ne-some e r)
 occupied-slot false s e q = absurd (Option·none-ne-some e q)
 
 -- only usable extents are owned
-pub usable-owned : (L : Ledger) (img : List ℕ) → Rep L img → (e : ℕ) → e < L .geometry .extents → among (catalogue L .table e) (λ w. leb (usable (L .geometry)) e) ≡ false
+pub usable-owned : (L : Ledger) (img : List ℕ) → Rep L img → (e : ℕ) → e < L .geometry .extents → holdsOf (catalogue L .table e) (λ w. leb (usable (L .geometry)) e) ≡ false
 unfolding fault25 catalogue
 usable-owned L img rep e l =
     among-or-right (catalogue L .table e) (λ w. isFree (catalogue L .entries (w .file))) (λ w. leb (usable (L .geometry)) e) (rep .faultless .f25 e l)
 
-module _ (L : Ledger) (img : List ℕ) (rep : Rep L img) (i : ℕ) (f : File) (has : L .slots i ≡ just f) where
+module _ (L : Ledger) (img : List ℕ) (rep : Rep L img) (i : ℕ) (f : File) (has : L .slots i ≡ some f) where
   -- ---- entry i as it was
 
-  pub entry-of : catalogue L .entries i ≡ just (f .entry)
+  pub entry-of : catalogue L .entries i ≡ some (f .entry)
   unfolding catalogue
   entry-of = ap entryOfFile has
 
@@ -63,7 +63,7 @@ module _ (L : Ledger) (img : List ℕ) (rep : Rep L img) (i : ℕ) (f : File) (h
   well-named : (badName (f .entry .name) || ltb (usable (L .geometry) * extentBytes (L .geometry)) (f .entry .size)) ≡ false
   unfolding fault22 catalogue
   well-named =
-      sym (ap (λ (o : Option Entry). among o (λ e. badName (e .name) || ltb (usable (L .geometry) * E) (e .size))) entry-of) ∙ rep .faultless .f22 i slot-within
+      sym (ap (λ (o : Option Entry). holdsOf o (λ e. badName (e .name) || ltb (usable (L .geometry) * E) (e .size))) entry-of) ∙ rep .faultless .f22 i slot-within
 
   pub size-small : f .entry .size ≤ usable (L .geometry) * extentBytes (L .geometry)
   size-small = ltb-false _ (f .entry .size) (or-right-no (badName (f .entry .name)) _ well-named)
@@ -71,14 +71,14 @@ module _ (L : Ledger) (img : List ℕ) (rep : Rep L img) (i : ℕ) (f : File) (h
   -- ---- entry i updated on an image
 
   module _ (z time : ℕ) (out : List ℕ) (eg : geometryIn (view out superblockAt) ≡ L .geometry) (at-entry : view out (entryAt i) ≡ updatedEntrySector z time (view img (entryAt i))) where
-    pub entry-updated : z ≤ usable (L .geometry) * extentBytes (L .geometry) → time < 2 ^ 32 → catalogueOf (view out) .entries i ≡ just (updatedEntry z time (f .entry))
+    pub entry-updated : z ≤ usable (L .geometry) * extentBytes (L .geometry) → time < 2 ^ 32 → catalogueOf (view out) .entries i ≡ some (updatedEntry z time (f .entry))
     entry-updated small ht =
         let u : usable (L .geometry) ≤ 65535 = omega (arith, rep .bounded .extents-high) in
         let e : extentBytes (L .geometry) ≤ 512 * 4294967295 = omega (arith, rep .bounded .extent-high) in
         let m : usable (L .geometry) * extentBytes (L .geometry) ≤ 65535 * (512 * 4294967295) = mul-le-mul u e in
         entry-is (L .geometry) (view out) (view out) eg eg i ∙ ap (λ (s : List ℕ). slotIn (L .geometry) s i) at-entry
         ∙ (λ j. cond (occupied .0 j && (updated-occupied z time (view img (entryAt i)) ∙ occupied .1) j)
-        (just ((updated-entry z time (view img (entryAt i)) (length-view img (entryAt i)) (omega arith) ht ∙ ap (updatedEntry z time) (occupied .2)) j)) none)
+        (some ((updated-entry z time (view img (entryAt i)) (length-view img (entryAt i)) (omega arith) ht ∙ ap (updatedEntry z time) (occupied .2)) j)) none)
 
     pub mark-updated : fault21 (view out) i ≡ false
     unfolding fault21
@@ -87,29 +87,29 @@ module _ (L : Ledger) (img : List ℕ) (rep : Rep L img) (i : ℕ) (f : File) (h
   -- ---- a file that keeps name and id
 
   module _ (y : File) (name : y .entry .name ≡ f .entry .name) (id : y .entry .id ≡ f .entry .id) (small : y .entry .size ≤ usable (L .geometry) * extentBytes (L .geometry))
-      (others : OthersKept L (L .root) i (just y))
-      (owned : (e : ℕ) → e < L .geometry .extents → among (catalogue (replaced L (L .root) i (just y)) .table e) (λ w. eqb (w .file) i && leb (usable (L .geometry)) e) ≡ false)
-      (exact-new : exact (catalogue (replaced L (L .root) i (just y))) i (extentsFor (L .geometry) (y .entry .size)) ≡ true) where
+      (others : OthersKept L (L .root) i (some y))
+      (owned : (e : ℕ) → e < L .geometry .extents → holdsOf (catalogue (replaced L (L .root) i (some y)) .table e) (λ w. eqb (w .file) i && leb (usable (L .geometry)) e) ≡ false)
+      (exact-new : exact (catalogue (replaced L (L .root) i (some y))) i (extentsFor (L .geometry) (y .entry .size)) ≡ true) where
     name-apart : (k : ℕ) → k < L .geometry .files → k ≢ i → hasName (y .entry .name) (catalogue L .entries k) ≡ false
     unfolding catalogue
     name-apart k l ne =
-        ap (λ (n : List ℕ). hasName n (catalogue L .entries k)) name ∙ sym (ap (λ (o : Option Entry). among o (λ e. hasName (e .name) (catalogue L .entries k))) entry-of)
+        ap (λ (n : List ℕ). hasName n (catalogue L .entries k)) name ∙ sym (ap (λ (o : Option Entry). holdsOf o (λ e. hasName (e .name) (catalogue L .entries k))) entry-of)
         ∙ names-apart (catalogue L) (rep .faultless) i k slot-within l ne
 
     id-apart : (k : ℕ) → k < L .geometry .files → k ≢ i → hasId (y .entry .id) (catalogue L .entries k) ≡ false
     unfolding catalogue
     id-apart k l ne =
-        ap (λ (n : ℕ). hasId n (catalogue L .entries k)) id ∙ sym (ap (λ (o : Option Entry). among o (λ e. hasId (e .id) (catalogue L .entries k))) entry-of)
+        ap (λ (n : ℕ). hasId n (catalogue L .entries k)) id ∙ sym (ap (λ (o : Option Entry). holdsOf o (λ e. hasId (e .id) (catalogue L .entries k))) entry-of)
         ∙ ids-apart (catalogue L) (rep .faultless) i k slot-within l ne
 
     good-id : (eqb (y .entry .id) 0 || eqb (y .entry .id) (L .root .id)) ≡ false
     unfolding fault24 catalogue
     good-id =
         ap (λ n. eqb n 0 || eqb n (L .root .id)) id
-        ∙ or-left-no _ _ (sym (ap (λ (o : Option Entry). among o (λ e. eqb (e .id) 0 || eqb (e .id) (L .root .id) || some (λ j. hasId (e .id) (catalogue L .entries j)) i)) entry-of)
+        ∙ or-left-no _ _ (sym (ap (λ (o : Option Entry). holdsOf o (λ e. eqb (e .id) 0 || eqb (e .id) (L .root .id) || anyBelow (λ j. hasId (e .id) (catalogue L .entries j)) i)) entry-of)
         ∙ rep .faultless .f24 i slot-within)
 
-    pub admissible-kept : Admissible L (L .root) i (just y)
+    pub admissible-kept : Admissible L (L .root) i (some y)
     admissible-kept = record {
       root-id = refl;
       entry = ap₂ (λ (n : List ℕ) (t : Bool). badName n || t) name (le-ltb (usable (L .geometry) * E) (y .entry .size) small)

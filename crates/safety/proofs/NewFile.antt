@@ -3,18 +3,18 @@ use Prim.Native.Nat.{ℕ, _*_, _<_}
 use mathlib.Core.Path.{_≡_, refl, sym, ap, ap₂, _∙_}
 use mathlib.Core.Bool.{Bool, true, false, cond, not, _&&_, _||_, true≢false}
 use mathlib.Core.List.{List, []}
-use mathlib.Core.Option.{Option, none, some as just}
+use mathlib.Core.Option.{Option, none, some}
 use native.Mathlib.Omega.{arith}
 use lib.Dec.{eqb, leb}
 use borrow.Author.Tests.{le-ltb, eqb-true}
-use Rattle.model.specs.Search.{every}
+use Rattle.model.specs.Search.{allBelow}
 use Rattle.model.specs.Geometry.{usable, extentBytes, extentsFor}
 use Rattle.model.specs.Entry.{badName}
-use Rattle.model.specs.Catalogue.{Catalogue, Owner, isFree, hasName, hasId, isBeyond}
-use Rattle.model.specs.Faults.{among, fault25, exact}
+use Rattle.model.specs.Catalogue.{Catalogue, Owner, isFree, hasName, hasId, ownedFrom}
+use Rattle.model.specs.Faults.{holdsOf, fault25, exact}
 use Rattle.model.specs.Ledger.{Ledger, File, fileOr, entryOfFile, catalogue, withRootUpdated, newEntry, updatedRoot}
 use Rattle.model.specs.Opened.{Bounded}
-use Rattle.laws.proofs.Search.{every-yes}
+use Rattle.laws.proofs.Search.{allBelow-yes}
 use Rattle.safety.proofs.Searches.{or-left-no, among-or-right}
 use Rattle.safety.proofs.Bounds.{no-extent}
 use Rattle.safety.proofs.Rep.{NoFaults, Disjoint}
@@ -25,13 +25,13 @@ module _ (L : Ledger) (i : ℕ) (name : List ℕ) (id mode time : ℕ) where
   newFile = record { entry = newEntry name id mode time; bytes = []; extents = [] }
 
   abbrev pub created : Ledger
-  created = withRootUpdated L time i (just (record { entry = newEntry name id mode time; bytes = []; extents = [] }))
+  created = withRootUpdated L time i (some (record { entry = newEntry name id mode time; bytes = []; extents = [] }))
 
   module _ (empty : L .slots i ≡ none) where
     extents-created : (k : ℕ) → fileOr (created .slots k) .extents ≡ fileOr (L .slots k) .extents
     extents-created k = go (eqb k i) refl
       where
-        go : (b : Bool) → eqb k i ≡ b → fileOr (cond b (just newFile) (L .slots k)) .extents ≡ fileOr (L .slots k) .extents
+        go : (b : Bool) → eqb k i ≡ b → fileOr (cond b (some newFile) (L .slots k)) .extents ≡ fileOr (L .slots k) .extents
         go true e = sym (ap (λ (x : ℕ). fileOr (L .slots x) .extents) (eqb-true k i e) ∙ ap (λ (o : Option File). fileOr o .extents) empty)
         go false e = refl
 
@@ -49,13 +49,13 @@ module _ (L : Ledger) (i : ℕ) (name : List ℕ) (id mode time : ℕ) where
       c = catalogue L
 
       -- a free slot owns nothing
-      none-owned : (e : ℕ) → e < L .geometry .extents → isBeyond i 0 (c .table e) ≡ false
+      none-owned : (e : ℕ) → e < L .geometry .extents → ownedFrom i 0 (c .table e) ≡ false
       unfolding catalogue fault25
       none-owned e l = go (c .table e) (h .f25 e l)
         where
-          go : (o : Option Owner) → among o (λ w. isFree (c .entries (w .file)) || leb (usable (L .geometry)) e) ≡ false → isBeyond i 0 o ≡ false
+          go : (o : Option Owner) → holdsOf o (λ w. isFree (c .entries (w .file)) || leb (usable (L .geometry)) e) ≡ false → ownedFrom i 0 o ≡ false
           go none q = refl
-          go (just w) q = at-file (eqb (w .file) i) refl
+          go (some w) q = at-file (eqb (w .file) i) refl
             where
               at-file : (b : Bool) → eqb (w .file) i ≡ b → (b && leb 0 (w .offset)) ≡ false
               at-file true z =
@@ -64,19 +64,19 @@ module _ (L : Ledger) (i : ℕ) (name : List ℕ) (id mode time : ℕ) where
               at-file false z = refl
 
       exact-new : exact (catalogue created) i (extentsFor (L .geometry) 0) ≡ true
-      unfolding exact every catalogue
+      unfolding exact allBelow catalogue
       exact-new =
           ap (exact (catalogue created) i) (no-extent (L .geometry) bounded)
-          ∙ every-yes (λ e. not (isBeyond i 0 (catalogue created .table e))) (L .geometry .extents) (λ e l. ap (λ (o : Option Owner). not (isBeyond i 0 o)) (table-created e) ∙ ap not (none-owned e l))
+          ∙ allBelow-yes (λ e. not (ownedFrom i 0 (catalogue created .table e))) (L .geometry .extents) (λ e l. ap (λ (o : Option Owner). not (ownedFrom i 0 o)) (table-created e) ∙ ap not (none-owned e l))
 
-      owned-new : (e : ℕ) → e < L .geometry .extents → among (catalogue created .table e) (λ w. eqb (w .file) i && leb (usable (L .geometry)) e) ≡ false
+      owned-new : (e : ℕ) → e < L .geometry .extents → holdsOf (catalogue created .table e) (λ w. eqb (w .file) i && leb (usable (L .geometry)) e) ≡ false
       unfolding fault25 catalogue
       owned-new e l =
-          ap (λ (o : Option Owner). among o (λ w. eqb (w .file) i && leb (usable (L .geometry)) e)) (table-created e)
+          ap (λ (o : Option Owner). holdsOf o (λ w. eqb (w .file) i && leb (usable (L .geometry)) e)) (table-created e)
           ∙ among-and (c .table e) (λ w. eqb (w .file) i) (λ w. leb (usable (L .geometry)) e)
           (among-or-right (c .table e) (λ w. isFree (c .entries (w .file))) (λ w. leb (usable (L .geometry)) e) (h .f25 e l))
 
-      pub admissible-new : Admissible L (updatedRoot time (L .root)) i (just newFile)
+      pub admissible-new : Admissible L (updatedRoot time (L .root)) i (some newFile)
       unfolding updatedRoot newEntry
       admissible-new = record {
         root-id = refl;

@@ -5,16 +5,16 @@ use mathlib.Core.Path.{_≡_, refl, sym, ap, ap₂, _∙_}
 use mathlib.Core.Logic.{_≢_}
 use mathlib.Core.Bool.{Bool, true, false, cond, not, _&&_, _||_}
 use mathlib.Core.List.{List, [], _∷_, _++_}
-use mathlib.Core.Option.{Option, none, some as just}
+use mathlib.Core.Option.{Option, none, some}
 use native.Mathlib.Omega.{arith}
 use lib.Dec.{eqb, leb, ltb}
 use lib.ListN.{length, getD}
 use borrow.Author.Tests.{eqb-true, ne-eqb, le-ltb}
-use Rattle.model.specs.declared.Place.{Place}
-use Rattle.model.specs.declared.Place.the-variants.{At, Nowhere}
+use Rattle.model.specs.declared.Lowest.{Lowest}
+use Rattle.model.specs.declared.Lowest.the-variants.{At, Nowhere}
 use Rattle.model.specs.declared.Verdict.{Verdict}
-use Rattle.model.specs.Bytes.{run}
-use Rattle.model.specs.Search.{some, tab, isAt, indexOf}
+use Rattle.model.specs.Bytes.{bytesFrom}
+use Rattle.model.specs.Search.{anyBelow, tabulate, isAt, indexOf}
 use Rattle.model.specs.Geometry.{FileNumber, ExtentNumber, usable}
 use Rattle.model.specs.Entry.{hasZero, badName, longestName}
 use Rattle.model.specs.Catalogue.{entryOr, fileNamed, freeEntry, freeExtent, entryOf, hasName, hasId, isFree}
@@ -25,29 +25,29 @@ use Rattle.model.specs.Resize.{zeros}
 use Rattle.model.specs.Ledger.{Ledger, File, fileOr, entryOfFile, holderOf, ownerFrom, catalogue, holdsName, holdsId, slotNamed, freeSlot, unheldExtent, fileOf, Answer, summarized, checked, found}
 use Rattle.model.specs.Ledger.{listed, gave, changed, numberOf, numbered, refused, Refusals, lowest, unfitName, spannedSectors, zeroBytes, Step, answerBy}
 use Rattle.laws.proofs.Booleans.{not-and, not-leb}
-use Rattle.laws.proofs.Search.{first-ext, some-ext}
+use Rattle.laws.proofs.Search.{first-ext, anyBelow-ext}
 
 -- ---- what it looks up
 
 pub name-if : (name : List ℕ) (s : Option File) → holdsName name s ≡ hasName name (entryOfFile s)
 name-if name none = refl
-name-if name (just f) = refl
+name-if name (some f) = refl
 
 id-if : (id : ℕ) (s : Option File) → holdsId id s ≡ hasId id (entryOfFile s)
 id-if id none = refl
-id-if id (just f) = refl
+id-if id (some f) = refl
 
 pub free-if : (s : Option File) → isFree s ≡ isFree (entryOfFile s)
 free-if none = refl
-free-if (just f) = refl
+free-if (some f) = refl
 
-unheld-if : (L : Ledger) (e : ExtentNumber) (p : Place) → not (isAt p) ≡ isFree (ownerFrom L e p)
+unheld-if : (L : Ledger) (e : ExtentNumber) (p : Lowest) → not (isAt p) ≡ isFree (ownerFrom L e p)
 unheld-if L e (At i) = refl
 unheld-if L e Nowhere = refl
 
 entry-if : (s : Option File) → fileOr s .entry ≡ entryOr (entryOfFile s)
 entry-if none = refl
-entry-if (just f) = refl
+entry-if (some f) = refl
 
 module _ (L : Ledger) where
   pub named-is : (name : List ℕ) → slotNamed L name ≡ fileNamed (catalogue L) name
@@ -62,9 +62,9 @@ module _ (L : Ledger) where
   unfolding unheldExtent freeExtent catalogue
   unheld-is = first-ext _ _ (usable (L .geometry)) (λ e l. unheld-if L e (holderOf L e))
 
-  pub ids-is : (id : ℕ) → some (λ i. holdsId id (L .slots i)) (L .geometry .files) ≡ some (λ i. hasId id (catalogue L .entries i)) (L .geometry .files)
+  pub ids-is : (id : ℕ) → anyBelow (λ i. holdsId id (L .slots i)) (L .geometry .files) ≡ anyBelow (λ i. hasId id (catalogue L .entries i)) (L .geometry .files)
   unfolding catalogue
-  ids-is id = some-ext _ _ (L .geometry .files) (λ i l. id-if id (L .slots i))
+  ids-is id = anyBelow-ext _ _ (L .geometry .files) (λ i l. id-if id (L .slots i))
 
   pub entry-is : (i : FileNumber) → fileOr (L .slots i) .entry ≡ entryOf (catalogue L) i
   unfolding entryOf catalogue
@@ -72,7 +72,7 @@ module _ (L : Ledger) where
 
   pub file-is : (name : List ℕ) → fileOf L name ≡ fileOr (L .slots (indexOf (fileNamed (catalogue L) name)))
   unfolding fileOf
-  file-is name = ap (λ (p : Place). fileOr (L .slots (indexOf p))) (named-is name)
+  file-is name = ap (λ (p : Lowest). fileOr (L .slots (indexOf p))) (named-is name)
 
   pub entry-named : (name : List ℕ) → fileOf L name .entry ≡ entryOf (catalogue L) (indexOf (fileNamed (catalogue L) name))
   entry-named name = ap (λ (f : File). f .entry) (file-is name) ∙ entry-is (indexOf (fileNamed (catalogue L) name))
@@ -81,7 +81,7 @@ module _ (L : Ledger) where
 
 pub name-is : (name : List ℕ) → unfitName name ≡ badName name
 unfolding unfitName badName hasZero
-name-is name = ap (λ (b : Bool). b || some (λ k. eqb (getD name k 0) 0) (length name)) (bounds (length name))
+name-is name = ap (λ (b : Bool). b || anyBelow (λ k. eqb (getD name k 0) 0) (length name)) (bounds (length name))
   where
     none-if : (n : ℕ) → eqb n 0 ≡ ltb n 1
     none-if zero = refl
@@ -91,12 +91,12 @@ name-is name = ap (λ (b : Bool). b || some (λ k. eqb (getD name k 0) 0) (lengt
     bounds n = ap₂ (λ a b. a || b) (none-if n ∙ sym (not-leb 1 n)) (sym (not-leb n longestName)) ∙ sym (not-and (leb 1 n) (leb n longestName))
 
 pub zeros-are : (n : ℕ) → zeroBytes n ≡ zeros n
-unfolding zeroBytes tab run
+unfolding zeroBytes tabulate bytesFrom
 zeros-are zero = refl
 zeros-are (suc n) = ap (λ (l : List ℕ). l ++ (0 ∷ [])) (zeros-are n)
 
 pub spanned-are : (offset n : ℕ) → n ≢ 0 → spannedSectors offset n ≡ touchedSectors offset n
-spanned-are offset n some = omega arith
+spanned-are offset n touches = omega arith
 
 -- ---- its refusals
 

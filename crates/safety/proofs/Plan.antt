@@ -14,7 +14,7 @@ use borrow.Author.Tests.{ne-eqb}
 use Rattle.model.specs.declared.Geometry.{Geometry}
 use Rattle.model.specs.declared.State.the-variants.{Waiting}
 use Rattle.model.specs.Bytes.{beAt}
-use Rattle.model.specs.Search.{tab, scan, some}
+use Rattle.model.specs.Search.{tabulate, scan, anyBelow}
 use Rattle.model.specs.Geometry.{superblockAt, extentSectors, tableSectors, reserveExtents, journalAt, tableAt, dataAt, reserveAt, volumeSectors}
 use Rattle.model.specs.Disk.{Disk}
 use Rattle.model.specs.WriteList.{barrierNumber, sectorsOf, Record, sectorWrite, barrier, Plan, Group, staging, copies, journalOf, groupA}
@@ -22,9 +22,9 @@ use Rattle.model.specs.Superblock.{journalLength, withJournalLength, stateOf, s
 use Rattle.model.specs.Journal.{sourceAt, targetAt, journalSectors, journalSector}
 use Rattle.model.specs.Recovery.{isData, isMetadata, goodEntry, replayedSector, replayed, badJournal, replayGroups}
 use Rattle.laws.proofs.Booleans.{range-yes, range-no, and-yes, or-left, or-right}
-use Rattle.laws.proofs.Search.{every-yes, some-no, getD-tab0, tab-ext, flat-ext}
-use Rattle.safety.proofs.Apply.{over, apply, hits, over-append, over-miss, over-skip, over-none, All, all-map, all-at, hits-append, all-miss, tab-miss, tab-at, Own}
-use Rattle.safety.proofs.Journal.{packed-source, packed-target, Rising, rising-lt, picked, flat-picked, made, made-picked}
+use Rattle.laws.proofs.Search.{allBelow-yes, anyBelow-no, getD-tab0, tabulate-ext, concatenated-ext}
+use Rattle.safety.proofs.Apply.{over, apply, hits, over-append, over-miss, over-skip, over-none, All, all-map, all-at, hits-append, all-miss, tabulate-miss, tabulate-at, Own}
+use Rattle.safety.proofs.Journal.{packed-source, packed-target, Rising, rising-lt, picked, concatenated-picked, made, made-picked}
 use Rattle.safety.proofs.Superblock.{journalLength-with, with-with, state-waiting, Volume, volume-with, recovers-by, Recovers}
 
 -- ---- areas
@@ -110,22 +110,22 @@ module _ (g : Geometry) (p : Plan) where
   journalContents j = journalSector (λ k. getD (staging g (length (p .targets))) k 0) (λ k. getD (sectorsOf (p .targets)) k 0) (length (p .targets)) j
 
   abbrev pub copyWrites : Group
-  copyWrites = tab (λ k. sectorWrite (reserveAt g + k) (copyContents k)) 0 (length (p .targets))
+  copyWrites = tabulate (λ k. sectorWrite (reserveAt g + k) (copyContents k)) 0 (length (p .targets))
 
   abbrev pub journalWrites : Group
-  journalWrites = tab (λ j. sectorWrite (journalAt g + j) (journalContents j)) 0 (journalSectors (length (p .targets)))
+  journalWrites = tabulate (λ j. sectorWrite (journalAt g + j) (journalContents j)) 0 (journalSectors (length (p .targets)))
 
 module _ (g : Geometry) (p : Plan) where
   copies-are : copies (staging g (length (p .targets))) (p .targets) ≡ copyWrites g p
   unfolding copies copyContents
   copies-are =
-      tab-ext (λ k. sectorWrite (getD (staging g (length (p .targets))) k 0) (copyContents g p k)) (λ k. sectorWrite (reserveAt g + k) (copyContents g p k)) 0 0
+      tabulate-ext (λ k. sectorWrite (getD (staging g (length (p .targets))) k 0) (copyContents g p k)) (λ k. sectorWrite (reserveAt g + k) (copyContents g p k)) 0 0
       (length (p .targets)) (λ k h. rw zero-add (ap (λ s. sectorWrite s (copyContents g p k)) (stage-at g p k h)))
 
   journal-is : journalOf g (staging g (length (p .targets))) (sectorsOf (p .targets)) ≡ journalWrites g p
   unfolding journalOf journalContents
   journal-is =
-      ap (λ n. tab (λ j. sectorWrite (journalAt g + j) (journalSector (λ k. getD (staging g (length (p .targets))) k 0) (λ k. getD (sectorsOf (p .targets)) k 0) n j)) 0 (journalSectors n))
+      ap (λ n. tabulate (λ j. sectorWrite (journalAt g + j) (journalSector (λ k. getD (staging g (length (p .targets))) k 0) (λ k. getD (sectorsOf (p .targets)) k 0) n j)) 0 (journalSectors n))
       (length-map (p .targets) (λ (r : Record). r .sector))
 
   pub A-is : A g p ≡ p .dataSectors ++ copyWrites g p ++ journalWrites g p
@@ -186,14 +186,14 @@ module _ (g : Geometry) (p : Plan) (geo : UsableGeometry g) (ok : WellFormed g p
   pub journal-miss : (j : ℕ) → (journalAt g ≤ j → j < journalAt g + 32 → ⊥) → hits (journalWrites g p) j ≡ false
   journal-miss j h =
       let few : journalSectors (length (p .targets)) ≤ 32 = journal-few in
-      tab-miss (journalAt g) (journalContents g p) (journalSectors (length (p .targets))) j (λ a b. h a (omega arith))
+      tabulate-miss (journalAt g) (journalContents g p) (journalSectors (length (p .targets))) j (λ a b. h a (omega arith))
 
   pub copies-miss : (j : ℕ) → (reserveAt g ≤ j → j < volumeSectors g → ⊥) → hits (copyWrites g p) j ≡ false
   copies-miss j h =
       let few : length (p .targets) ≤ tableSectors g + 2 = ok .few in
       let holds : tableSectors g + 2 ≤ reserveExtents g * extentSectors g = geo .holds in
       let e : volumeSectors g ≡ reserveAt g + reserveExtents g * extentSectors g = volume-is g geo in
-      tab-miss (reserveAt g) (copyContents g p) (length (p .targets)) j (λ a b. h a (omega arith))
+      tabulate-miss (reserveAt g) (copyContents g p) (length (p .targets)) j (λ a b. h a (omega arith))
 
   -- outside journal, data area and reserve group A writes nothing
   pub A-miss : (j : ℕ) → (journalAt g ≤ j → j < journalAt g + 32 → ⊥) → (dataAt g ≤ j → j < volumeSectors g → ⊥) → hits (A g p) j ≡ false
@@ -220,10 +220,10 @@ module _ (g : Geometry) (p : Plan) (geo : UsableGeometry g) (ok : WellFormed g p
     committed-copy k h =
         committed-other (reserveAt g + k) (λ e. omega arith)
         ∙ over-miss (journalWrites g p) _ _ (journal-miss (reserveAt g + k) (λ a b. omega arith))
-        ∙ tab-at (reserveAt g) (copyContents g p) (length (p .targets)) k _ h
+        ∙ tabulate-at (reserveAt g) (copyContents g p) (length (p .targets)) k _ h
 
     committed-journal : (i : ℕ) → i < journalSectors (length (p .targets)) → committed g d0 p (journalAt g + i) ≡ journalContents g p i
-    committed-journal i h = committed-other (journalAt g + i) (λ e. omega arith) ∙ tab-at (journalAt g) (journalContents g p) (journalSectors (length (p .targets))) i _ h
+    committed-journal i h = committed-other (journalAt g + i) (λ e. omega arith) ∙ tabulate-at (journalAt g) (journalContents g p) (journalSectors (length (p .targets))) i _ h
 
     module _ (d : Disk) (w : Pending g d0 p d) where
       pub pending-zero : d 0 ≡ withJournalLength (length (p .targets)) (d0 superblockAt)
@@ -281,23 +281,23 @@ module _ (g : Geometry) (p : Plan) (geo : UsableGeometry g) (ok : WellFormed g p
       replayed-is : replayed g d (length (p .targets)) ≡ p .targets
       unfolding replayed
       replayed-is =
-          flat-ext (replayedSector g d (length (p .targets))) (picked (p .targets)) 0 (dataAt g) (λ t a b. entry-is t)
-          ∙ flat-picked (dataAt g) 0 (p .targets) (ok .rising)
+          concatenated-ext (replayedSector g d (length (p .targets))) (picked (p .targets)) 0 (dataAt g) (λ t a b. entry-is t)
+          ∙ concatenated-picked (dataAt g) 0 (p .targets) (ok .rising)
           (all-map (Metadata g) (λ x. x .sector < 0 + dataAt g) (λ x h. let l : x .sector < dataAt g = metadata-lt g (x .sector) h in omega arith) (p .targets) (ok .metadata))
 
       good : (k : ℕ) → k < length (p .targets) → goodEntry g d k ≡ true
       unfolding goodEntry isData
       good k h =
           let l : reserveAt g + k < volumeSectors g = reserve-lt k h in
-          let once : some (λ j. eqb (targetAt g d j) (targetAt g d k)) k ≡ false =
-          some-no (λ j. eqb (targetAt g d j) (targetAt g d k)) k
+          let once : anyBelow (λ j. eqb (targetAt g d j) (targetAt g d k)) k ≡ false =
+          anyBelow-no (λ j. eqb (targetAt g d j) (targetAt g d k)) k
           (λ j q.
           let jn : j < length (p .targets) = omega arith in
           let r : (getD (p .targets) j barrier) .sector < (getD (p .targets) k barrier) .sector = rising-lt (p .targets) 0 j k barrier (ok .rising) q h in
           let ej = target-is j jn in
           let ek = target-is k h in
           ne-eqb (targetAt g d j) (targetAt g d k) (λ z. omega arith)) in
-          and-yes _ (not (some (λ j. eqb (targetAt g d j) (targetAt g d k)) k))
+          and-yes _ (not (anyBelow (λ j. eqb (targetAt g d j) (targetAt g d k)) k))
           (and-yes _ (isMetadata g (targetAt g d k))
           (ap (λ s. leb (dataAt g) s && ltb s (volumeSectors g)) (source-is k h) ∙ range-yes (dataAt g) (volumeSectors g) (reserveAt g + k) (omega arith) l)
           (ap (isMetadata g) (target-is k h) ∙ all-at (Metadata g) (p .targets) k barrier (ok .metadata) h))
@@ -312,7 +312,7 @@ module _ (g : Geometry) (p : Plan) (geo : UsableGeometry g) (ok : WellFormed g p
           let len-is : journalLength (d superblockAt) ≡ n = ap journalLength pending-zero ∙ journalLength-with n (d0 superblockAt) sec (omega arith) in
           let st : stateOn d ≡ Waiting n = ap stateOf len-is ∙ state-waiting n (ok .nonempty) (omega arith) in
           let vol : Volume g len (d superblockAt) = rw pending-zero (volume-with g n len (d0 superblockAt) v) in
-          let bad : badJournal g d (Waiting n) ≡ false = ap not (every-yes (goodEntry g d) n good) in
+          let bad : badJournal g d (Waiting n) ≡ false = ap not (allBelow-yes (goodEntry g d) n good) in
           let gs : replayGroups g d (Waiting n) ≡ p .targets ∷ (clear g d0 p ∷ []) ∷ [] =
           ap₂ (λ (c : Group) (s : List ℕ). c ∷ (sectorWrite superblockAt s ∷ []) ∷ []) replayed-is (ap (withJournalLength 0) pending-zero ∙ with-with 0 n (d0 superblockAt)) in
           recovers-by g len d (Waiting n) _ vol st refl bad gs

@@ -4,7 +4,7 @@ use Prim.Native.Nat.{ℕ, zero, suc, _+_, _*_, _/_, _%_, _≤_, _<_}
 use mathlib.Core.Path.{_≡_, refl, sym, ap, ap₂, _∙_, subst, fun-ext}
 use mathlib.Core.Bool.{Bool, true, false, cond, not, _&&_, _||_}
 use mathlib.Core.List.{List, []}
-use mathlib.Core.Option.{Option, none, some as just}
+use mathlib.Core.Option.{Option, none, some}
 use native.Mathlib.Omega.{arith}
 use native.Mathlib.Nat.{mod-lt, mul-le-mul-right, suc-mul}
 use lib.Dec.{eqb, ltb}
@@ -19,12 +19,12 @@ use Rattle.model.specs.WriteList.{stored, Plan, Group}
 use Rattle.model.specs.Superblock.{geometryIn}
 use Rattle.model.specs.Root.{rootIn}
 use Rattle.model.specs.Entry.{Entry, entryIn, isOccupied}
-use Rattle.model.specs.Table.{freeFile, tablePlace, tableSectorOf, tableFile, tableOffset}
+use Rattle.model.specs.Table.{freeFile, tableEntryStart, tableSectorOf, tableFile, tableOffset}
 use Rattle.model.specs.Catalogue.{Catalogue, Owner, catalogueOf, isPart, extentOf, sectorOf, fileByte, fileBytes}
 use Rattle.model.specs.Faults.{fault21}
 use Rattle.model.specs.Opened.{Bounded}
 use Rattle.model.specs.Ledger.{Ledger}
-use Rattle.laws.proofs.Search.{tab-ext}
+use Rattle.laws.proofs.Search.{tabulate-ext}
 use Rattle.safety.proofs.Searches.{index-lt}
 use Rattle.safety.proofs.Apply.{over, over-none, kept-nil}
 use Rattle.safety.proofs.Plan.{UsableGeometry, WellFormed, A}
@@ -48,21 +48,21 @@ module _ (g : Geometry) (geo : UsableGeometry g) where
 -- ---- the catalogue, slot by slot
 
 abbrev pub slotIn : Geometry → List ℕ → ℕ → Option Entry
-slotIn g s i = cond (ltb i (g .files) && isOccupied s) (just (entryIn s)) none
+slotIn g s i = cond (ltb i (g .files) && isOccupied s) (some (entryIn s)) none
 
 abbrev pub ownerBy : Bool → ℕ → ℕ → Option Owner
-ownerBy b f o = cond (b && not (eqb f freeFile)) (just (record { file = f; offset = o })) none
+ownerBy b f o = cond (b && not (eqb f freeFile)) (some (record { file = f; offset = o })) none
 
 abbrev ownerIn : Geometry → ℕ → ℕ → ℕ → Option Owner
 ownerIn g f o e = ownerBy (ltb e (g .extents)) f o
 
 file-keep : (g : Geometry) (d d′ : Disk) (e : ℕ) → d′ (tableSectorOf g e) ≡ d (tableSectorOf g e) → tableFile g d′ e ≡ tableFile g d e
 unfolding tableFile
-file-keep g d d′ e h = ap (λ (s : List ℕ). beAt s (tablePlace e) 2) h
+file-keep g d d′ e h = ap (λ (s : List ℕ). beAt s (tableEntryStart e) 2) h
 
 offset-keep : (g : Geometry) (d d′ : Disk) (e : ℕ) → d′ (tableSectorOf g e) ≡ d (tableSectorOf g e) → tableOffset g d′ e ≡ tableOffset g d e
 unfolding tableOffset
-offset-keep g d d′ e h = ap (λ (s : List ℕ). beAt s (tablePlace e + 2) 2) h
+offset-keep g d d′ e h = ap (λ (s : List ℕ). beAt s (tableEntryStart e + 2) 2) h
 
 module _ (g : Geometry) (d d′ : Disk) (eg : geometryIn (d superblockAt) ≡ g) (eg′ : geometryIn (d′ superblockAt) ≡ g) where
   pub entry-is : (i : ℕ) → catalogueOf d .entries i ≡ slotIn g (d (entryAt i)) i
@@ -79,8 +79,8 @@ module _ (g : Geometry) (d d′ : Disk) (eg : geometryIn (d superblockAt) ≡ g)
       ap (λ (x : Geometry). slotIn x (d′ (entryAt i)) i) eg′ ∙ go (ltb i (g .files)) refl ∙ sym (ap (λ (x : Geometry). slotIn x (d (entryAt i)) i) eg)
     where
       go : (b : Bool) → ltb i (g .files) ≡ b
-          → cond (b && isOccupied (d′ (entryAt i))) (just (entryIn (d′ (entryAt i)))) none ≡ cond (b && isOccupied (d (entryAt i))) (just (entryIn (d (entryAt i)))) none
-      go true e = ap (λ (s : List ℕ). cond (isOccupied s) (just (entryIn s)) none) (h (ltb-true i (g .files) e))
+          → cond (b && isOccupied (d′ (entryAt i))) (some (entryIn (d′ (entryAt i)))) none ≡ cond (b && isOccupied (d (entryAt i))) (some (entryIn (d (entryAt i)))) none
+      go true e = ap (λ (s : List ℕ). cond (isOccupied s) (some (entryIn s)) none) (h (ltb-true i (g .files) e))
       go false e = refl
 
   pub table-keep : (e : ℕ) → (e < g .extents → d′ (tableSectorOf g e) ≡ d (tableSectorOf g e)) → catalogueOf d′ .table e ≡ catalogueOf d .table e
@@ -113,7 +113,7 @@ pub bytes-keep-at : (c : Catalogue) (d d′ : Disk) (i off n : ℕ) → ((k : �
     → fileBytes c d′ i off n ≡ fileBytes c d i off n
 unfolding fileBytes fileByte
 bytes-keep-at c d d′ i off n h =
-    tab-ext (λ k. getD (d′ (sectorOf c i (k / 512))) (k % 512) 0) (λ k. getD (d (sectorOf c i (k / 512))) (k % 512) 0) off off n
+    tabulate-ext (λ k. getD (d′ (sectorOf c i (k / 512))) (k % 512) 0) (λ k. getD (d (sectorOf c i (k / 512))) (k % 512) 0) off off n
     (λ k l. ap (λ (s : List ℕ). getD s ((off + k) % 512) 0) (h k l))
 
 pub bytes-keep : (c : Catalogue) (d d′ : Disk) (i off n : ℕ) → Bounded (c .geometry)

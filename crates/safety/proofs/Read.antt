@@ -3,14 +3,14 @@ use Prim.Native.Nat.{ℕ, zero, suc, _+_, _≤_}
 use mathlib.Core.Path.{_≡_, refl, sym, ap, ap₂, _∙_}
 use mathlib.Core.Bool.{Bool, true, false, cond, false≢true}
 use mathlib.Core.List.{List, [], _∷_, _++_}
-use mathlib.Core.Option.{Option, none, some as just}
+use mathlib.Core.Option.{Option, none, some}
 use native.Mathlib.Omega.{arith}
 use lib.ListN.{length}
 use borrow.Author.Tests.{ltb-false, not-false}
 use Rattle.model.specs.declared.BytesRead.{BytesRead}
 use Rattle.model.specs.declared.Verdict.{Verdict}
-use Rattle.model.specs.Bytes.{run}
-use Rattle.model.specs.Search.{tab, isAt, indexOf}
+use Rattle.model.specs.Bytes.{bytesFrom}
+use Rattle.model.specs.Search.{tabulate, isAt, indexOf}
 use Rattle.model.specs.Disk.{Disk, view}
 use Rattle.model.specs.Catalogue.{Catalogue, catalogueOf, hasName, fileNamed, entryOf, entryOr, fileByte, fileBytes}
 use Rattle.model.specs.Refusals.{verdictOf, andThen, isDone}
@@ -23,27 +23,27 @@ use Rattle.safety.proofs.Searches.{place-found}
 use Rattle.safety.proofs.Rep.{Rep, cat-is, opens}
 use Rattle.safety.proofs.Changing.{Passed, passed-by, refuses}
 
-run-tab : (f : ℕ → ℕ) (size off n : ℕ) → off + n ≤ size → run (tab f 0 size) off n ≡ tab f off n
-unfolding run tab
-run-tab f size off zero h = refl
-run-tab f size off (suc n) h = ap₂ (λ l x. l ++ (x ∷ [])) (run-tab f size off n (omega arith)) (getD-tab0 f size (off + n) 0 (omega arith))
+bytesFrom-tabulate : (f : ℕ → ℕ) (size off n : ℕ) → off + n ≤ size → bytesFrom (tabulate f 0 size) off n ≡ tabulate f off n
+unfolding bytesFrom tabulate
+bytesFrom-tabulate f size off zero h = refl
+bytesFrom-tabulate f size off (suc n) h = ap₂ (λ l x. l ++ (x ∷ [])) (bytesFrom-tabulate f size off n (omega arith)) (getD-tab0 f size (off + n) 0 (omega arith))
 
-pub bytes-from : (c : Catalogue) (d : Disk) (i size off n : ℕ) → off + n ≤ size → run (fileBytes c d i 0 size) off n ≡ fileBytes c d i off n
+pub bytes-from : (c : Catalogue) (d : Disk) (i size off n : ℕ) → off + n ≤ size → bytesFrom (fileBytes c d i 0 size) off n ≡ fileBytes c d i off n
 unfolding fileBytes
-bytes-from c d i size off n h = run-tab (fileByte c d i) size off n h
+bytes-from c d i size off n h = bytesFrom-tabulate (fileByte c d i) size off n h
 
-both-none : (c : Catalogue) (d : Disk) (i off : ℕ) (b : List ℕ) → fileBytes c d i off 0 ≡ run b off 0
-unfolding fileBytes tab run
+both-none : (c : Catalogue) (d : Disk) (i off : ℕ) (b : List ℕ) → fileBytes c d i off 0 ≡ bytesFrom b off 0
+unfolding fileBytes tabulate bytesFrom
 both-none c d i off b = refl
 
 -- the slot of a name that is there
-pub file-there : (o : Option File) (name : List ℕ) → hasName name (entryOfFile o) ≡ true → o ≡ just (fileOr o)
+pub file-there : (o : Option File) (name : List ℕ) → hasName name (entryOfFile o) ≡ true → o ≡ some (fileOr o)
 file-there none name e = absurd (false≢true e)
-file-there (just f) name e = refl
+file-there (some f) name e = refl
 
 pub size-is : (o : Option File) → entryOr (entryOfFile o) .size ≡ fileOr o .entry .size
 size-is none = refl
-size-is (just f) = refl
+size-is (some f) = refl
 
 module _ (L : Ledger) (img : List ℕ) (rep : Rep L img) (name : List ℕ) (offset asked room : ℕ) where
   abbrev c : Catalogue
@@ -65,7 +65,7 @@ module _ (L : Ledger) (img : List ℕ) (rep : Rep L img) (name : List ℕ) (offs
   unfolding readAnswer
   answer-is = λ k. let x = cat-is L img rep k in readBy (andThen (opens L img rep k) (verdictOf (readConditions x name offset asked room))) x name offset asked
 
-  found : isAt (fileNamed (catalogue L) name) ≡ true → L .slots i ≡ just f
+  found : isAt (fileNamed (catalogue L) name) ≡ true → L .slots i ≡ some f
   unfolding fileNamed catalogue
   found h = file-there (L .slots i) name (place-found (λ k. hasName name (entryOfFile (L .slots k))) (L .geometry .files) h .1)
 
@@ -78,22 +78,22 @@ module _ (L : Ledger) (img : List ℕ) (rep : Rep L img) (name : List ℕ) (offs
   refusing = refl
 
   -- of the n bytes that are given
-  given-bytes : (n : ℕ) → answered .count ≡ n → fileBytes (catalogueOf (view img)) (view img) i offset n ≡ run (f .bytes) offset n
+  given-bytes : (n : ℕ) → answered .count ≡ n → fileBytes (catalogueOf (view img)) (view img) i offset n ≡ bytesFrom (f .bytes) offset n
   unfolding readBy readConditions
   given-bytes n e = go (isDone v) refl e
     where
       go : (b : Bool) → isDone v ≡ b → cond b (record { verdict = v; count = readCount (sizeNamed c name) offset asked }) (notRead v) .count ≡ n
-          → fileBytes (catalogueOf (view img)) (view img) i offset n ≡ run (f .bytes) offset n
+          → fileBytes (catalogueOf (view img)) (view img) i offset n ≡ bytesFrom (f .bytes) offset n
       go false q k =
           let z : n ≡ 0 = sym k in
-          ap (fileBytes (catalogueOf (view img)) (view img) i offset) z ∙ both-none (catalogueOf (view img)) (view img) i offset (f .bytes) ∙ ap (run (f .bytes) offset) (sym z)
+          ap (fileBytes (catalogueOf (view img)) (view img) i offset) z ∙ both-none (catalogueOf (view img)) (view img) i offset (f .bytes) ∙ ap (bytesFrom (f .bytes) offset) (sym z)
       go true q k =
           let p : Passed (readConditions c name offset asked room) = passed-by (readConditions c name offset asked room) refusing q in
           let there = found (not-false (isAt (fileNamed c name)) (p .1 .0)) in
           let size : sizeNamed c name ≡ f .entry .size = size-of in
           let le : offset ≤ sizeNamed c name = ltb-false (sizeNamed c name) offset (p .1 .1 .0) in
           let h : offset + n ≤ f .entry .size = omega arith in
-          sym (bytes-from (catalogueOf (view img)) (view img) i (f .entry .size) offset n h) ∙ ap (λ (b : List ℕ). run b offset n) (rep .says .bytes i f there)
+          sym (bytes-from (catalogueOf (view img)) (view img) i (f .entry .size) offset n h) ∙ ap (λ (b : List ℕ). bytesFrom b offset n) (rep .says .bytes i f there)
 
   -- as the ledger's words say it
   conditions-are : v ≡ verdictOf (verdicts (step (read name offset asked room) L .refusals))
@@ -103,12 +103,12 @@ module _ (L : Ledger) (img : List ℕ) (rep : Rep L img) (name : List ℕ) (offs
   abbrev n : ℕ
   n = readCount (sizeNamed (catalogue L) name) offset asked
 
-  reply-is : gave (record { verdict = numbered 0; count = n }) (run (f .bytes) offset n) ≡ step (read name offset asked room) L .reply
+  reply-is : gave (record { verdict = numbered 0; count = n }) (bytesFrom (f .bytes) offset n) ≡ step (read name offset asked room) L .reply
   unfolding sizeNamed step
   reply-is = rw (file-is L name, entry-is L i)
 
-  given-none : (b : Bool) → run (f .bytes) offset (cond b (record { verdict = v; count = n }) (notRead v) .count) ≡ cond b (run (f .bytes) offset n) []
-  unfolding run
+  given-none : (b : Bool) → bytesFrom (f .bytes) offset (cond b (record { verdict = v; count = n }) (notRead v) .count) ≡ cond b (bytesFrom (f .bytes) offset n) []
+  unfolding bytesFrom
   given-none true = refl
   given-none false = refl
 
@@ -120,5 +120,5 @@ module _ (L : Ledger) (img : List ℕ) (rep : Rep L img) (name : List ℕ) (offs
       ∙ ap (λ (x : Catalogue). fileBytes (catalogueOf (view img)) (view img) (indexOf (fileNamed x name)) offset (answered .count)) (cat-is L img rep)
       ∙ given-bytes (answered .count) refl ∙ given-none (isDone v))
       ∙ answers (step (read name offset asked room) L)
-      (λ b w. gave (cond b (record { verdict = w; count = n }) (notRead w)) (cond b (run (f .bytes) offset n) []))
+      (λ b w. gave (cond b (record { verdict = w; count = n }) (notRead w)) (cond b (bytesFrom (f .bytes) offset n) []))
       reply-is (λ m. ap (refused m) reply-is) v conditions-are

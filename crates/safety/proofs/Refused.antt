@@ -10,7 +10,7 @@ use borrow.Author.Tests.{ne-eqb}
 use Rattle.model.specs.declared.Verdict.{Verdict}
 use Rattle.model.specs.declared.BytesRead.{BytesRead}
 use Rattle.model.specs.Bytes.{put}
-use Rattle.model.specs.Search.{tab, indexOf}
+use Rattle.model.specs.Search.{tabulate, indexOf}
 use Rattle.model.specs.Disk.{Disk, view}
 use Rattle.model.specs.Refusals.{Conditions, verdictOf, andThen, given, isDone, judged}
 use Rattle.model.specs.Catalogue.{catalogueOf, fileNamed, entryOf, fileBytes}
@@ -85,7 +85,7 @@ module _ (img : List ℕ) (ne : checkAnswer (length img) (view img) .verdict .nu
       ∙ given-refused v _ notRead no
 
   gives-nothing : (name : List ℕ) (offset asked : ℕ) (out : List ℕ) → readOutput (length img) (view img) name offset asked out ≡ out
-  unfolding readOutput readGives fileBytes tab
+  unfolding readOutput readGives fileBytes tabulate
   gives-nothing name offset asked out =
       ap (λ (r : BytesRead). put out 0 (fileBytes (catalogueOf d) d (indexOf (fileNamed (catalogueOf d) name)) offset (r .count))) (refuses-read name offset asked (length out))
       ∙ put-nil out 0

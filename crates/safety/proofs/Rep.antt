@@ -5,12 +5,12 @@ use mathlib.Core.Path.{_≡_, refl, sym, ap, _∙_, fun-ext}
 use mathlib.Core.Bool.{Bool, true, false, cond, not, _&&_, _||_, true≢false}
 use mathlib.Core.List.{List, []}
 use lib.ListN.{length}
-use mathlib.Core.Option.{some as just, Option, none, Option·none-ne-some}
+use mathlib.Core.Option.{some, Option, none, Option·none-ne-some}
 use lib.Dec.{eqb, ltb}
 use borrow.Author.Tests.{eqb-true, lt-ltb}
 use Rattle.model.specs.declared.Geometry.{Geometry}
 use Rattle.model.specs.declared.Soundness.the-variants.{Sound}
-use Rattle.model.specs.declared.Place.the-variants.{At}
+use Rattle.model.specs.declared.Lowest.the-variants.{At}
 use Rattle.model.specs.declared.Verdict.{Verdict}
 use Rattle.model.specs.Bytes.{numberIn}
 use Rattle.model.specs.Search.{first, isAt, indexOf}
@@ -25,11 +25,11 @@ use Rattle.model.specs.Refusals.{verdictOf, andThen, given, done, refusal, stat
 use Rattle.model.specs.Summary.{noSummary, summaryAnswer, checkAnswer}
 use Rattle.model.specs.Find.{nameConditions, foundBy, findAnswer, notFound}
 use Rattle.model.specs.Listing.{listConditions, listVerdict, listedBy, copiedBy, listAnswer, listCopies, notListed}
-use Rattle.model.specs.Ledger.{Ledger, File, fileOr, placeAmong, holderOf, catalogue, summary, check, find, list, summarized, checked, found, listed, entryOfFile, entryFields, lowest, step, answer}
+use Rattle.model.specs.Ledger.{Ledger, File, fileOr, positionAmong, holderOf, catalogue, summary, check, find, list, summarized, checked, found, listed, entryOfFile, entryFields, lowest, step, answer}
 use Rattle.model.specs.Run.{volumeAnswer, onVolume}
 use Rattle.model.specs.Demand3.{Says}
 use Rattle.model.specs.Opened.{Bounded}
-use Rattle.laws.proofs.Search.{first-none, length-tab}
+use Rattle.laws.proofs.Search.{first-none, length-tabulate}
 use Rattle.safety.proofs.OwnWords.{free-if, named-is, entry-is, entry-named, named-conditions, answers}
 use Rattle.safety.proofs.Superblock.{volume-accepted}
 use Rattle.safety.proofs.Plan.{UsableGeometry}
@@ -48,14 +48,14 @@ pub record NoFaults (c : Catalogue) : Type 0 where
 
 -- slot k has extent e; no other slot has it then
 unfoldable pub holds : Ledger → ℕ → ℕ → Bool
-holds L k e = isAt (placeAmong e (fileOr (L .slots k) .extents))
+holds L k e = isAt (positionAmong e (fileOr (L .slots k) .extents))
 
 abbrev pub Disjoint : Ledger → Type 0
 Disjoint L = (k e : ℕ) → k < L .geometry .files → holds L k e ≡ true → holderOf L e ≡ At k
 
 -- a file has as many extents as its size needs
 abbrev pub Sized : Ledger → Type 0
-Sized L = (i : ℕ) (f : File) → L .slots i ≡ just f → length (f .extents) ≡ extentsFor (L .geometry) (f .entry .size)
+Sized L = (i : ℕ) (f : File) → L .slots i ≡ some f → length (f .extents) ≡ extentsFor (L .geometry) (f .entry .size)
 
 -- the image says what the ledger says, on a clean volume that plans can be carried out on, and the ledger has no fault
 pub record Rep (L : Ledger) (img : List ℕ) : Type 0 where
@@ -72,7 +72,7 @@ mark-said : (L : Ledger) (d : Disk) → geometryIn (d superblockAt) ≡ L .geome
 unfolding fault21 isOccupied catalogueOf catalogue
 mark-said L d g i l h e =
     go (eqb m 65535) (L .slots i) refl h
-    (ap (λ (b : Bool). cond (b && eqb m 65535) (just (entryIn (d (entryAt i)))) none) (sym (lt-ltb i _ l) ∙ ap (λ (x : Geometry). ltb i (x .files)) (sym g)) ∙ e)
+    (ap (λ (b : Bool). cond (b && eqb m 65535) (some (entryIn (d (entryAt i)))) none) (sym (lt-ltb i _ l) ∙ ap (λ (x : Geometry). ltb i (x .files)) (sym g)) ∙ e)
   where
     m : ℕ
     m = numberIn (d (entryAt i)) (entryField .mark)
@@ -81,10 +81,10 @@ mark-said L d g i l h e =
     free true q k = eqb-true m 0 q
     free false q k = absurd (true≢false k)
 
-    go : (b : Bool) (o : Option File) → eqb m 65535 ≡ b → not (eqb m 0 || b) ≡ false → cond b (just (entryIn (d (entryAt i)))) none ≡ entryOfFile o → m ≡ cond (isFree o) 0 65535
-    go true (just f) q k n = eqb-true m 65535 q
+    go : (b : Bool) (o : Option File) → eqb m 65535 ≡ b → not (eqb m 0 || b) ≡ false → cond b (some (entryIn (d (entryAt i)))) none ≡ entryOfFile o → m ≡ cond (isFree o) 0 65535
+    go true (some f) q k n = eqb-true m 65535 q
     go true none q k n = absurd (Option·none-ne-some _ (sym n))
-    go false (just f) q k n = absurd (Option·none-ne-some _ n)
+    go false (some f) q k n = absurd (Option·none-ne-some _ n)
     go false none q k n = free (eqb m 0) refl k
 
 pub no-mark-fault : (L : Ledger) (img : List ℕ) → Says L img → (i : ℕ) → i < L .geometry .files → fault21 (view img) i ≡ false
@@ -100,7 +100,7 @@ pub says-of : (L : Ledger) (img : List ℕ) → Ready (L .geometry) img → root
     → ((i : ℕ) → i < L .geometry .files → fault21 (view img) i ≡ false)
     → ((i : ℕ) → catalogueOf (view img) .entries i ≡ catalogue L .entries i)
     → ((e : ℕ) → catalogueOf (view img) .table e ≡ catalogue L .table e)
-    → ((i : ℕ) (f : File) → L .slots i ≡ just f → fileBytes (catalogueOf (view img)) (view img) i 0 (f .entry .size) ≡ f .bytes)
+    → ((i : ℕ) (f : File) → L .slots i ≡ some f → fileBytes (catalogueOf (view img)) (view img) i 0 (f .entry .size) ≡ f .bytes)
     → Says L img
 says-of L img ready root marks directory table bytes = record {
   volume = ready .volume .marked;
@@ -145,9 +145,9 @@ module _ (L : Ledger) (img : List ℕ) (rep : Rep L img) where
   rep-geometry = usable-geometry (L .geometry) (rep .bounded)
 
   -- a file has as many bytes as its size says
-  pub bytes-length : (i : ℕ) (f : File) → L .slots i ≡ just f → length (f .bytes) ≡ f .entry .size
+  pub bytes-length : (i : ℕ) (f : File) → L .slots i ≡ some f → length (f .bytes) ≡ f .entry .size
   unfolding fileBytes
-  bytes-length i f e = ap length (sym (rep .says .bytes i f e)) ∙ length-tab (fileByte (catalogueOf (view img)) (view img) i) 0 (f .entry .size)
+  bytes-length i f e = ap length (sym (rep .says .bytes i f e)) ∙ length-tabulate (fileByte (catalogueOf (view img)) (view img) i) 0 (f .entry .size)
 
   no-fault : firstFault (view img) ≡ Sound
   unfolding catalogue

@@ -12,11 +12,11 @@ use lib.Dec.{eqb, ltb}
 use lib.ListN.{length}
 use borrow.Author.Tests.{eqb-true, eq-eqb, ne-eqb, leb-true}
 use Rattle.model.specs.declared.Geometry.{Geometry}
-use Rattle.model.specs.declared.Place.{Place}
-use Rattle.model.specs.declared.Place.the-variants.{At}
+use Rattle.model.specs.declared.Lowest.{Lowest}
+use Rattle.model.specs.declared.Lowest.the-variants.{At}
 use Rattle.model.specs.declared.State.the-variants.{Waiting}
 use Rattle.model.specs.Bytes.{beAt}
-use Rattle.model.specs.Search.{first, some, count, flat, isAt, indexOf}
+use Rattle.model.specs.Search.{first, anyBelow, countBelow, concatenated, isAt, indexOf}
 use Rattle.model.specs.Geometry.{superblockAt, journalAt, dataAt, volumeSectors}
 use Rattle.model.specs.Disk.{Disk}
 use Rattle.model.specs.Superblock.{stateOn}
@@ -24,36 +24,36 @@ use Rattle.model.specs.Journal.{sourceAt, targetAt}
 use Rattle.model.specs.WriteList.{Record, Group, recordSize, superblockGroup, sectorWrite, closed, listLength}
 use Rattle.model.specs.Recovery.{isData, isMetadata, goodEntry, replayedSector, replayed}
 use Rattle.laws.proofs.Booleans.{and-left, and-right, or-left}
-use Rattle.laws.proofs.Search.{every-yes, some-no, some-ext, first-ext, first-none, none-at, flat-ext}
-use Rattle.laws.proofs.Seeking.{first-there, some-first}
+use Rattle.laws.proofs.Search.{allBelow-yes, anyBelow-no, anyBelow-ext, first-ext, first-none, none-at, concatenated-ext}
+use Rattle.laws.proofs.Seeking.{first-there, anyBelow-first}
 use Rattle.safety.proofs.Searches.{place-found, not-yes}
 use Rattle.safety.proofs.Apply.{over, hits, over-append, over-here, over-miss, over-none, All, all-append, all-map, all-miss}
 use Rattle.safety.proofs.Superblock.{Volume, Recovers, recovers-by}
 use Rattle.safety.proofs.Plan.{metadata-lt, metadata-no}
 use Rattle.safety.proofs.Frame.{closed-cons}
-use Rattle.laws.proofs.Count.{count-none, count-new, length-flat}
+use Rattle.laws.proofs.Count.{countBelow-none, countBelow-new, length-concatenated}
 
 -- ---- lists made sector by sector
 
-all-flat : (P : Record → Type 0) (f : ℕ → Group) (n : ℕ) → ((t : ℕ) → t < n → All P (f t)) → All P (flat f 0 n)
-unfolding flat
-all-flat P f zero h = tt
-all-flat P f (suc n) h =
-    all-append P (flat f 0 n) (f (0 + n)) (all-flat P f n (λ t l. h t (omega arith))) (rw zero-add (h n (omega arith)))
+all-concatenated : (P : Record → Type 0) (f : ℕ → Group) (n : ℕ) → ((t : ℕ) → t < n → All P (f t)) → All P (concatenated f 0 n)
+unfolding concatenated
+all-concatenated P f zero h = tt
+all-concatenated P f (suc n) h =
+    all-append P (concatenated f 0 n) (f (0 + n)) (all-concatenated P f n (λ t l. h t (omega arith))) (rw zero-add (h n (omega arith)))
 
 module _ (f : ℕ → Group) (own : (t : ℕ) → All (λ w. w .sector ≡ t) (f t)) where
-  flat-over : (n t : ℕ) (x : List ℕ) → t < n → over (flat f 0 n) t x ≡ over (f t) t x
-  unfolding flat
-  flat-over zero t x l = absurd (not-suc-le-zero l)
-  flat-over (suc n) t x l =
-      over-append (flat f 0 n) (f (0 + n)) t x ∙ ap (λ (i : ℕ). over (f i) t (over (flat f 0 n) t x)) (zero-add n) ∙ go (decLt t n) (flat-over n t x)
+  concatenated-over : (n t : ℕ) (x : List ℕ) → t < n → over (concatenated f 0 n) t x ≡ over (f t) t x
+  unfolding concatenated
+  concatenated-over zero t x l = absurd (not-suc-le-zero l)
+  concatenated-over (suc n) t x l =
+      over-append (concatenated f 0 n) (f (0 + n)) t x ∙ ap (λ (i : ℕ). over (f i) t (over (concatenated f 0 n) t x)) (zero-add n) ∙ go (decLt t n) (concatenated-over n t x)
     where
-      go : Dec (t < n) → (t < n → over (flat f 0 n) t x ≡ over (f t) t x) → over (f n) t (over (flat f 0 n) t x) ≡ over (f t) t x
+      go : Dec (t < n) → (t < n → over (concatenated f 0 n) t x ≡ over (f t) t x) → over (f n) t (over (concatenated f 0 n) t x) ≡ over (f t) t x
       go (yes h) ih = over-miss (f n) t _ (all-miss t (f n) (all-map (λ w. w .sector ≡ n) (λ w. t ≢ w .sector) (λ w e q. omega arith) (f n) (own n))) ∙ ih h
       go (no h) ih =
           let e : t ≡ n = omega arith in
-          ap (over (f n) t) (over-miss (flat f 0 n) t x (all-miss t (flat f 0 n)
-          (all-flat (λ w. t ≢ w .sector) f n (λ i k. all-map (λ w. w .sector ≡ i) (λ w. t ≢ w .sector) (λ w q z. omega arith) (f i) (own i)))))
+          ap (over (f n) t) (over-miss (concatenated f 0 n) t x (all-miss t (concatenated f 0 n)
+          (all-concatenated (λ w. t ≢ w .sector) f n (λ i k. all-map (λ w. w .sector ≡ i) (λ w. t ≢ w .sector) (λ w q z. omega arith) (f i) (own i)))))
           ∙ ap (λ (i : ℕ). over (f i) t x) (sym e)
 
 -- ---- what recovery makes of sector t
@@ -74,7 +74,7 @@ module _ (g : Geometry) (d : Disk) (n : ℕ) where
   -- every record of group C is for the target of an entry, and holds a sector of the disk
   pub replayed-by : (P : Record → Type 0) → ((k : ℕ) → k < n → P (sectorWrite (targetAt g d k) (d (sourceAt g d k)))) → All P (replayed g d n)
   unfolding replayed replayedSector
-  replayed-by P h = all-flat P (replayedSector g d n) (dataAt g) (λ t l. go t (isAt (first (λ j. eqb (targetAt g d j) t) n)) refl)
+  replayed-by P h = all-concatenated P (replayedSector g d n) (dataAt g) (λ t l. go t (isAt (first (λ j. eqb (targetAt g d j) t) n)) refl)
     where
       go : (t : ℕ) (b : Bool) → isAt (first (λ j. eqb (targetAt g d j) t) n) ≡ b
           → All P (cond b (sectorWrite t (d (sourceAt g d (indexOf (first (λ j. eqb (targetAt g d j) t) n)))) ∷ []) [])
@@ -93,10 +93,10 @@ module _ (g : Geometry) (d : Disk) (n : ℕ) where
     unfolding goodEntry
     target-metadata k l = and-right (isData g (sourceAt g d k)) _ (and-left _ _ (good k l))
 
-    pub target-once : (k : ℕ) → k < n → some (λ j. eqb (targetAt g d j) (targetAt g d k)) k ≡ false
+    pub target-once : (k : ℕ) → k < n → anyBelow (λ j. eqb (targetAt g d j) (targetAt g d k)) k ≡ false
     unfolding goodEntry
     target-once k l =
-        not-yes (some (λ j. eqb (targetAt g d j) (targetAt g d k)) k) (and-right (isData g (sourceAt g d k) && isMetadata g (targetAt g d k)) _ (good k l))
+        not-yes (anyBelow (λ j. eqb (targetAt g d j) (targetAt g d k)) k) (and-right (isData g (sourceAt g d k) && isMetadata g (targetAt g d k)) _ (good k l))
 
     target-found : (k : ℕ) → k < n → first (λ j. eqb (targetAt g d j) (targetAt g d k)) n ≡ At k
     target-found k l =
@@ -106,8 +106,8 @@ module _ (g : Geometry) (d : Disk) (n : ℕ) where
     pub replayed-at : (k : ℕ) (x : List ℕ) → k < n → over (replayed g d n) (targetAt g d k) x ≡ d (sourceAt g d k)
     unfolding replayed replayedSector
     replayed-at k x l =
-        flat-over (replayedSector g d n) replayed-own (dataAt g) (targetAt g d k) x (metadata-lt g _ (target-metadata k l))
-        ∙ ap (λ (p : Place). over (cond (isAt p) (sectorWrite (targetAt g d k) (d (sourceAt g d (indexOf p))) ∷ []) []) (targetAt g d k) x) (target-found k l)
+        concatenated-over (replayedSector g d n) replayed-own (dataAt g) (targetAt g d k) x (metadata-lt g _ (target-metadata k l))
+        ∙ ap (λ (p : Lowest). over (cond (isAt p) (sectorWrite (targetAt g d k) (d (sourceAt g d (indexOf p))) ∷ []) []) (targetAt g d k) x) (target-found k l)
         ∙ over-here (sectorWrite (targetAt g d k) (d (sourceAt g d k))) [] x ∙ over-none (targetAt g d k) (d (sourceAt g d k))
 
     pub replayed-miss : (j : ℕ) → ((k : ℕ) → k < n → targetAt g d k ≢ j) → hits (replayed g d n) j ≡ false
@@ -118,24 +118,24 @@ module _ (g : Geometry) (d : Disk) (n : ℕ) where
 
     -- recovery of such a disk has group C to list, and group D
     pub waiting-recovers : (len : ℕ) → Volume g len (d superblockAt) → stateOn d ≡ Waiting n → Recovers len d (replayed g d n ∷ superblockGroup d 0 ∷ [])
-    waiting-recovers len v st = recovers-by g len d (Waiting n) _ v st refl (ap not (every-yes (goodEntry g d) n good)) refl
+    waiting-recovers len v st = recovers-by g len d (Waiting n) _ v st refl (ap not (allBelow-yes (goodEntry g d) n good)) refl
 
     -- and n targets
-    count-targets : (m : ℕ) → m ≤ n → count (λ t. some (λ j. eqb (targetAt g d j) t) m) (dataAt g) ≡ m
-    unfolding some
-    count-targets zero l = count-none (λ t. false) (dataAt g) (some-no (λ t. false) (dataAt g) (λ k h. refl))
+    count-targets : (m : ℕ) → m ≤ n → countBelow (λ t. anyBelow (λ j. eqb (targetAt g d j) t) m) (dataAt g) ≡ m
+    unfolding anyBelow
+    count-targets zero l = countBelow-none (λ t. false) (dataAt g) (anyBelow-no (λ t. false) (dataAt g) (λ k h. refl))
     count-targets (suc m) l =
-        count-new (λ t. some (λ j. eqb (targetAt g d j) t) m) (λ t. some (λ j. eqb (targetAt g d j) t) (suc m)) (targetAt g d m) (dataAt g)
+        countBelow-new (λ t. anyBelow (λ j. eqb (targetAt g d j) t) m) (λ t. anyBelow (λ j. eqb (targetAt g d j) t) (suc m)) (targetAt g d m) (dataAt g)
         (metadata-lt g _ (target-metadata m l)) (target-once m l) (or-left _ _ (eq-eqb (targetAt g d m) (targetAt g d m) refl))
-        (λ t ne. ap (λ (b : Bool). b || some (λ j. eqb (targetAt g d j) t) m) (ne-eqb (targetAt g d m) t (λ e. ne (sym e))))
+        (λ t ne. ap (λ (b : Bool). b || anyBelow (λ j. eqb (targetAt g d j) t) m) (ne-eqb (targetAt g d m) t (λ e. ne (sym e))))
         ∙ ap suc (count-targets m (omega arith))
 
     length-replayed : length (replayed g d n) ≡ n
     unfolding replayed replayedSector
     length-replayed =
-        length-flat (replayedSector g d n) (λ t. some (λ j. eqb (targetAt g d j) t) n) (dataAt g)
+        length-concatenated (replayedSector g d n) (λ t. anyBelow (λ j. eqb (targetAt g d j) t) n) (dataAt g)
         (λ t. ap (λ (b : Bool). length (cond b (sectorWrite t (d (sourceAt g d (indexOf (first (λ j. eqb (targetAt g d j) t) n)))) ∷ []) []))
-        (sym (some-first (λ j. eqb (targetAt g d j) t) n)) ∙ length-if (some (λ j. eqb (targetAt g d j) t) n) _)
+        (sym (anyBelow-first (λ j. eqb (targetAt g d j) t) n)) ∙ length-if (anyBelow (λ j. eqb (targetAt g d j) t) n) _)
         ∙ count-targets n (omega arith)
 
     pub length-recovery : listLength (replayed g d n ∷ superblockGroup d 0 ∷ []) ≡ (n + 3) * recordSize
@@ -169,18 +169,18 @@ module _ (g : Geometry) (d : Disk) (n : ℕ) where
       unfolding goodEntry
       good-again k l =
           (λ i. isData g (source-same k l i) && isMetadata g (target-same k l i)
-          && not (some-ext (λ j. eqb (targetAt g d′ j) (targetAt g d′ k)) (λ j. eqb (targetAt g d j) (targetAt g d k)) k
+          && not (anyBelow-ext (λ j. eqb (targetAt g d′ j) (targetAt g d′ k)) (λ j. eqb (targetAt g d j) (targetAt g d k)) k
           (λ j h. ap₂ eqb (target-same j (omega arith)) (target-same k l)) i))
           ∙ good k l
 
       sector-same : (t : ℕ) → replayedSector g d′ n t ≡ replayedSector g d n t
       unfolding replayedSector
       sector-same t =
-          ap (λ (p : Place). cond (isAt p) (sectorWrite t (d′ (sourceAt g d′ (indexOf p))) ∷ []) [])
+          ap (λ (p : Lowest). cond (isAt p) (sectorWrite t (d′ (sourceAt g d′ (indexOf p))) ∷ []) [])
           (first-ext (λ j. eqb (targetAt g d′ j) t) (λ j. eqb (targetAt g d j) t) n (λ k l. ap (λ (s : ℕ). eqb s t) (target-same k l)))
           ∙ go (isAt p) refl
         where
-          p : Place
+          p : Lowest
           p = first (λ j. eqb (targetAt g d j) t) n
 
           go : (b : Bool) → isAt p ≡ b → cond b (sectorWrite t (d′ (sourceAt g d′ (indexOf p))) ∷ []) [] ≡ cond b (sectorWrite t (d (sourceAt g d (indexOf p))) ∷ []) []
@@ -189,4 +189,4 @@ module _ (g : Geometry) (d : Disk) (n : ℕ) where
 
       pub replayed-same : replayed g d′ n ≡ replayed g d n
       unfolding replayed
-      replayed-same = flat-ext (replayedSector g d′ n) (replayedSector g d n) 0 (dataAt g) (λ t a b. sector-same t)
+      replayed-same = concatenated-ext (replayedSector g d′ n) (replayedSector g d n) 0 (dataAt g) (λ t a b. sector-same t)

@@ -4,17 +4,17 @@ use Prim.Native.Nat.{ℕ, _+_, _*_, _-_, _/_, _^_, _≤_, _<_}
 use mathlib.Core.Path.{_≡_, refl, sym, ap, _∙_, subst, fun-ext}
 use mathlib.Core.Bool.{Bool, true, false, cond, _&&_}
 use mathlib.Core.List.{List, []}
-use mathlib.Core.Option.{Option, none, some as just}
+use mathlib.Core.Option.{Option, none, some}
 use native.Mathlib.Omega.{arith}
 use lib.Dec.{eqb, leb, ltb}
 use lib.ListN.{length, getD}
 use lib.Seq.{ext-getD}
 use borrow.Author.Tests.{lt-leb, lt-ltb, le-ltb, ltb-true, ltb-false, eqb-true, not-false}
-use Rattle.model.specs.Search.{tab, isAt, indexOf}
+use Rattle.model.specs.Search.{tabulate, isAt, indexOf}
 use Rattle.model.specs.Geometry.{extentsFor}
 use Rattle.model.specs.Disk.{view}
 use Rattle.model.specs.Entry.{badName}
-use Rattle.model.specs.Catalogue.{Catalogue, hasName, fileNamed, entryOf, sectorsBeyond}
+use Rattle.model.specs.Catalogue.{Catalogue, hasName, fileNamed, entryOf, sectorsFrom}
 use Rattle.model.specs.Refusals.{Conditions}
 use Rattle.model.specs.WriteList.{Plan, groupsFor, listLength, recordSize, recordCount, stored}
 use Rattle.model.specs.Read.{longestTransfer, sizeNamed}
@@ -22,8 +22,8 @@ use Rattle.model.specs.Write.{noRoom, sizeAfter, writePlanned, grows}
 use Rattle.model.specs.Resize.{zeros, shrinkPlan, resizePlanned, resizeConditions, resizeDecision}
 use Rattle.model.specs.Ledger.{Ledger, File, fileOr, entryOfFile, catalogue, resize, withFile, partlyWritten, shrunk, fileOf, freedRecords, writtenRecords, written, afterWrite, step, answer}
 use Rattle.model.specs.Run.{volumeAnswer, onVolume}
-use Rattle.laws.proofs.Bytes.{length-run}
-use Rattle.laws.proofs.Search.{length-tab, getD-tab0}
+use Rattle.laws.proofs.Bytes.{length-bytesFrom}
+use Rattle.laws.proofs.Search.{length-tabulate, getD-tab0}
 use Rattle.safety.proofs.OwnWords.{named-is, unheld-is, file-is, entry-named, name-is, zeros-are}
 use Rattle.safety.proofs.Searches.{place-found, or-right-no}
 use Rattle.safety.proofs.Plan.{A}
@@ -40,18 +40,18 @@ use Rattle.safety.proofs.Induction.{Effect}
 partly-at-end : (f : File) (offset : ℕ) (bytes : List ℕ) (mask : List Bool) → length (f .bytes) ≡ offset → partlyWritten f offset bytes mask ≡ f .bytes
 unfolding partlyWritten
 partly-at-end f offset bytes mask e =
-    ext-getD 0 (tab (λ k. byte k) 0 (length (f .bytes))) (f .bytes) (length-tab (λ k. byte k) 0 (length (f .bytes)))
-    (λ k l. let q : k < length (f .bytes) = rw (length-tab (λ k. byte k) 0 (length (f .bytes))) at l in
+    ext-getD 0 (tabulate (λ k. byte k) 0 (length (f .bytes))) (f .bytes) (length-tabulate (λ k. byte k) 0 (length (f .bytes)))
+    (λ k l. let q : k < length (f .bytes) = rw (length-tabulate (λ k. byte k) 0 (length (f .bytes))) at l in
     getD-tab0 (λ k. byte k) (length (f .bytes)) k 0 q
     ∙ ap (λ (b : Bool). cond (b && ltb k (offset + length bytes) && getD mask (k / 512 - offset / 512) false) (getD bytes (k - offset) 0) (getD (f .bytes) k 0)) (lt-leb offset k (omega arith)))
   where
     byte : ℕ → ℕ
     byte k = cond (leb offset k && ltb k (offset + length bytes) && getD mask (k / 512 - offset / 512) false) (getD bytes (k - offset) 0) (getD (f .bytes) k 0)
 
-same-slot : (L : Ledger) (i : ℕ) (f : File) → L .slots i ≡ just f → withFile L i f ≡ L
+same-slot : (L : Ledger) (i : ℕ) (f : File) → L .slots i ≡ some f → withFile L i f ≡ L
 same-slot L i f e = λ k. record { geometry = L .geometry; root = L .root; slots = fun-ext (λ j. go j (eqb j i) refl) k }
   where
-    go : (j : ℕ) (b : Bool) → eqb j i ≡ b → cond b (just f) (L .slots j) ≡ L .slots j
+    go : (j : ℕ) (b : Bool) → eqb j i ≡ b → cond b (some f) (L .slots j) ≡ L .slots j
     go j true q = sym e ∙ ap (L .slots) (sym (eqb-true j i q))
     go j false q = refl
 
@@ -87,10 +87,10 @@ module _ (L : Ledger) (img : List ℕ) (rep : Rep L img) (name : List ℕ) (z ti
       s : ℕ
       s = entryOf (catalogue L) i .size
 
-      go : (b : Bool) → listLength (groupsFor (view img) (cond b (just (shrinkPlan (catalogue L) (view img) i z time)) (writePlanned (catalogue L) i (view img) s (zeros (z - s)) time)))
-          ≡ cond b (recordCount 0 (1 + sectorsBeyond (catalogue L) i (extentsFor (catalogue L .geometry) z))) (writtenRecords L s s (z - s)) * recordSize
+      go : (b : Bool) → listLength (groupsFor (view img) (cond b (some (shrinkPlan (catalogue L) (view img) i z time)) (writePlanned (catalogue L) i (view img) s (zeros (z - s)) time)))
+          ≡ cond b (recordCount 0 (1 + sectorsFrom (catalogue L) i (extentsFor (catalogue L .geometry) z))) (writtenRecords L s s (z - s)) * recordSize
       go true = shrink-length L img i z time
-      go false = write-length L img i s (zeros (z - s)) time ∙ ap (λ m. writtenRecords L s s m * recordSize) (length-run [] 0 (z - s))
+      go false = write-length L img i s (zeros (z - s)) time ∙ ap (λ m. writtenRecords L s s m * recordSize) (length-bytesFrom [] 0 (z - s))
 
   decides : Decides L img (resize name z time room) conditions plan room records
   unfolding onVolume resizeDecision step resizeConditions sizeNamed noRoom grows catalogue
@@ -124,7 +124,7 @@ module _ (L : Ledger) (img : List ℕ) (rep : Rep L img) (name : List ℕ) (z ti
     unfolding fileNamed catalogue
     found = place-found (λ k. hasName name (entryOfFile (L .slots k))) (L .geometry .files) named
 
-    there : L .slots i ≡ just old
+    there : L .slots i ≡ some old
     there = file-there (L .slots i) name (found .1)
 
     roomy : noRoom (catalogue L) i z ≡ false
@@ -163,7 +163,7 @@ module _ (L : Ledger) (img : List ℕ) (rep : Rep L img) (name : List ℕ) (z ti
       new = withFile L i (written L i (old .entry .size) end time)
 
       end-length : length end ≡ z - old .entry .size
-      end-length = length-run [] 0 (z - old .entry .size)
+      end-length = length-bytesFrom [] 0 (z - old .entry .size)
 
       size-after : sizeAfter (catalogue L) i (old .entry .size) (length end) ≡ z
       size-after =
@@ -182,7 +182,7 @@ module _ (L : Ledger) (img : List ℕ) (rep : Rep L img) (name : List ℕ) (z ti
       kept-file : (mask : List Bool) → withFile L i (partlyWrittenFile old (old .entry .size) end mask) ≡ L
       kept-file mask =
           same-slot L i (partlyWrittenFile old (old .entry .size) end mask)
-          (there ∙ ap (λ (b : List ℕ). just (record { entry = old .entry; bytes = b; extents = old .extents }))
+          (there ∙ ap (λ (b : List ℕ). some (record { entry = old .entry; bytes = b; extents = old .extents }))
           (sym (partly-at-end old (old .entry .size) end mask (bytes-length L img rep i old there))))
 
       grow : Writes L img i (old .entry .size) end time → eqb (length end) 0 ≡ false → Carries L img (resize name z time room) q
@@ -197,7 +197,7 @@ module _ (L : Ledger) (img : List ℕ) (rep : Rep L img) (name : List ℕ) (z ti
       unfolding writePlanned
       grows-or-stays = go (eqb (length end) 0) refl
         where
-          go : (b : Bool) → eqb (length end) 0 ≡ b → Carried L img (resize name z time room) (cond b none (just q))
+          go : (b : Bool) → eqb (length end) 0 ≡ b → Carried L img (resize name z time room) (cond b none (some q))
           go true e = subst (λ (X : Ledger). Rep X img) (sym (after-is true e)) rep
           go false e =
               let l = end-length in
@@ -207,11 +207,11 @@ module _ (L : Ledger) (img : List ℕ) (rep : Rep L img) (name : List ℕ) (z ti
     carried : Carried L img (resize name z time room) (resizePlanned (catalogue L) (view img) i z time)
     unfolding resizePlanned
     carried =
-        subst (λ (s : ℕ). Carried L img (resize name z time room) (cond (ltb z s) (just (shrinkPlan (catalogue L) (view img) i z time)) (writePlanned (catalogue L) i (view img) s (zeros (z - s)) time)))
+        subst (λ (s : ℕ). Carried L img (resize name z time room) (cond (ltb z s) (some (shrinkPlan (catalogue L) (view img) i z time)) (writePlanned (catalogue L) i (view img) s (zeros (z - s)) time)))
         (sym size-of) (go (ltb z (old .entry .size)) refl)
       where
         go : (b : Bool) → ltb z (old .entry .size) ≡ b
-            → Carried L img (resize name z time room) (cond b (just (shrinkPlan (catalogue L) (view img) i z time)) (writePlanned (catalogue L) i (view img) (old .entry .size) end time))
+            → Carried L img (resize name z time room) (cond b (some (shrinkPlan (catalogue L) (view img) i z time)) (writePlanned (catalogue L) i (view img) (old .entry .size) end time))
         go true e = shrinks (ltb-true z (old .entry .size) e)
         go false e = grows-or-stays (ltb-false z (old .entry .size) e)
 

@@ -5,13 +5,13 @@ use mathlib.Core.Path.{_≡_, refl, sym, ap, ap₂, _∙_, subst, fun-ext}
 use mathlib.Core.Logic.{_≢_}
 use mathlib.Core.Bool.{Bool, true, false, cond}
 use mathlib.Core.List.{List}
-use mathlib.Core.Option.{Option, some as just}
+use mathlib.Core.Option.{Option, some}
 use lib.Dec.{eqb}
 use lib.ListN.{length, getD}
 use borrow.Author.Tests.{eqb-true, eqb-false}
 use native.Mathlib.Nat.{zero-add}
 use Rattle.model.specs.declared.Geometry.{Geometry}
-use Rattle.model.specs.Search.{tab, first, indexOf}
+use Rattle.model.specs.Search.{tabulate, first, indexOf}
 use Rattle.model.specs.Geometry.{extentSectors, usable, rootAt, entryAt, dataAt, reserveAt, extentsFor}
 use Rattle.model.specs.Disk.{Disk, view}
 use Rattle.model.specs.Root.{Root, rootIn}
@@ -29,7 +29,7 @@ pub bytes-of : (c c′ : Catalogue) (d : Disk) (i off n : ℕ) → c′ .geometr
     → fileBytes c′ d i off n ≡ fileBytes c d i off n
 unfolding fileBytes fileByte sectorOf extentOf
 bytes-of c c′ d i off n eg et =
-    ap₂ (λ (g : Geometry) (t : ℕ → ℕ → Bool). tab (λ k.
+    ap₂ (λ (g : Geometry) (t : ℕ → ℕ → Bool). tabulate (λ k.
     getD (d (dataAt g + indexOf (first (t (k / 512 / extentSectors g)) (usable g)) * extentSectors g + k / 512 % extentSectors g)) (k % 512) 0) off n)
     eg (fun-ext (λ o. fun-ext (λ e. et o e)))
 
@@ -45,13 +45,13 @@ module _ (L : Ledger) (img : List ℕ) (root : Root) (i : ℕ) (f : Option File)
     -- the table
     pub table : (e : ℕ) → catalogueOf (view out) .table e ≡ catalogue (replaced L root i f) .table e
     -- the bytes: file i's, and the sectors of all others kept
-    pub bytes : (x : File) → f ≡ just x → fileBytes (catalogueOf (view out)) (view out) i 0 (x .entry .size) ≡ x .bytes
-    pub kept : (k : ℕ) (x : File) → k ≢ i → L .slots k ≡ just x → (b : ℕ) → b < x .entry .size
+    pub bytes : (x : File) → f ≡ some x → fileBytes (catalogueOf (view out)) (view out) i 0 (x .entry .size) ≡ x .bytes
+    pub kept : (k : ℕ) (x : File) → k ≢ i → L .slots k ≡ some x → (b : ℕ) → b < x .entry .size
         → view out (sectorOf (catalogue L) k (b / 512)) ≡ view img (sectorOf (catalogue L) k (b / 512))
     -- the ledger
     pub admissible : Admissible L root i f
     pub disjoint : Disjoint (replaced L root i f)
-    pub sized : (x : File) → f ≡ just x → length (x .extents) ≡ extentsFor (L .geometry) (x .entry .size)
+    pub sized : (x : File) → f ≡ some x → length (x .extents) ≡ extentsFor (L .geometry) (x .entry .size)
 
 -- where no data sector was rewritten
 pub all-kept : (L : Ledger) (img out : List ℕ) → Rep L img → ((j : ℕ) → dataAt (L .geometry) ≤ j → j < reserveAt (L .geometry) → view out j ≡ view img j)
@@ -88,24 +88,24 @@ module _ (L : Ledger) (img : List ℕ) (rep : Rep L img) (root : Root) (i : ℕ)
   unfolding catalogueOf
   out-geometry = w .ready .volume .geometry ∙ sym (catalogue-geometry L)
 
-  bytes-other : (k : ℕ) (x : File) → k ≢ i → L .slots k ≡ just x → fileBytes (catalogueOf (view out)) (view out) k 0 (x .entry .size) ≡ x .bytes
+  bytes-other : (k : ℕ) (x : File) → k ≢ i → L .slots k ≡ some x → fileBytes (catalogueOf (view out)) (view out) k 0 (x .entry .size) ≡ x .bytes
   bytes-other k x ne e =
       bytes-of (catalogue L) (catalogueOf (view out)) (view out) k 0 (x .entry .size) out-geometry
       (λ o y. ap (isPart k o) (w .table y) ∙ part-other L root i f (w .admissible .others) k o y ne)
       ∙ bytes-keep-at (catalogue L) (view img) (view out) k 0 (x .entry .size) (λ b l. rw zero-add (w .kept k x ne e b l))
       ∙ ap (λ (c : Catalogue). fileBytes c (view img) k 0 (x .entry .size)) (sym (cat-is L img rep)) ∙ rep .says .bytes k x e
 
-  all-bytes : (k : ℕ) (x : File) → M .slots k ≡ just x → fileBytes (catalogueOf (view out)) (view out) k 0 (x .entry .size) ≡ x .bytes
+  all-bytes : (k : ℕ) (x : File) → M .slots k ≡ some x → fileBytes (catalogueOf (view out)) (view out) k 0 (x .entry .size) ≡ x .bytes
   all-bytes k x = go (eqb k i) refl
     where
-      go : (b : Bool) → eqb k i ≡ b → cond b f (L .slots k) ≡ just x → fileBytes (catalogueOf (view out)) (view out) k 0 (x .entry .size) ≡ x .bytes
+      go : (b : Bool) → eqb k i ≡ b → cond b f (L .slots k) ≡ some x → fileBytes (catalogueOf (view out)) (view out) k 0 (x .entry .size) ≡ x .bytes
       go true e q = ap (λ n. fileBytes (catalogueOf (view out)) (view out) n 0 (x .entry .size)) (eqb-true k i e) ∙ w .bytes x q
       go false e q = bytes-other k x (eqb-false k i e) q
 
   all-sized : Sized M
   all-sized k x = go (eqb k i)
     where
-      go : (b : Bool) → cond b f (L .slots k) ≡ just x → length (x .extents) ≡ extentsFor (L .geometry) (x .entry .size)
+      go : (b : Bool) → cond b f (L .slots k) ≡ some x → length (x .extents) ≡ extentsFor (L .geometry) (x .entry .size)
       go true q = w .sized x q
       go false q = rep .sized k x q
 

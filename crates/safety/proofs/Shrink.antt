@@ -5,27 +5,27 @@ use mathlib.Core.Path.{_≡_, refl, sym, ap, ap₂, _∙_, subst, fun-ext}
 use mathlib.Core.Logic.{_≢_}
 use mathlib.Core.Bool.{Bool, true, false, cond, not, _&&_}
 use mathlib.Core.List.{List, _∷_}
-use mathlib.Core.Option.{Option, none, some as just, Option·some-injective}
+use mathlib.Core.Option.{Option, none, some, Option·some-injective}
 use native.Mathlib.Omega.{arith}
 use native.Mathlib.Nat.{zero-add}
 use lib.Dec.{eqb, leb}
 use lib.ListN.{length, getD, take, length-take}
 use borrow.Author.Tests.{lt-leb, eqb-true}
 use Rattle.model.specs.declared.Geometry.{Geometry}
-use Rattle.model.specs.Bytes.{run}
-use Rattle.model.specs.Search.{tab, first, count, indexOf}
+use Rattle.model.specs.Bytes.{bytesFrom}
+use Rattle.model.specs.Search.{tabulate, first, countBelow, indexOf}
 use Rattle.model.specs.Geometry.{extentSectors, extentBytes, usable, rootAt, entryAt, tableAt, dataAt, tableSectors, extentsFor}
 use Rattle.model.specs.Disk.{Disk, view}
 use Rattle.model.specs.Root.{rootIn}
 use Rattle.model.specs.Entry.{updatedEntrySector}
-use Rattle.model.specs.Catalogue.{Catalogue, Owner, catalogueOf, isPart, isBeyond, extentOf, sectorOf, fileByte, fileBytes, sectorsBeyond}
-use Rattle.model.specs.Faults.{among, exact}
+use Rattle.model.specs.Catalogue.{Catalogue, Owner, catalogueOf, isPart, ownedFrom, extentOf, sectorOf, fileByte, fileBytes, sectorsFrom}
+use Rattle.model.specs.Faults.{holdsOf, exact}
 use Rattle.model.specs.WriteList.{Plan, Record, Group, sectorWrite, stored, groupsFor, listLength, recordSize, recordCount}
 use Rattle.model.specs.Resize.{shrinkPlan}
 use Rattle.model.specs.Ledger.{Ledger, File, fileOr, catalogue, withFile, shrunk, updatedEntry}
 use Rattle.laws.proofs.Disk.{length-view}
 use Rattle.laws.proofs.Booleans.{and-left, and-yes}
-use Rattle.laws.proofs.Search.{every-yes, every-at, tab-ext, count-ext}
+use Rattle.laws.proofs.Search.{allBelow-yes, allBelow-at, tabulate-ext, countBelow-ext}
 use Rattle.safety.proofs.Apply.{over, over-here, over-skip, over-none, over-miss}
 use Rattle.safety.proofs.Plan.{UsableGeometry, WellFormed, A, metadata-directory}
 use Rattle.safety.proofs.Commit.{Ready, partOf, uncut, ready-uncut}
@@ -44,29 +44,29 @@ use Rattle.safety.proofs.FreedTable.{freed, length-freed, freed-few, fr
 -- ---- extents of offset n or more freed
 
 -- those of a lower offset stay the file's
-pub part-freed : (i n o : ℕ) (t : Option Owner) → o < n → isPart i o (cond (isBeyond i n t) none t) ≡ isPart i o t
+pub part-freed : (i n o : ℕ) (t : Option Owner) → o < n → isPart i o (cond (ownedFrom i n t) none t) ≡ isPart i o t
 part-freed i n o none l = refl
-part-freed i n o (just w) l = go (eqb (w .file) i) refl (eqb (w .offset) o) refl
+part-freed i n o (some w) l = go (eqb (w .file) i) refl (eqb (w .offset) o) refl
   where
-    go : (a : Bool) → eqb (w .file) i ≡ a → (b : Bool) → eqb (w .offset) o ≡ b → isPart i o (cond (a && leb n (w .offset)) none (just w)) ≡ (a && b)
+    go : (a : Bool) → eqb (w .file) i ≡ a → (b : Bool) → eqb (w .offset) o ≡ b → isPart i o (cond (a && leb n (w .offset)) none (some w)) ≡ (a && b)
     go false p b q = ap₂ (λ x y. x && y) p q
     go true p true q =
         let e : w .offset ≡ o = eqb-true (w .offset) o q in
-        ap (λ (b : Bool). isPart i o (cond b none (just w))) (lt-leb n (w .offset) (omega arith)) ∙ ap₂ (λ x y. x && y) p q
+        ap (λ (b : Bool). isPart i o (cond b none (some w))) (lt-leb n (w .offset) (omega arith)) ∙ ap₂ (λ x y. x && y) p q
     go true p false q = choose (leb n (w .offset))
       where
-        choose : (b : Bool) → isPart i o (cond b none (just w)) ≡ false
+        choose : (b : Bool) → isPart i o (cond b none (some w)) ≡ false
         choose true = refl
         choose false = ap₂ (λ x y. x && y) p q
 
-beyond-freed : (i n : ℕ) (t : Option Owner) → isBeyond i n (cond (isBeyond i n t) none t) ≡ false
-beyond-freed i n t = go (isBeyond i n t) refl
+beyond-freed : (i n : ℕ) (t : Option Owner) → ownedFrom i n (cond (ownedFrom i n t) none t) ≡ false
+beyond-freed i n t = go (ownedFrom i n t) refl
   where
-    go : (b : Bool) → isBeyond i n t ≡ b → isBeyond i n (cond b none t) ≡ false
+    go : (b : Bool) → ownedFrom i n t ≡ b → ownedFrom i n (cond b none t) ≡ false
     go true e = refl
     go false e = e
 
-among-freed : (b : Bool) (t : Option Owner) (p : Owner → Bool) → among t p ≡ false → among (cond b none t) p ≡ false
+among-freed : (b : Bool) (t : Option Owner) (p : Owner → Bool) → holdsOf t p ≡ false → holdsOf (cond b none t) p ≡ false
 among-freed true t p h = refl
 among-freed false t p h = h
 
@@ -76,9 +76,9 @@ pub bytes-of-read : (c c′ : Catalogue) (d : Disk) (i n : ℕ) → c′ .geomet
     → fileBytes c′ d i 0 n ≡ fileBytes c d i 0 n
 unfolding fileBytes fileByte sectorOf extentOf
 bytes-of-read c c′ d i n eg et =
-    ap (λ (g : Geometry). tab (λ k.
+    ap (λ (g : Geometry). tabulate (λ k.
     getD (d (dataAt g + indexOf (first (λ e. isPart i (k / 512 / extentSectors g) (c′ .table e)) (usable g)) * extentSectors g + k / 512 % extentSectors g)) (k % 512) 0) 0 n) eg
-    ∙ tab-ext _ _ 0 0 n (λ k l. rw zero-add
+    ∙ tabulate-ext _ _ 0 0 n (λ k l. rw zero-add
     (ap (λ (t : ℕ → Bool). let g = c .geometry in
     getD (d (dataAt g + indexOf (first t (usable g)) * extentSectors g + k / 512 % extentSectors g)) (k % 512) 0) (fun-ext (λ e. et k e l))))
 
@@ -98,14 +98,14 @@ module _ (L : Ledger) (img : List ℕ) (i z time : ℕ) where
   table-writes = freed L img i (extentsFor (L .geometry) z)
 
   -- the list's length
-  pub shrink-length : listLength (groupsFor (view img) (just p)) ≡ recordCount 0 (1 + sectorsBeyond (catalogue L) i (extentsFor (catalogue L .geometry) z)) * recordSize
+  pub shrink-length : listLength (groupsFor (view img) (some p)) ≡ recordCount 0 (1 + sectorsFrom (catalogue L) i (extentsFor (catalogue L .geometry) z)) * recordSize
   unfolding groupsFor shrinkPlan catalogue
   shrink-length =
       length-groups _ (view img) p
       ∙ ap (λ m. recordCount 0 m * recordSize)
-      (let e : length table-writes ≡ sectorsBeyond (catalogue L) i n = length-freed L img i n in let q : suc (length table-writes) ≡ 1 + sectorsBeyond (catalogue L) i n = omega arith in q)
+      (let e : length table-writes ≡ sectorsFrom (catalogue L) i n = length-freed L img i n in let q : suc (length table-writes) ≡ 1 + sectorsFrom (catalogue L) i n = omega arith in q)
 
-  module _ (rep : Rep L img) (there : L .slots i ≡ just (fileOr (L .slots i))) (within : i < L .geometry .files) (less : z < fileOr (L .slots i) .entry .size) (ht : time < 2 ^ 32) where
+  module _ (rep : Rep L img) (there : L .slots i ≡ some (fileOr (L .slots i))) (within : i < L .geometry .files) (less : z < fileOr (L .slots i) .entry .size) (ht : time < 2 ^ 32) where
     abbrev c : Catalogue
     c = catalogue L
 
@@ -177,10 +177,10 @@ module _ (L : Ledger) (img : List ℕ) (i z time : ℕ) where
     firsts = refl
 
     abbrev c′ : Catalogue
-    c′ = catalogue (replaced L (L .root) i (just (shrunk L i z time)))
+    c′ = catalogue (replaced L (L .root) i (some (shrunk L i z time)))
 
-    table-new : (e : ℕ) → c′ .table e ≡ cond (isBeyond i n (c .table e)) none (c .table e)
-    table-new e = table-freed L (L .root) i n (just new) firsts (rep .disjoint) e
+    table-new : (e : ℕ) → c′ .table e ≡ cond (ownedFrom i n (c .table e)) none (c .table e)
+    table-new e = table-freed L (L .root) i n (some new) firsts (rep .disjoint) e
 
     exact-old : exact c i (extentsFor (L .geometry) (old .entry .size)) ≡ true
     unfolding catalogue
@@ -190,25 +190,25 @@ module _ (L : Ledger) (img : List ℕ) (i z time : ℕ) where
     unfolding exact catalogue
     exact-new =
         and-yes _ _
-        (every-yes _ n (λ o l.
-        ap (λ m. eqb m 1) (count-ext (λ e. isPart i o (c′ .table e)) (λ e. isPart i o (c .table e)) (L .geometry .extents) (λ e q. ap (isPart i o) (table-new e) ∙ part-freed i n o (c .table e) l))
-        ∙ every-at (λ o. eqb (count (λ e. isPart i o (c .table e)) (L .geometry .extents)) 1) (extentsFor (L .geometry) (old .entry .size)) (and-left _ _ exact-old) o (omega (arith, fewer))))
-        (every-yes _ (L .geometry .extents) (λ e l. ap not (ap (isBeyond i n) (table-new e) ∙ beyond-freed i n (c .table e))))
+        (allBelow-yes _ n (λ o l.
+        ap (λ m. eqb m 1) (countBelow-ext (λ e. isPart i o (c′ .table e)) (λ e. isPart i o (c .table e)) (L .geometry .extents) (λ e q. ap (isPart i o) (table-new e) ∙ part-freed i n o (c .table e) l))
+        ∙ allBelow-at (λ o. eqb (countBelow (λ e. isPart i o (c .table e)) (L .geometry .extents)) 1) (extentsFor (L .geometry) (old .entry .size)) (and-left _ _ exact-old) o (omega (arith, fewer))))
+        (allBelow-yes _ (L .geometry .extents) (λ e l. ap not (ap (ownedFrom i n) (table-new e) ∙ beyond-freed i n (c .table e))))
 
-    owned-new : (e : ℕ) → e < L .geometry .extents → among (c′ .table e) (λ w. eqb (w .file) i && leb (usable (L .geometry)) e) ≡ false
+    owned-new : (e : ℕ) → e < L .geometry .extents → holdsOf (c′ .table e) (λ w. eqb (w .file) i && leb (usable (L .geometry)) e) ≡ false
     owned-new e l =
-        ap (λ (o : Option Owner). among o (λ w. eqb (w .file) i && leb (usable (L .geometry)) e)) (table-new e)
-        ∙ among-freed (isBeyond i n (c .table e)) (c .table e) (λ w. eqb (w .file) i && leb (usable (L .geometry)) e)
+        ap (λ (o : Option Owner). holdsOf o (λ w. eqb (w .file) i && leb (usable (L .geometry)) e)) (table-new e)
+        ∙ among-freed (ownedFrom i n (c .table e)) (c .table e) (λ w. eqb (w .file) i && leb (usable (L .geometry)) e)
         (among-and (c .table e) (λ w. eqb (w .file) i) (λ w. leb (usable (L .geometry)) e) (usable-owned L img rep e l))
 
-    admissible : Admissible L (L .root) i (just (shrunk L i z time))
+    admissible : Admissible L (L .root) i (some (shrunk L i z time))
     unfolding shrunk updatedEntry
     admissible =
-        admissible-kept L img rep i old there (shrunk L i z time) refl refl size-most (others-freed L (L .root) i n (just new) firsts (rep .disjoint)) owned-new exact-new
+        admissible-kept L img rep i old there (shrunk L i z time) refl refl size-most (others-freed L (L .root) i n (some new) firsts (rep .disjoint)) owned-new exact-new
 
     -- ---- the bytes
 
-    bytes-new : fileBytes (catalogueOf (view out)) (view out) i 0 z ≡ run (old .bytes) 0 z
+    bytes-new : fileBytes (catalogueOf (view out)) (view out) i 0 z ≡ bytesFrom (old .bytes) 0 z
     unfolding catalogueOf catalogue
     bytes-new =
         bytes-of-read c (catalogueOf (view out)) (view out) i z (ready .volume .geometry ∙ sym (catalogue-geometry L))
@@ -216,14 +216,14 @@ module _ (L : Ledger) (img : List ℕ) (i z time : ℕ) where
         ∙ part-freed i n _ (c .table e) (sector-held (L .geometry) (rep .bounded) z (k / 512) (omega arith)))
         ∙ bytes-keep-at c (view img) (view out) i 0 z (λ k l. at-data i _)
         ∙ sym (bytes-from c (view img) i (old .entry .size) 0 z (omega arith))
-        ∙ ap (λ (x : Catalogue). run (fileBytes x (view img) i 0 (old .entry .size)) 0 z) (sym (cat-is L img rep))
-        ∙ ap (λ (b : List ℕ). run b 0 z) (rep .says .bytes i old there)
+        ∙ ap (λ (x : Catalogue). bytesFrom (fileBytes x (view img) i 0 (old .entry .size)) 0 z) (sym (cat-is L img rep))
+        ∙ ap (λ (b : List ℕ). bytesFrom b 0 z) (rep .says .bytes i old there)
 
-    bytes-are : (x : File) → just (shrunk L i z time) ≡ just x → fileBytes (catalogueOf (view out)) (view out) i 0 (x .entry .size) ≡ x .bytes
+    bytes-are : (x : File) → some (shrunk L i z time) ≡ some x → fileBytes (catalogueOf (view out)) (view out) i 0 (x .entry .size) ≡ x .bytes
     unfolding shrunk updatedEntry
     bytes-are x e = subst (λ (y : File). fileBytes (catalogueOf (view out)) (view out) i 0 (y .entry .size) ≡ y .bytes) (Option·some-injective _ _ e) bytes-new
 
-    sized-new : (x : File) → just (shrunk L i z time) ≡ just x → length (x .extents) ≡ extentsFor (L .geometry) (x .entry .size)
+    sized-new : (x : File) → some (shrunk L i z time) ≡ some x → length (x .extents) ≡ extentsFor (L .geometry) (x .entry .size)
     unfolding shrunk updatedEntry
     sized-new x e =
         subst (λ (y : File). length (y .extents) ≡ extentsFor (L .geometry) (y .entry .size)) (Option·some-injective _ _ e)
@@ -231,7 +231,7 @@ module _ (L : Ledger) (img : List ℕ) (i z time : ℕ) where
 
     -- ---- the ledger in which slot i shrank
 
-    rewrites : Rewrites L img (L .root) i (just (shrunk L i z time)) out
+    rewrites : Rewrites L img (L .root) i (some (shrunk L i z time)) out
     unfolding shrunk
     rewrites = record {
       ready = ready;
@@ -244,12 +244,12 @@ module _ (L : Ledger) (img : List ℕ) (i z time : ℕ) where
       bytes = bytes-are;
       kept = λ k x ne e b q. at-data k _;
       admissible = admissible;
-      disjoint = disjoint-freed L (L .root) i n (just new) firsts (rep .disjoint);
+      disjoint = disjoint-freed L (L .root) i n (some new) firsts (rep .disjoint);
       sized = sized-new;
     }
 
     pub shrink-done : Rep (withFile L i (shrunk L i z time)) (uncut (L .geometry) img p)
-    shrink-done = rep-replaced L img rep (L .root) i (just (shrunk L i z time)) out rewrites
+    shrink-done = rep-replaced L img rep (L .root) i (some (shrunk L i z time)) out rewrites
 
     -- a cut before the start mark
     pub shrink-partly : (k : ℕ) (m : List Bool) → Rep L (stored (partOf k m (A (L .geometry) p)) img)

@@ -9,35 +9,35 @@ use native.Mathlib.Nat.{not-suc-le-zero}
 use lib.Dec.{leb, ltb}
 use lib.ListN.{length, getD}
 use borrow.Author.Tests.{leb-true, ltb-true}
-use Rattle.model.specs.Bytes.{run, put}
+use Rattle.model.specs.Bytes.{bytesFrom, put}
 use Rattle.model.specs.WriteList.{Record, Group}
 use Rattle.model.specs.Write.{spliced, splicedFrom}
 use Rattle.model.specs.Cut.{kept, dataBy}
-use Rattle.model.specs.Search.{tab}
+use Rattle.model.specs.Search.{tabulate}
 use Rattle.laws.proofs.Booleans.{and-left, and-right, range-yes}
-use Rattle.laws.proofs.Bytes.{length-run, length-put, getD-run, getD-put-same, getD-put-other}
-use Rattle.laws.proofs.Search.{length-tab, getD-tab}
-use Rattle.safety.proofs.Apply.{over, hits, over-here, over-skip, over-none, over-miss, kept-miss, all-miss, all-at, All, Own, own-tab}
+use Rattle.laws.proofs.Bytes.{length-bytesFrom, length-put, getD-bytesFrom, getD-put-same, getD-put-other}
+use Rattle.laws.proofs.Search.{length-tabulate, getD-tabulate}
+use Rattle.safety.proofs.Apply.{over, hits, over-here, over-skip, over-none, over-miss, kept-miss, all-miss, all-at, All, Own, own-tabulate}
 use Rattle.safety.proofs.Commit.{partOf}
 
 -- bytes from `from` to `to` of a file, put into the sector that starts at base
 module _ (bytes old : List ℕ) (offset base from to j : ℕ) (a : base ≤ from) (b : offset ≤ from) (c : to ≤ offset + length bytes) (d : to ≤ base + 512)
     (l : length old ≡ 512) (h : j < 512) (into : offset ≤ base + j → base + j < offset + length bytes → (from ≤ base + j) × (base + j < to)) where
   abbrev piece : List ℕ
-  piece = run bytes (from - offset) (to - from)
+  piece = bytesFrom bytes (from - offset) (to - from)
 
   inside : from ≤ base + j → base + j < to → getD (put old (from - base) piece) j 0 ≡ getD bytes (base + j - offset) 0
   inside x y =
-      let n : length piece ≡ to - from = length-run bytes (from - offset) (to - from) in
+      let n : length piece ≡ to - from = length-bytesFrom bytes (from - offset) (to - from) in
       let e : from - base + (j - (from - base)) ≡ j = omega arith in
       let k : from - offset + (j - (from - base)) ≡ base + j - offset = omega arith in
       ap (λ i. getD (put old (from - base) piece) i 0) (sym e)
       ∙ getD-put-same old (from - base) piece (j - (from - base)) (omega arith) (omega arith)
-      ∙ getD-run bytes (from - offset) (to - from) (j - (from - base)) (omega arith) ∙ ap (λ i. getD bytes i 0) k
+      ∙ getD-bytesFrom bytes (from - offset) (to - from) (j - (from - base)) (omega arith) ∙ ap (λ i. getD bytes i 0) k
 
   outside : (from ≤ base + j → base + j < to → ⊥) → getD (put old (from - base) piece) j 0 ≡ getD old j 0
   outside x =
-      let n : length piece ≡ to - from = length-run bytes (from - offset) (to - from) in
+      let n : length piece ≡ to - from = length-bytesFrom bytes (from - offset) (to - from) in
       getD-put-other old (from - base) piece j (λ p q. x (omega arith) (omega arith))
 
   pub piece-at : getD (put old (from - base) piece) j 0 ≡ cond (leb offset (base + j) && ltb (base + j) (offset + length bytes)) (getD bytes (base + j - offset) 0) (getD old j 0)
@@ -91,11 +91,11 @@ part-miss (suc k) m ws j x h = over-miss ws j x h
 
 -- ---- data sectors by index
 
-pub part-tab : (k : ℕ) (m : List Bool) (f : ℕ → Record) (a n j : ℕ) (x : List ℕ) → ((j k : ℕ) → j < n → k < n → f (a + j) .sector ≡ f (a + k) .sector → j ≡ k) → j < n
-    → over (partOf k m (tab f a n)) (f (a + j) .sector) x ≡ cond (dataBy k m j) (f (a + j) .contents) x
-part-tab k m f a n j x h l =
-    subst (λ (r : Record). over (partOf k m (tab f a n)) (r .sector) x ≡ cond (dataBy k m j) (r .contents) x) (getD-tab f a n j (f a) l)
-    (part-over k m (tab f a n) j (f a) x (own-tab f a n h) (let e : length (tab f a n) ≡ n = length-tab f a n in omega arith))
+pub part-tabulate : (k : ℕ) (m : List Bool) (f : ℕ → Record) (a n j : ℕ) (x : List ℕ) → ((j k : ℕ) → j < n → k < n → f (a + j) .sector ≡ f (a + k) .sector → j ≡ k) → j < n
+    → over (partOf k m (tabulate f a n)) (f (a + j) .sector) x ≡ cond (dataBy k m j) (f (a + j) .contents) x
+part-tabulate k m f a n j x h l =
+    subst (λ (r : Record). over (partOf k m (tabulate f a n)) (r .sector) x ≡ cond (dataBy k m j) (r .contents) x) (getD-tabulate f a n j (f a) l)
+    (part-over k m (tabulate f a n) j (f a) x (own-tabulate f a n h) (let e : length (tabulate f a n) ≡ n = length-tabulate f a n in omega arith))
 
 pub length-spliced : (offset : ℕ) (bytes : List ℕ) (s : ℕ) (old : List ℕ) → length (spliced offset bytes s old) ≡ length old
 unfolding spliced splicedFrom

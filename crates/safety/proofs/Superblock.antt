@@ -13,7 +13,7 @@ use Rattle.model.specs.declared.Geometry.{Geometry}
 use Rattle.model.specs.declared.State.{State}
 use Rattle.model.specs.declared.State.the-variants.{Clean, Waiting}
 use Rattle.model.specs.Bytes.{beBytes}
-use Rattle.model.specs.Search.{same}
+use Rattle.model.specs.Search.{equalBytes}
 use Rattle.model.specs.Geometry.{superblockAt, volumeSectors, inBounds}
 use Rattle.model.specs.Disk.{Disk}
 use Rattle.model.specs.Superblock.{stateOn, magic, isVolume, geometryIn, journalLength, stateOf, withJournalLength}
@@ -36,7 +36,7 @@ journalLength-with n s l h = number-same s 18 2 n (le-leb (18 + 2) (length s) (o
 
 pub isVolume-with : (n : ℕ) (s : List ℕ) → isVolume (withJournalLength n s) ≡ isVolume s
 unfolding withJournalLength isVolume
-isVolume-with n s = ap₂ (λ a b. same a magic && eqb b 1) (bytes-other s 18 2 n 8 8 refl) (number-other s 18 2 n 16 2 refl)
+isVolume-with n s = ap₂ (λ a b. equalBytes a magic && eqb b 1) (bytes-other s 18 2 n 8 8 refl) (number-other s 18 2 n 16 2 refl)
 
 pub geometryIn-with : (n : ℕ) (s : List ℕ) → geometryIn (withJournalLength n s) ≡ geometryIn s
 unfolding withJournalLength geometryIn

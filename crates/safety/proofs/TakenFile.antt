@@ -4,7 +4,7 @@ use Prim.Native.Nat.{ℕ, zero, suc, _+_, _-_, _≤_, _<_}
 use mathlib.Core.Path.{_≡_, refl, sym, ap, ap₂, _∙_, fun-ext}
 use mathlib.Core.Bool.{Bool, true, false, cond, not, _&&_, _||_, true≢false, false≢true}
 use mathlib.Core.List.{List, [], _∷_, _++_, append-nil}
-use mathlib.Core.Option.{Option, none, some as just}
+use mathlib.Core.Option.{Option, none, some}
 use native.Mathlib.Omega.{arith}
 use native.Mathlib.Decide.{decLt}
 use native.Mathlib.Nat.{sub-zero, suc-add, zero-add}
@@ -13,25 +13,25 @@ use lib.ListN.{length, getD, length-append, List·getD-append}
 use lib.Seq.{getD-append-seam}
 use borrow.Author.Tests.{eqb-true, eqb-false, eq-eqb, ne-eqb, lt-leb, leb-false, not-true}
 use Rattle.model.specs.declared.Geometry.{Geometry}
-use Rattle.model.specs.declared.Place.{Place}
-use Rattle.model.specs.declared.Place.the-variants.{At, Nowhere}
-use Rattle.model.specs.Search.{scan, first, every, count, isAt, indexOf}
+use Rattle.model.specs.declared.Lowest.{Lowest}
+use Rattle.model.specs.declared.Lowest.the-variants.{At, Nowhere}
+use Rattle.model.specs.Search.{scan, first, allBelow, countBelow, isAt, indexOf}
 use Rattle.model.specs.Geometry.{usable}
 use Rattle.model.specs.Root.{Root}
-use Rattle.model.specs.Catalogue.{Owner, isFree, isPart, isBeyond}
-use Rattle.model.specs.Faults.{among, exact}
-use Rattle.model.specs.Ledger.{Ledger, File, fileOr, placeAmong, holderOf, ownerFrom, catalogue}
+use Rattle.model.specs.Catalogue.{Owner, isFree, isPart, ownedFrom}
+use Rattle.model.specs.Faults.{holdsOf, exact}
+use Rattle.model.specs.Ledger.{Ledger, File, fileOr, positionAmong, holderOf, ownerFrom, catalogue}
 use Rattle.laws.proofs.Booleans.{and-left, and-right, and-yes, and-false}
-use Rattle.laws.proofs.Search.{Hit, scan-hit, first-ext, every-yes, every-at, count-ext}
+use Rattle.laws.proofs.Search.{Hit, scan-hit, first-ext, allBelow-yes, allBelow-at, countBelow-ext}
 use Rattle.safety.proofs.Rep.{holds, Disjoint}
 use Rattle.safety.proofs.Replaced.{replaced, OthersKept, among-and}
-use Rattle.safety.proofs.Pigeonhole.{count-add}
-use Rattle.safety.proofs.Extents.{owner, free-none, count-none}
+use Rattle.safety.proofs.Pigeonhole.{countBelow-add}
+use Rattle.safety.proofs.Extents.{owner, free-none, countBelow-none}
 
 -- ---- searches
 
 -- where the first search finds nothing, the second
-abbrev orThen : Place → Place → Place
+abbrev orThen : Lowest → Lowest → Lowest
 orThen (At k) r = At k
 orThen Nowhere r = r
 
@@ -49,11 +49,11 @@ scan-more p (suc a) b i = ap (λ m. scan p m i) (suc-add a b) ∙ go (p i) (scan
 pub first-only : (p : ℕ → Bool) (n i : ℕ) → i < n → p i ≡ true → ((k : ℕ) → k < n → p k ≡ true → k ≡ i) → first p n ≡ At i
 first-only p n i l h only = go (first p n) (scan-hit p (n - 0) 0)
   where
-    go : (r : Place) → Hit p (n - 0) 0 r → r ≡ At i
+    go : (r : Lowest) → Hit p (n - 0) 0 r → r ≡ At i
     go (At k) t = ap At (only k (omega (arith, t .1)) (t .2))
     go Nowhere t = absurd (true≢false (sym h ∙ t i (omega arith) (omega arith)))
 
-orThen-nowhere : (r : Place) → orThen r Nowhere ≡ r
+orThen-nowhere : (r : Lowest) → orThen r Nowhere ≡ r
 orThen-nowhere (At k) = refl
 orThen-nowhere Nowhere = refl
 
@@ -66,9 +66,9 @@ swapped a b = go (eqb b a) refl
 
 -- an extent among others and perhaps one more
 place-more : (e : ℕ) (es : List ℕ) (b : Bool) (x : ℕ)
-    → placeAmong e (es ++ cond b (x ∷ []) []) ≡ orThen (placeAmong e es) (cond (b && eqb e x) (At (length es)) Nowhere)
-unfolding placeAmong scan
-place-more e es false x = ap (placeAmong e) (append-nil es) ∙ sym (orThen-nowhere (placeAmong e es))
+    → positionAmong e (es ++ cond b (x ∷ []) []) ≡ orThen (positionAmong e es) (cond (b && eqb e x) (At (length es)) Nowhere)
+unfolding positionAmong scan
+place-more e es false x = ap (positionAmong e) (append-nil es) ∙ sym (orThen-nowhere (positionAmong e es))
 place-more e es true x = longer
   where
     p : ℕ → Bool
@@ -77,7 +77,7 @@ place-more e es true x = longer
     last : p (length es) ≡ eqb e x
     last = ap (λ y. eqb y e) (getD-append-seam es x [] 0) ∙ swapped x e
 
-    longer : placeAmong e (es ++ (x ∷ [])) ≡ orThen (placeAmong e es) (cond (eqb e x) (At (length es)) Nowhere)
+    longer : positionAmong e (es ++ (x ∷ [])) ≡ orThen (positionAmong e es) (cond (eqb e x) (At (length es)) Nowhere)
     longer =
         ap (λ m. scan p m 0) (sub-zero (length (es ++ (x ∷ []))) ∙ length-append es (x ∷ [])) ∙ scan-more p (length es) 1 0
         ∙ ap₂ orThen
@@ -87,50 +87,50 @@ place-more e es true x = longer
 
 -- ---- whose an extent is depends on where it stands among each slot's extents
 
-abbrev places : Ledger → ℕ → ℕ → Place
-places L e k = placeAmong e (fileOr (L .slots k) .extents)
+abbrev places : Ledger → ℕ → ℕ → Lowest
+places L e k = positionAmong e (fileOr (L .slots k) .extents)
 
-abbrev ownerAt : (ℕ → Place) → Place → Option Owner
+abbrev ownerAt : (ℕ → Lowest) → Lowest → Option Owner
 ownerAt p Nowhere = none
 ownerAt p (At j) = owner j (indexOf (p j))
 
-owner-at : (L : Ledger) (e : ℕ) (r : Place) → ownerFrom L e r ≡ ownerAt (places L e) r
+owner-at : (L : Ledger) (e : ℕ) (r : Lowest) → ownerFrom L e r ≡ ownerAt (places L e) r
 owner-at L e (At j) = refl
 owner-at L e Nowhere = refl
 
 module _ (L M : Ledger) (eg : M .geometry ≡ L .geometry) (e : ℕ) (same : (k : ℕ) → places M e k ≡ places L e k) where
   holder-same : holderOf M e ≡ holderOf L e
   unfolding holderOf
-  holder-same = ap₂ (λ (p : ℕ → Place) (g : Geometry). first (λ k. isAt (p k)) (g .files)) (fun-ext same) eg
+  holder-same = ap₂ (λ (p : ℕ → Lowest) (g : Geometry). first (λ k. isAt (p k)) (g .files)) (fun-ext same) eg
 
   table-same : catalogue M .table e ≡ catalogue L .table e
   unfolding catalogue
   table-same = owner-at M e (holderOf M e) ∙ ap₂ ownerAt (fun-ext same) holder-same ∙ sym (owner-at L e (holderOf L e))
 
-is-nowhere : (r : Place) → isAt r ≡ false → r ≡ Nowhere
+is-nowhere : (r : Lowest) → isAt r ≡ false → r ≡ Nowhere
 is-nowhere (At k) e = absurd (true≢false e)
 is-nowhere Nowhere e = refl
 
 -- an owner that is not beyond n is not at n, nor beyond more
-part-beyond : (i n : ℕ) (t : Option Owner) → isBeyond i n t ≡ false → isPart i n t ≡ false
+part-beyond : (i n : ℕ) (t : Option Owner) → ownedFrom i n t ≡ false → isPart i n t ≡ false
 part-beyond i n none h = refl
-part-beyond i n (just w) h = go (eqb (w .file) i) h
+part-beyond i n (some w) h = go (eqb (w .file) i) h
   where
     go : (b : Bool) → (b && leb n (w .offset)) ≡ false → (b && eqb (w .offset) n) ≡ false
     go true q = ne-eqb (w .offset) n (λ e. let z : w .offset < n = leb-false n (w .offset) q in omega arith)
     go false q = refl
 
-beyond-more : (i n m : ℕ) (t : Option Owner) → n ≤ m → isBeyond i n t ≡ false → isBeyond i m t ≡ false
+beyond-more : (i n m : ℕ) (t : Option Owner) → n ≤ m → ownedFrom i n t ≡ false → ownedFrom i m t ≡ false
 beyond-more i n m none l h = refl
-beyond-more i n m (just w) l h = go (eqb (w .file) i) h
+beyond-more i n m (some w) l h = go (eqb (w .file) i) h
   where
     go : (b : Bool) → (b && leb n (w .offset)) ≡ false → (b && leb m (w .offset)) ≡ false
     go true q = lt-leb m (w .offset) (let z : w .offset < n = leb-false n (w .offset) q in omega arith)
     go false q = refl
 
-count-one : (x n : ℕ) → x < n → count (λ e. eqb e x) n ≡ 1
-count-one x n l =
-    count-ext (λ e. eqb e x) (λ e. eqb e x || false) n (λ k q. go (eqb k x)) ∙ count-add (λ e. false) x n refl l ∙ ap suc (count-none (λ e. false) n (λ k q. refl))
+countBelow-one : (x n : ℕ) → x < n → countBelow (λ e. eqb e x) n ≡ 1
+countBelow-one x n l =
+    countBelow-ext (λ e. eqb e x) (λ e. eqb e x || false) n (λ k q. go (eqb k x)) ∙ countBelow-add (λ e. false) x n refl l ∙ ap suc (countBelow-none (λ e. false) n (λ k q. refl))
   where
     go : (b : Bool) → b ≡ (b || false)
     go true = refl
@@ -138,10 +138,10 @@ count-one x n l =
 
 -- ---- slot i, which has the file f, gets y: with the free extent x behind f's extents, if b
 
-module _ (L : Ledger) (root : Root) (i : ℕ) (f : File) (has : L .slots i ≡ just f) (within : i < L .geometry .files) (disjoint : Disjoint L)
+module _ (L : Ledger) (root : Root) (i : ℕ) (f : File) (has : L .slots i ≡ some f) (within : i < L .geometry .files) (disjoint : Disjoint L)
     (b : Bool) (x : ℕ) (free : b ≡ true → isFree (catalogue L .table x) ≡ true) (y : File) (more : y .extents ≡ f .extents ++ cond b (x ∷ []) []) where
   abbrev M : Ledger
-  M = replaced L root i (just y)
+  M = replaced L root i (some y)
 
   abbrev n : ℕ
   n = length (f .extents)
@@ -149,17 +149,17 @@ module _ (L : Ledger) (root : Root) (i : ℕ) (f : File) (has : L .slots i ≡ j
   abbrev takes : ℕ → Bool
   takes e = b && eqb e x
 
-  place-here : (e : ℕ) → placeAmong e (y .extents) ≡ orThen (placeAmong e (f .extents)) (cond (takes e) (At n) Nowhere)
-  place-here e = ap (placeAmong e) more ∙ place-more e (f .extents) b x
+  place-here : (e : ℕ) → positionAmong e (y .extents) ≡ orThen (positionAmong e (f .extents)) (cond (takes e) (At n) Nowhere)
+  place-here e = ap (positionAmong e) more ∙ place-more e (f .extents) b x
 
   -- every other extent stands where it stood
   places-kept : (e : ℕ) → takes e ≡ false → (k : ℕ) → places M e k ≡ places L e k
   places-kept e t k = go (eqb k i) refl
     where
-      go : (q : Bool) → eqb k i ≡ q → placeAmong e (fileOr (cond q (just y) (L .slots k)) .extents) ≡ placeAmong e (fileOr (L .slots k) .extents)
+      go : (q : Bool) → eqb k i ≡ q → positionAmong e (fileOr (cond q (some y) (L .slots k)) .extents) ≡ positionAmong e (fileOr (L .slots k) .extents)
       go true q =
-          place-here e ∙ ap (λ (u : Bool). orThen (placeAmong e (f .extents)) (cond u (At n) Nowhere)) t ∙ orThen-nowhere (placeAmong e (f .extents))
-          ∙ sym (ap (λ (o : Option File). placeAmong e (fileOr o .extents)) (ap (L .slots) (eqb-true k i q) ∙ has))
+          place-here e ∙ ap (λ (u : Bool). orThen (positionAmong e (f .extents)) (cond u (At n) Nowhere)) t ∙ orThen-nowhere (positionAmong e (f .extents))
+          ∙ sym (ap (λ (o : Option File). positionAmong e (fileOr o .extents)) (ap (L .slots) (eqb-true k i q) ∙ has))
       go false q = refl
 
   taken-free : (e : ℕ) → takes e ≡ true → isFree (catalogue L .table e) ≡ true
@@ -171,19 +171,19 @@ module _ (L : Ledger) (root : Root) (i : ℕ) (f : File) (has : L .slots i ≡ j
   none-held e t k l = go (isAt (places L e k)) refl
     where
       go : (q : Bool) → isAt (places L e k) ≡ q → isAt (places L e k) ≡ false
-      go true q = absurd (false≢true (sym (ap (λ (r : Place). isFree (ownerFrom L e r)) (disjoint k e l q)) ∙ taken-free e t))
+      go true q = absurd (false≢true (sym (ap (λ (r : Lowest). isFree (ownerFrom L e r)) (disjoint k e l q)) ∙ taken-free e t))
       go false q = q
 
   place-taken : (e : ℕ) → takes e ≡ true → places M e i ≡ At n
   place-taken e t =
-      let z : placeAmong e (f .extents) ≡ Nowhere = is-nowhere _ (sym (ap (λ (o : Option File). isAt (placeAmong e (fileOr o .extents))) has) ∙ none-held e t i within) in
-      ap (λ (q : Bool). placeAmong e (fileOr (cond q (just y) (L .slots i)) .extents)) (eq-eqb i i refl)
-      ∙ place-here e ∙ ap₂ (λ (r : Place) (q : Bool). orThen r (cond q (At n) Nowhere)) z t
+      let z : positionAmong e (f .extents) ≡ Nowhere = is-nowhere _ (sym (ap (λ (o : Option File). isAt (positionAmong e (fileOr o .extents))) has) ∙ none-held e t i within) in
+      ap (λ (q : Bool). positionAmong e (fileOr (cond q (some y) (L .slots i)) .extents)) (eq-eqb i i refl)
+      ∙ place-here e ∙ ap₂ (λ (r : Lowest) (q : Bool). orThen r (cond q (At n) Nowhere)) z t
 
   only-here : (e : ℕ) → takes e ≡ true → (k : ℕ) → k < L .geometry .files → isAt (places M e k) ≡ true → k ≡ i
   only-here e t k l h = go (eqb k i) refl h
     where
-      go : (q : Bool) → eqb k i ≡ q → isAt (placeAmong e (fileOr (cond q (just y) (L .slots k)) .extents)) ≡ true → k ≡ i
+      go : (q : Bool) → eqb k i ≡ q → isAt (positionAmong e (fileOr (cond q (some y) (L .slots k)) .extents)) ≡ true → k ≡ i
       go true q z = eqb-true k i q
       go false q z = absurd (false≢true (sym (none-held e t k l) ∙ z))
 
@@ -197,7 +197,7 @@ module _ (L : Ledger) (root : Root) (i : ℕ) (f : File) (has : L .slots i ≡ j
   table-taken e = go (takes e) refl
     where
       go : (q : Bool) → takes e ≡ q → catalogue M .table e ≡ cond q (owner i n) (catalogue L .table e)
-      go true t = ap (ownerFrom M e) (holder-taken e t) ∙ ap (λ (r : Place). owner i (indexOf r)) (place-taken e t)
+      go true t = ap (ownerFrom M e) (holder-taken e t) ∙ ap (λ (r : Lowest). owner i (indexOf r)) (place-taken e t)
       go false t = table-same L M refl e (places-kept e t)
 
   pub disjoint-taken : Disjoint M
@@ -209,7 +209,7 @@ module _ (L : Ledger) (root : Root) (i : ℕ) (f : File) (has : L .slots i ≡ j
       go false t = holder-same L M refl e (places-kept e t) ∙ disjoint k e l (ap isAt (sym (places-kept e t k)) ∙ h)
 
   -- a test that no extent of file i passes is not changed
-  pub others-taken : OthersKept L root i (just y)
+  pub others-taken : OthersKept L root i (some y)
   others-taken t tn ti e = ap t (table-taken e) ∙ go (takes e) refl
     where
       go : (q : Bool) → takes e ≡ q → t (cond q (owner i n) (catalogue L .table e)) ≡ t (catalogue L .table e)
@@ -225,7 +225,7 @@ module _ (L : Ledger) (root : Root) (i : ℕ) (f : File) (has : L .slots i ≡ j
       go true z = ap (λ (u : Bool). eqb i i && u) (ne-eqb n o (λ w. omega arith)) ∙ and-false (eqb i i) ∙ sym (ap (isPart i o) (free-none (catalogue L .table e) (taken-free e z)))
       go false z = refl
 
-  pub part-new : (e : ℕ) → b ≡ true → isBeyond i (length (f .extents)) (catalogue L .table e) ≡ false → isPart i (length (f .extents)) (catalogue M .table e) ≡ eqb e x
+  pub part-new : (e : ℕ) → b ≡ true → ownedFrom i (length (f .extents)) (catalogue L .table e) ≡ false → isPart i (length (f .extents)) (catalogue M .table e) ≡ eqb e x
   part-new e t h =
       ap (isPart i n) (table-taken e) ∙ ap (λ (q : Bool). isPart i n (cond (q && eqb e x) (owner i n) (catalogue L .table e))) t ∙ go (eqb e x)
     where
@@ -237,34 +237,34 @@ module _ (L : Ledger) (root : Root) (i : ℕ) (f : File) (has : L .slots i ≡ j
     abbrev N : ℕ
     N = L .geometry .extents
 
-    old-count : (o : ℕ) → o < n → count (λ e. isPart i o (catalogue L .table e)) N ≡ 1
+    old-count : (o : ℕ) → o < n → countBelow (λ e. isPart i o (catalogue L .table e)) N ≡ 1
     unfolding exact catalogue
-    old-count o l = eqb-true _ 1 (every-at (λ o. eqb (count (λ e. isPart i o (catalogue L .table e)) N) 1) n (and-left _ _ old) o l)
+    old-count o l = eqb-true _ 1 (allBelow-at (λ o. eqb (countBelow (λ e. isPart i o (catalogue L .table e)) N) 1) n (and-left _ _ old) o l)
 
-    old-beyond : (e : ℕ) → e < N → isBeyond i n (catalogue L .table e) ≡ false
+    old-beyond : (e : ℕ) → e < N → ownedFrom i n (catalogue L .table e) ≡ false
     unfolding exact catalogue
     old-beyond e l =
-        not-true _ (every-at (λ e. not (isBeyond i n (catalogue L .table e))) N (and-right (every (λ o. eqb (count (λ e. isPart i o (catalogue L .table e)) N) 1) n) _ old) e l)
+        not-true _ (allBelow-at (λ e. not (ownedFrom i n (catalogue L .table e))) N (and-right (allBelow (λ o. eqb (countBelow (λ e. isPart i o (catalogue L .table e)) N) 1) n) _ old) e l)
 
-    new-count : (o : ℕ) → o < cond b (suc n) n → count (λ e. isPart i o (catalogue M .table e)) N ≡ 1
+    new-count : (o : ℕ) → o < cond b (suc n) n → countBelow (λ e. isPart i o (catalogue M .table e)) N ≡ 1
     new-count o l = go (decLt o n)
       where
         grown : (q : Bool) → b ≡ q → o < cond q (suc n) n → (o < n → ⊥) → (b ≡ true) × (o ≡ n)
         grown true z u v = (z, omega arith)
         grown false z u v = absurd (v u)
 
-        go : Dec (o < n) → count (λ e. isPart i o (catalogue M .table e)) N ≡ 1
-        go (yes q) = count-ext (λ e. isPart i o (catalogue M .table e)) (λ e. isPart i o (catalogue L .table e)) N (λ e u. part-old o e q) ∙ old-count o q
+        go : Dec (o < n) → countBelow (λ e. isPart i o (catalogue M .table e)) N ≡ 1
+        go (yes q) = countBelow-ext (λ e. isPart i o (catalogue M .table e)) (λ e. isPart i o (catalogue L .table e)) N (λ e u. part-old o e q) ∙ old-count o q
         go (no q) =
             let z = grown b refl l q in
             let u : x < usable (L .geometry) = usable-one (z .0) in
-            ap (λ m. count (λ e. isPart i m (catalogue M .table e)) N) (z .1)
-            ∙ count-ext (λ e. isPart i n (catalogue M .table e)) (λ e. eqb e x) N (λ e v. part-new e (z .0) (old-beyond e v)) ∙ count-one x N (omega arith)
+            ap (λ m. countBelow (λ e. isPart i m (catalogue M .table e)) N) (z .1)
+            ∙ countBelow-ext (λ e. isPart i n (catalogue M .table e)) (λ e. eqb e x) N (λ e v. part-new e (z .0) (old-beyond e v)) ∙ countBelow-one x N (omega arith)
 
-    new-beyond : (e : ℕ) → e < N → isBeyond i (cond b (suc n) n) (catalogue M .table e) ≡ false
-    new-beyond e l = ap (isBeyond i (cond b (suc n) n)) (table-taken e) ∙ go b (eqb e x) refl
+    new-beyond : (e : ℕ) → e < N → ownedFrom i (cond b (suc n) n) (catalogue M .table e) ≡ false
+    new-beyond e l = ap (ownedFrom i (cond b (suc n) n)) (table-taken e) ∙ go b (eqb e x) refl
       where
-        go : (q u : Bool) → b ≡ q → isBeyond i (cond q (suc n) n) (cond (q && u) (owner i n) (catalogue L .table e)) ≡ false
+        go : (q u : Bool) → b ≡ q → ownedFrom i (cond q (suc n) n) (cond (q && u) (owner i n) (catalogue L .table e)) ≡ false
         go true true z = ap (λ (v : Bool). eqb i i && v) (lt-leb (suc n) n (omega arith)) ∙ and-false (eqb i i)
         go true false z = beyond-more i n (suc n) (catalogue L .table e) (omega arith) (old-beyond e l)
         go false u z = old-beyond e l
@@ -272,14 +272,14 @@ module _ (L : Ledger) (root : Root) (i : ℕ) (f : File) (has : L .slots i ≡ j
     pub exact-taken : exact (catalogue M) i (cond b (suc (length (f .extents))) (length (f .extents))) ≡ true
     unfolding exact catalogue
     exact-taken =
-        and-yes _ _ (every-yes (λ o. eqb (count (λ e. isPart i o (catalogue M .table e)) N) 1) (cond b (suc n) n) (λ o l. eq-eqb _ 1 (new-count o l)))
-        (every-yes (λ e. not (isBeyond i (cond b (suc n) n) (catalogue M .table e))) N (λ e l. ap not (new-beyond e l)))
+        and-yes _ _ (allBelow-yes (λ o. eqb (countBelow (λ e. isPart i o (catalogue M .table e)) N) 1) (cond b (suc n) n) (λ o l. eq-eqb _ 1 (new-count o l)))
+        (allBelow-yes (λ e. not (ownedFrom i (cond b (suc n) n) (catalogue M .table e))) N (λ e l. ap not (new-beyond e l)))
 
-    pub owned-taken : (e : ℕ) → among (catalogue L .table e) (λ w. leb (usable (L .geometry)) e) ≡ false
-        → among (catalogue M .table e) (λ w. eqb (w .file) i && leb (usable (L .geometry)) e) ≡ false
-    owned-taken e h = ap (λ (t : Option Owner). among t (λ w. eqb (w .file) i && leb (usable (L .geometry)) e)) (table-taken e) ∙ go (takes e) refl
+    pub owned-taken : (e : ℕ) → holdsOf (catalogue L .table e) (λ w. leb (usable (L .geometry)) e) ≡ false
+        → holdsOf (catalogue M .table e) (λ w. eqb (w .file) i && leb (usable (L .geometry)) e) ≡ false
+    owned-taken e h = ap (λ (t : Option Owner). holdsOf t (λ w. eqb (w .file) i && leb (usable (L .geometry)) e)) (table-taken e) ∙ go (takes e) refl
       where
-        go : (q : Bool) → takes e ≡ q → among (cond q (owner i n) (catalogue L .table e)) (λ w. eqb (w .file) i && leb (usable (L .geometry)) e) ≡ false
+        go : (q : Bool) → takes e ≡ q → holdsOf (cond q (owner i n) (catalogue L .table e)) (λ w. eqb (w .file) i && leb (usable (L .geometry)) e) ≡ false
         go true z =
             let u : x < usable (L .geometry) = usable-one (and-left b (eqb e x) z) in
             let v : e ≡ x = eqb-true e x (and-right b _ z) in

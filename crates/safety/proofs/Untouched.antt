@@ -5,17 +5,17 @@ use mathlib.Core.Path.{_≡_, refl, sym, ap, _∙_}
 use mathlib.Core.Logic.{_⊎_, inl, inr, ⊎-elim}
 use mathlib.Core.Bool.{Bool, true, false}
 use mathlib.Core.List.{List}
-use mathlib.Core.Option.{some as just}
+use mathlib.Core.Option.{some}
 use native.Mathlib.Omega.{arith}
 use native.Mathlib.Nat.{zero-add}
 use lib.ListN.{length, getD}
-use Rattle.model.specs.Bytes.{run, put}
+use Rattle.model.specs.Bytes.{bytesFrom, put}
 use Rattle.model.specs.Disk.{view}
 use Rattle.model.specs.WriteList.{Plan, stored, groupsFor}
 use Rattle.model.specs.Cut.{Cut, landed, startMark}
 use Rattle.model.specs.Ledger.{Ledger, Answer, Feed, write}
 use Rattle.model.specs.Run.{volumePlan, Fits, steady}
-use Rattle.laws.proofs.Bytes.{getD-run, getD-put-other, getD-put-same}
+use Rattle.laws.proofs.Bytes.{getD-bytesFrom, getD-put-other, getD-put-same}
 use Rattle.safety.specs.Described.{SoundRun}
 use Rattle.safety.specs.HalfWritten.{HalfWritten}
 use Rattle.safety.specs.Naming.{Contents, fileOn}
@@ -23,8 +23,8 @@ use Rattle.safety.proofs.Commit.{RecoveredTo}
 use Rattle.safety.proofs.CutWrites.{write-cut-done, write-cut-torn}
 
 -- byte k of a string by the sector that holds it
-in-sector : (s : List ℕ) (k : ℕ) → getD s k 0 ≡ getD (run s (512 * (k / 512)) 512) (k % 512) 0
-in-sector s k = let e : 512 * (k / 512) + k % 512 ≡ k = omega arith in sym (getD-run s (512 * (k / 512)) 512 (k % 512) (omega arith) ∙ ap (λ (n : ℕ). getD s n 0) e)
+in-sector : (s : List ℕ) (k : ℕ) → getD s k 0 ≡ getD (bytesFrom s (512 * (k / 512)) 512) (k % 512) 0
+in-sector s k = let e : 512 * (k / 512) + k % 512 ≡ k = omega arith in sym (getD-bytesFrom s (512 * (k / 512)) 512 (k % 512) (omega arith) ∙ ap (λ (n : ℕ). getD s n 0) e)
 
 module _ (old : List ℕ) (offset : ℕ) (bytes now : List ℕ) (h : HalfWritten old offset bytes now) (k : ℕ) where
   old-or-new : (getD now k 0 ≡ getD old k 0) ⊎ (getD now k 0 ≡ getD (put old offset bytes) k 0)
@@ -43,19 +43,19 @@ module _ (old : List ℕ) (offset : ℕ) (bytes now : List ℕ) (h : HalfWritten
       ⊎-elim inl (λ e. inr (e ∙ ap (λ (n : ℕ). getD (put old offset bytes) n 0) (sym z) ∙ getD-put-same old offset bytes (k - offset) (omega arith) (omega arith))) old-or-new
 
 module _ {L₀ : Ledger} {img img′ : List ℕ} {fs : List Feed} {rs : List Answer} (name : List ℕ) (offset : ℕ) (bytes : List ℕ) (time room : ℕ) (p : Plan) (x : Cut)
-    (r : SoundRun L₀ steady img fs rs) (fit : Fits (write name offset bytes time room)) (planned : volumePlan (write name offset bytes time room) img ≡ just p)
-    (m : RecoveredTo (stored (landed x (groupsFor (view img) (just p))) img) img′) (old : Contents) (there : fileOn img name ≡ just old) where
+    (r : SoundRun L₀ steady img fs rs) (fit : Fits (write name offset bytes time room)) (planned : volumePlan (write name offset bytes time room) img ≡ some p)
+    (m : RecoveredTo (stored (landed x (groupsFor (view img) (some p))) img) img′) (old : Contents) (there : fileOn img name ≡ some old) where
   -- A BYTE OF THE FILE OUTSIDE THE SPAN, after a write that was cut anywhere and the recovery that was completed
   pub write-cut-outside : (k : ℕ) → k < old .entry .size → (offset ≤ k → k < offset + length bytes → ⊥)
-      → (now : Contents) × (fileOn img′ name ≡ just now) × (getD (now .bytes) k 0 ≡ getD (old .bytes) k 0)
+      → (now : Contents) × (fileOn img′ name ≡ some now) × (getD (now .bytes) k 0 ≡ getD (old .bytes) k 0)
   write-cut-outside k l out = go (startMark x) refl
     where
-      go : (b : Bool) → startMark x ≡ b → (now : Contents) × (fileOn img′ name ≡ just now) × (getD (now .bytes) k 0 ≡ getD (old .bytes) k 0)
+      go : (b : Bool) → startMark x ≡ b → (now : Contents) × (fileOn img′ name ≡ some now) × (getD (now .bytes) k 0 ≡ getD (old .bytes) k 0)
       go true e =
           let size = max (old .entry .size) (offset + length bytes) in (
             _,
             write-cut-done name offset bytes time room p x r fit planned m old there e,
-            getD-put-other (run (old .bytes) 0 size) offset bytes k out ∙ getD-run (old .bytes) 0 size k (omega arith) ∙ ap (λ (n : ℕ). getD (old .bytes) n 0) (zero-add k),
+            getD-put-other (bytesFrom (old .bytes) 0 size) offset bytes k out ∙ getD-bytesFrom (old .bytes) 0 size k (omega arith) ∙ ap (λ (n : ℕ). getD (old .bytes) n 0) (zero-add k),
           )
       go false e =
           let t = write-cut-torn name offset bytes time room p x r fit planned m old there e in

@@ -4,12 +4,12 @@ use Prim.Native.Nat.{ℕ, _*_, _/_, _^_, _≤_, _<_}
 use mathlib.Core.Path.{_≡_, refl, sym, ap, ap₂, _∙_, subst}
 use mathlib.Core.Bool.{Bool, true, false, cond}
 use mathlib.Core.List.{List, [], _∷_}
-use mathlib.Core.Option.{Option, none, some as just}
+use mathlib.Core.Option.{Option, none, some}
 use native.Mathlib.Omega.{arith}
 use lib.Dec.{eqb}
 use lib.ListN.{length}
 use borrow.Author.Tests.{ltb-false, not-false, eqb-false}
-use Rattle.model.specs.Search.{tab, isAt, indexOf}
+use Rattle.model.specs.Search.{tabulate, isAt, indexOf}
 use Rattle.model.specs.Geometry.{entryAt}
 use Rattle.model.specs.Disk.{view}
 use Rattle.model.specs.Entry.{badName, updatedEntrySector}
@@ -22,7 +22,7 @@ use Rattle.model.specs.Write.{touchedSectors, heldExtents, grows, noRoom, sizeA
 use Rattle.model.specs.Cut.{dataBy}
 use Rattle.model.specs.Ledger.{Ledger, File, fileOr, entryOfFile, catalogue, write, withFile, partlyWritten, fileOf, spannedSectors, writtenRecords, written, afterWrite, step, answer}
 use Rattle.model.specs.Run.{volumeAnswer, onVolume}
-use Rattle.laws.proofs.Search.{length-tab}
+use Rattle.laws.proofs.Search.{length-tabulate}
 use Rattle.safety.proofs.OwnWords.{named-is, unheld-is, file-is, entry-named, name-is, spanned-are}
 use Rattle.safety.proofs.Searches.{place-found, or-right-no}
 use Rattle.safety.proofs.Plan.{WellFormed, A}
@@ -65,13 +65,13 @@ module _ (L : Ledger) (img : List ℕ) (i offset : ℕ) (bytes : List ℕ) (time
   unfolding groupsFor writePlanned writePlan writtenRecords grows catalogue
   write-length = go (eqb (length bytes) 0) refl
     where
-      go : (b : Bool) → eqb (length bytes) 0 ≡ b → listLength (groupsFor (view img) (cond b none (just writing)))
+      go : (b : Bool) → eqb (length bytes) 0 ≡ b → listLength (groupsFor (view img) (cond b none (some writing)))
           ≡ cond b 0 (recordCount (spannedSectors offset (length bytes)) (cond (grows (catalogue L) i after) 2 1)) * recordSize
       go true e = refl
       go false e =
           length-groups _ (view img) writing
           ∙ ap₂ (λ k m. recordCount k m * recordSize)
-          (length-tab (dataSector (catalogue L) i (view img) offset bytes) (offset / 512) (touchedSectors offset (length bytes)) ∙ sym (spanned-are offset (length bytes) (eqb-false _ 0 e)))
+          (length-tabulate (dataSector (catalogue L) i (view img) offset bytes) (offset / 512) (touchedSectors offset (length bytes)) ∙ sym (spanned-are offset (length bytes) (eqb-false _ 0 e)))
           (targets-length (grows (catalogue L) i after))
 
   -- what it does, carried out whole, or cut before its start mark: then "data sectors that landed hold their new bytes up to the old size"
@@ -79,10 +79,10 @@ module _ (L : Ledger) (img : List ℕ) (i offset : ℕ) (bytes : List ℕ) (time
     pub fits : WellFormed (L .geometry) writing
     pub done : Rep (withFile L i (written L i offset bytes time)) (uncut (L .geometry) img writing)
     pub partly : (k : ℕ) (m : List Bool)
-        → Rep (withFile L i (partlyWrittenFile (fileOr (L .slots i)) offset bytes (tab (dataBy k m) 0 (length (writing .dataSectors))))) (stored (partOf k m (A (L .geometry) writing)) img)
+        → Rep (withFile L i (partlyWrittenFile (fileOr (L .slots i)) offset bytes (tabulate (dataBy k m) 0 (length (writing .dataSectors))))) (stored (partOf k m (A (L .geometry) writing)) img)
 
   -- EVERY WRITE of up to 65,536 bytes at an offset up to the size, for which there is room, does so
-  pub writes-carried : Rep L img → L .slots i ≡ just (fileOr (L .slots i)) → offset ≤ fileOr (L .slots i) .entry .size → length bytes ≤ longestTransfer
+  pub writes-carried : Rep L img → L .slots i ≡ some (fileOr (L .slots i)) → offset ≤ fileOr (L .slots i) .entry .size → length bytes ≤ longestTransfer
       → noRoom (catalogue L) i (sizeAfter (catalogue L) i offset (length bytes)) ≡ false → time < 2 ^ 32 → Writes
   writes-carried rep has start short room ht =
       let f = fileOr (L .slots i) in
@@ -130,7 +130,7 @@ module _ (L : Ledger) (img : List ℕ) (rep : Rep L img) (name : List ℕ) (offs
   module _ (ht : time < 2 ^ 32) (passed : Passed (writeConditions (catalogue L) name offset (length bytes))) where
     -- ---- what the conditions say
 
-    there : L .slots i ≡ just f
+    there : L .slots i ≡ some f
     unfolding writeConditions fileNamed catalogue
     there = file-there (L .slots i) name (place-found (λ k. hasName name (entryOfFile (L .slots k))) (L .geometry .files) (not-false (isAt (fileNamed c name)) (passed .1 .0)) .1)
 
@@ -172,7 +172,7 @@ module _ (L : Ledger) (img : List ℕ) (rep : Rep L img) (name : List ℕ) (offs
     unfolding writePlanned
     carried = go (eqb (length bytes) 0) refl
       where
-        go : (b : Bool) → eqb (length bytes) 0 ≡ b → Carried L img (write name offset bytes time room) (cond b none (just (writing L img i offset bytes time)))
+        go : (b : Bool) → eqb (length bytes) 0 ≡ b → Carried L img (write name offset bytes time room) (cond b none (some (writing L img i offset bytes time)))
         go true e = subst (λ (X : Ledger). Rep X img) (sym (after-is true e)) rep
         go false e = carries e
 

@@ -5,24 +5,24 @@ use mathlib.Core.Path.{_≡_, refl, sym, ap, _∙_, subst}
 use mathlib.Core.Logic.{_≢_}
 use mathlib.Core.Bool.{Bool, true, false, cond, _&&_}
 use mathlib.Core.List.{List}
-use mathlib.Core.Option.{some as just, Option·some-injective}
+use mathlib.Core.Option.{some, Option·some-injective}
 use native.Mathlib.Omega.{arith}
 use lib.Dec.{leb, ltb}
 use lib.ListN.{length, getD}
 use lib.Seq.{ext-getD}
 use borrow.Author.Tests.{leb-true, ltb-true}
-use Rattle.model.specs.Search.{tab}
+use Rattle.model.specs.Search.{tabulate}
 use Rattle.model.specs.Geometry.{extentSectors, entryAt, dataAt, extentsFor}
 use Rattle.model.specs.Disk.{view}
 use Rattle.model.specs.Root.{rootIn}
 use Rattle.model.specs.Table.{tableSectorOf}
 use Rattle.model.specs.Catalogue.{catalogueOf, isPart, entryOf, sectorOf, fileByte, fileBytes}
 use Rattle.model.specs.WriteList.{Plan, Group, stored}
-use Rattle.model.specs.Write.{placeOf, dataSector, touchedSectors, writePlan}
+use Rattle.model.specs.Write.{fileSectorAt, dataSector, touchedSectors, writePlan}
 use Rattle.model.specs.Cut.{dataBy}
 use Rattle.model.specs.Ledger.{Ledger, File, catalogue, withFile, partlyWritten}
 use Rattle.laws.proofs.Booleans.{and-left, and-right}
-use Rattle.laws.proofs.Search.{length-tab, getD-tab0}
+use Rattle.laws.proofs.Search.{length-tabulate, getD-tab0}
 use Rattle.safety.proofs.Apply.{over}
 use Rattle.safety.proofs.Plan.{UsableGeometry, A}
 use Rattle.safety.proofs.Commit.{Ready, partOf, ready-part}
@@ -46,7 +46,7 @@ module _ (L : Ledger) (img : List ℕ) (rep : Rep L img) (i : ℕ) (f : File) (o
 
   -- of each data sector, whether it landed
   abbrev mask : List Bool
-  mask = tab (dataBy k m) 0 (length (writePlan (catalogue L) i (view img) offset bytes time .dataSectors))
+  mask = tabulate (dataBy k m) 0 (length (writePlan (catalogue L) i (view img) offset bytes time .dataSectors))
 
   abbrev out : List ℕ
   out = stored (partOf k m (A (L .geometry) p)) img
@@ -71,7 +71,7 @@ module _ (L : Ledger) (img : List ℕ) (rep : Rep L img) (i : ℕ) (f : File) (o
       table-keep (L .geometry) (view img) (view out) (rep .ready .volume .geometry) (ready .volume .geometry) e
       (λ q. at-low (tableSectorOf (L .geometry) e) (out-table (L .geometry) geo e q) (omega arith)) ∙ rep .says .table e
 
-  kept : (j : ℕ) (v : File) → j ≢ i → L .slots j ≡ just v → (q : ℕ) → q < v .entry .size
+  kept : (j : ℕ) (v : File) → j ≢ i → L .slots j ≡ some v → (q : ℕ) → q < v .entry .size
       → view out (sectorOf (catalogue L) j (q / 512)) ≡ view img (sectorOf (catalogue L) j (q / 512))
   unfolding catalogue
   kept j v ne has q l =
@@ -93,12 +93,12 @@ module _ (L : Ledger) (img : List ℕ) (rep : Rep L img) (i : ℕ) (f : File) (o
       go true e =
           let u : offset ≤ q = leb-true offset q (and-left (leb offset q) (ltb q (offset + length bytes)) e) in
           let v : q < offset + length bytes = ltb-true q (offset + length bytes) (and-right (leb offset q) (ltb q (offset + length bytes)) e) in
-          let c : length (p .dataSectors) ≡ touchedSectors offset (length bytes) = length-tab (dataSector (catalogue L) i (view img) offset bytes) (offset / 512) (touchedSectors offset (length bytes)) in
+          let c : length (p .dataSectors) ≡ touchedSectors offset (length bytes) = length-tabulate (dataSector (catalogue L) i (view img) offset bytes) (offset / 512) (touchedSectors offset (length bytes)) in
           getD-tab0 (dataBy k m) (length (p .dataSectors)) (q / 512 - offset / 512) false (omega arith)
       go false e = refl
 
   abbrev y : File
-  y = partFile f (partlyWritten f offset bytes (tab (dataBy k m) 0 (length (writePlan (catalogue L) i (view img) offset bytes time .dataSectors))))
+  y = partFile f (partlyWritten f offset bytes (tabulate (dataBy k m) 0 (length (writePlan (catalogue L) i (view img) offset bytes time .dataSectors))))
 
   byte-part : (q : ℕ) → q < f .entry .size
       → fileByte (catalogue L) (view out) i q ≡ cond (inside q && getD mask (q / 512 - offset / 512) false) (getD bytes (q - offset) 0) (getD (f .bytes) q 0)
@@ -109,7 +109,7 @@ module _ (L : Ledger) (img : List ℕ) (rep : Rep L img) (i : ℕ) (f : File) (o
       let h : q / 512 / extentSectors (L .geometry) < extentsFor (L .geometry) (f .entry .size) = sector-held (L .geometry) (rep .bounded) (f .entry .size) (q / 512) (omega arith) in
       let u = place-usable L img rep i f offset bytes w (q / 512) (sector-held (L .geometry) (rep .bounded) (sizeWritten L i offset bytes) (q / 512) (omega arith)) in
       ap (λ j. getD (view out j) (q % 512) 0) (sector-old L img rep i f offset bytes w (q / 512) (omega arith))
-      ∙ ap (λ (v : List ℕ). getD v (q % 512) 0) (shows (placeOf (catalogue L) i (q / 512)) (out-data (L .geometry) geo (placeOf (catalogue L) i (q / 512)) (u .0) (u .1)))
+      ∙ ap (λ (v : List ℕ). getD v (q % 512) 0) (shows (fileSectorAt (catalogue L) i (q / 512)) (out-data (L .geometry) geo (fileSectorAt (catalogue L) i (q / 512)) (u .0) (u .1)))
       ∙ byte-landed L img rep i f offset bytes w k m q (omega arith) (λ e. l)
       ∙ sym (ap (λ (t : Bool). cond t (getD bytes (q - offset) 0) (getD (f .bytes) q 0)) (masked q))
 
@@ -119,8 +119,8 @@ module _ (L : Ledger) (img : List ℕ) (rep : Rep L img) (i : ℕ) (f : File) (o
       let c : length (f .bytes) ≡ f .entry .size = bytes-length L img rep i f (w .has) in
       bytes-of (catalogue L) (catalogueOf (view out)) (view out) i 0 (f .entry .size) (ready .volume .geometry) (λ o e. ap (isPart i o) (table-same e))
       ∙ ext-getD 0 (fileBytes (catalogue L) (view out) i 0 (f .entry .size)) (y .bytes)
-      (length-tab (fileByte (catalogue L) (view out) i) 0 (f .entry .size) ∙ sym (length-tab landed 0 (length (f .bytes)) ∙ c))
-      (λ q l. let h : q < f .entry .size = rw (length-tab (fileByte (catalogue L) (view out) i) 0 (f .entry .size)) at l in
+      (length-tabulate (fileByte (catalogue L) (view out) i) 0 (f .entry .size) ∙ sym (length-tabulate landed 0 (length (f .bytes)) ∙ c))
+      (λ q l. let h : q < f .entry .size = rw (length-tabulate (fileByte (catalogue L) (view out) i) 0 (f .entry .size)) at l in
       getD-tab0 (fileByte (catalogue L) (view out) i) (f .entry .size) q 0 h ∙ byte-part q h ∙ sym (getD-tab0 landed (length (f .bytes)) q 0 (omega arith)))
     where
       landed : ℕ → ℕ
@@ -132,7 +132,7 @@ module _ (L : Ledger) (img : List ℕ) (rep : Rep L img) (i : ℕ) (f : File) (o
   unfolding catalogue
   partly =
       let l : i < L .geometry .files = within L img rep i f offset bytes w in
-      rep-replaced L img rep (L .root) i (just y) out (record {
+      rep-replaced L img rep (L .root) i (some y) out (record {
         ready = ready;
         new-root = ap rootIn (at-low 1 (out-front (L .geometry) geo 1 (omega arith)) (omega arith)) ∙ rep .says .root;
         mark = marks-keep (view img) (view out) i (at-low (entryAt i) (out-front (L .geometry) geo (entryAt i) (omega arith)) (omega arith)) ∙ no-mark-fault L img (rep .says) i l;

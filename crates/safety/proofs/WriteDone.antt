@@ -5,7 +5,7 @@ use mathlib.Core.Path.{_≡_, refl, sym, ap, ap₂, _∙_, subst}
 use mathlib.Core.Logic.{_≢_}
 use mathlib.Core.Bool.{Bool, true, false, cond, _&&_, true≢false}
 use mathlib.Core.List.{List, [], _∷_}
-use mathlib.Core.Option.{some as just, Option·some-injective}
+use mathlib.Core.Option.{some, Option·some-injective}
 use native.Mathlib.Omega.{arith}
 use native.Mathlib.Decide.{decLt}
 use native.Mathlib.Nat.{zero-add}
@@ -13,7 +13,7 @@ use lib.Dec.{eqb, leb, ltb}
 use lib.ListN.{length, getD}
 use lib.Seq.{ext-getD}
 use borrow.Author.Tests.{eqb-true, eqb-false, eq-eqb, ne-eqb}
-use Rattle.model.specs.Bytes.{run}
+use Rattle.model.specs.Bytes.{bytesFrom}
 use Rattle.model.specs.Geometry.{extentSectors, usable, entryAt, journalAt, dataAt, reserveAt, tableSectors, extentsFor}
 use Rattle.model.specs.Disk.{view}
 use Rattle.model.specs.Root.{rootIn}
@@ -21,11 +21,11 @@ use Rattle.model.specs.Entry.{updatedEntrySector}
 use Rattle.model.specs.Table.{tableSectorOf, takenIn}
 use Rattle.model.specs.Catalogue.{catalogueOf, isPart, entryOf, sectorOf, fileByte, fileBytes}
 use Rattle.model.specs.WriteList.{Plan, Record, Group, sectorWrite}
-use Rattle.model.specs.Write.{heldExtents, placeOf, writePlan}
+use Rattle.model.specs.Write.{heldExtents, fileSectorAt, writePlan}
 use Rattle.model.specs.Ledger.{Ledger, File, catalogue, withFile, updatedEntry, written}
 use Rattle.laws.proofs.Booleans.{range-yes}
-use Rattle.laws.proofs.Bytes.{length-put, length-run, getD-put, getD-run}
-use Rattle.laws.proofs.Search.{length-tab, getD-tab0}
+use Rattle.laws.proofs.Bytes.{length-put, length-bytesFrom, getD-put, getD-bytesFrom}
+use Rattle.laws.proofs.Search.{length-tabulate, getD-tab0}
 use Rattle.laws.proofs.Disk.{length-view}
 use Rattle.safety.proofs.Apply.{over, over-here, over-skip, over-miss, All}
 use Rattle.safety.proofs.Journal.{Rising}
@@ -179,7 +179,7 @@ module _ (L : Ledger) (img : List ℕ) (rep : Rep L img) (i : ℕ) (f : File) (o
       (extents-le (L .geometry) (rep .bounded) (f .entry .size) (usable (L .geometry)) (size-small L img rep i f (w .has))) in
       omega (arith, rep .bounded .extents-high)
 
-  table-new : (e : ℕ) → catalogueOf (view out) .table e ≡ catalogue (replaced L (L .root) i (just y)) .table e
+  table-new : (e : ℕ) → catalogueOf (view out) .table e ≡ catalogue (replaced L (L .root) i (some y)) .table e
   table-new e =
       let l : i < L .geometry .files = here in
       table-changed L img out rep (ready .volume .geometry) b x i (length (f .extents)) (λ t. let q : x < usable (L .geometry) = taken L img rep i f offset bytes w t .0 in omega arith)
@@ -208,11 +208,11 @@ module _ (L : Ledger) (img : List ℕ) (rep : Rep L img) (i : ℕ) (f : File) (o
 
   new-byte : (q : ℕ) → q < z → getD (y .bytes) q 0 ≡ cond (inside q && true) (getD bytes (q - offset) 0) (getD (f .bytes) q 0)
   new-byte q l =
-      getD-put (run (f .bytes) 0 z) offset bytes q (rw (length-run (f .bytes) 0 z) l)
-      ∙ ap₂ (λ (t : Bool) (v : ℕ). cond t (getD bytes (q - offset) 0) v) (sym (all-landed (inside q))) (getD-run (f .bytes) 0 z q l ∙ ap (λ k. getD (f .bytes) k 0) (zero-add q))
+      getD-put (bytesFrom (f .bytes) 0 z) offset bytes q (rw (length-bytesFrom (f .bytes) 0 z) l)
+      ∙ ap₂ (λ (t : Bool) (v : ℕ). cond t (getD bytes (q - offset) 0) v) (sym (all-landed (inside q))) (getD-bytesFrom (f .bytes) 0 z q l ∙ ap (λ k. getD (f .bytes) k 0) (zero-add q))
 
   abbrev M : Ledger
-  M = replaced L (L .root) i (just (writtenFile L i f offset bytes time))
+  M = replaced L (L .root) i (some (writtenFile L i f offset bytes time))
 
   byte-new : (q : ℕ) → q < z → fileByte (catalogue M) (view out) i q ≡ getD (y .bytes) q 0
   unfolding fileByte
@@ -220,7 +220,7 @@ module _ (L : Ledger) (img : List ℕ) (rep : Rep L img) (i : ℕ) (f : File) (o
       let h : q / 512 / extentSectors (L .geometry) < extentsFor (L .geometry) z = sector-held (L .geometry) (rep .bounded) z (q / 512) (omega arith) in
       let u = place-usable L img rep i f offset bytes w (q / 512) h in
       ap (λ k. getD (view out k) (q % 512) 0) (sector-new L img rep i f offset bytes w time (q / 512) h)
-      ∙ ap (λ (v : List ℕ). getD v (q % 512) 0) (at-data (placeOf (catalogue L) i (q / 512)) (u .0) (u .1))
+      ∙ ap (λ (v : List ℕ). getD v (q % 512) 0) (at-data (fileSectorAt (catalogue L) i (q / 512)) (u .0) (u .1))
       ∙ byte-landed L img rep i f offset bytes w 1 [] q l (old-part q l) ∙ sym (new-byte q l)
 
   bytes-new : fileBytes (catalogueOf (view out)) (view out) i 0 z ≡ y .bytes
@@ -228,11 +228,11 @@ module _ (L : Ledger) (img : List ℕ) (rep : Rep L img) (i : ℕ) (f : File) (o
   bytes-new =
       bytes-of (catalogue M) (catalogueOf (view out)) (view out) i 0 z (ready .volume .geometry) (λ o e. ap (isPart i o) (table-new e))
       ∙ ext-getD 0 (fileBytes (catalogue M) (view out) i 0 z) (y .bytes)
-      (length-tab (fileByte (catalogue M) (view out) i) 0 z ∙ sym (length-put (run (f .bytes) 0 z) offset bytes ∙ length-run (f .bytes) 0 z))
-      (λ q l. let h : q < z = rw (length-tab (fileByte (catalogue M) (view out) i) 0 z) at l in getD-tab0 (fileByte (catalogue M) (view out) i) z q 0 h ∙ byte-new q h)
+      (length-tabulate (fileByte (catalogue M) (view out) i) 0 z ∙ sym (length-put (bytesFrom (f .bytes) 0 z) offset bytes ∙ length-bytesFrom (f .bytes) 0 z))
+      (λ q l. let h : q < z = rw (length-tabulate (fileByte (catalogue M) (view out) i) 0 z) at l in getD-tab0 (fileByte (catalogue M) (view out) i) z q 0 h ∙ byte-new q h)
 
   -- other files' sectors
-  kept : (k : ℕ) (v : File) → k ≢ i → L .slots k ≡ just v → (q : ℕ) → q < v .entry .size
+  kept : (k : ℕ) (v : File) → k ≢ i → L .slots k ≡ some v → (q : ℕ) → q < v .entry .size
       → view out (sectorOf (catalogue L) k (q / 512)) ≡ view img (sectorOf (catalogue L) k (q / 512))
   unfolding catalogue
   kept k v ne has q l =
@@ -247,7 +247,7 @@ module _ (L : Ledger) (img : List ℕ) (rep : Rep L img) (i : ℕ) (f : File) (o
   unfolding updatedEntry
   done ht =
       subst (λ (v : File). Rep (withFile L i v) out) (sym (written-is L img rep i f offset bytes w time))
-      (rep-replaced L img rep (L .root) i (just y) out (record {
+      (rep-replaced L img rep (L .root) i (some y) out (record {
         ready = ready;
         new-root = ap rootIn (at-front 1 (omega arith) (λ e. omega arith) (λ e. omega arith)) ∙ rep .says .root;
         mark = mark-updated L img rep i f (w .has) z time out (ready .volume .geometry) at-entry;

@@ -4,15 +4,15 @@ use Prim.Native.Nat.{ℕ, suc, _+_, _*_, _≤_, _<_, max}
 use mathlib.Core.Path.{_≡_, refl, sym, ap, ap₂, _∙_}
 use mathlib.Core.Bool.{Bool, true, false, cond, not, _&&_, false≢true}
 use mathlib.Core.List.{List, [], _∷_, _++_, append-nil}
-use mathlib.Core.Option.{Option, some as just}
+use mathlib.Core.Option.{Option, some}
 use native.Mathlib.Omega.{arith}
 use native.Mathlib.Nat.{mul-le-mul-right, suc-mul}
 use lib.Dec.{eqb, ltb}
 use lib.ListN.{length, length-append}
 use borrow.Author.Tests.{ltb-true, ltb-false, not-false}
 use Rattle.model.specs.declared.Geometry.{Geometry}
-use Rattle.model.specs.declared.Place.{Place}
-use Rattle.model.specs.Bytes.{run, put}
+use Rattle.model.specs.declared.Lowest.{Lowest}
+use Rattle.model.specs.Bytes.{bytesFrom, put}
 use Rattle.model.specs.Search.{isAt, indexOf}
 use Rattle.model.specs.Geometry.{extentBytes, extentsFor, usable}
 use Rattle.model.specs.Catalogue.{Catalogue, isFree, freeExtent, entryOf, entryOr, extentOf}
@@ -44,7 +44,7 @@ nextExtent L = indexOf (freeExtent (catalogue L))
 abbrev pub writtenFile : Ledger → ℕ → File → ℕ → List ℕ → ℕ → File
 writtenFile L i f offset bytes time = record {
   entry = updatedEntry (sizeWritten L i offset bytes) time (f .entry);
-  bytes = put (run (f .bytes) 0 (sizeWritten L i offset bytes)) offset bytes;
+  bytes = put (bytesFrom (f .bytes) 0 (sizeWritten L i offset bytes)) offset bytes;
   extents = f .extents ++ cond (takesOne L i offset bytes) (nextExtent L ∷ []) [];
 }
 
@@ -54,7 +54,7 @@ partFile f landed = record { entry = f .entry; bytes = landed; extents = f .exte
 -- ---- what a write may rest on where its conditions passed
 
 pub record Writable (L : Ledger) (i : ℕ) (f : File) (offset : ℕ) (bytes : List ℕ) : Type 0 where
-  pub has : L .slots i ≡ just f
+  pub has : L .slots i ≡ some f
   pub start : offset ≤ f .entry .size
   pub short : length bytes ≤ longestTransfer
   pub room : noRoom (catalogue L) i (sizeWritten L i offset bytes) ≡ false
@@ -124,7 +124,7 @@ module _ (L : Ledger) (img : List ℕ) (rep : Rep L img) (i : ℕ) (f : File) (o
       c : Catalogue
       c = catalogue L
 
-      entered : catalogue L .entries i ≡ just (f .entry)
+      entered : catalogue L .entries i ≡ some (f .entry)
       entered = entry-of L img rep i f (w .has)
 
       owned : (o : ℕ) → o < extentsFor (L .geometry) (f .entry .size) → catalogue L .table (extentOf (catalogue L) i o) ≡ owner i o
@@ -164,12 +164,12 @@ module _ (L : Ledger) (img : List ℕ) (rep : Rep L img) (i : ℕ) (f : File) (o
         ∙ (λ k. file f (sym size-is k) (unheld-is L k))
       where
         -- f with the bytes put in, by its size and by the extent that it takes
-        file : File → ℕ → Place → File
+        file : File → ℕ → Lowest → File
         file x m p =
             let s = max m (offset + length bytes) in
             record {
               entry = updatedEntry s time (x .entry);
-              bytes = put (run (x .bytes) 0 s) offset bytes;
+              bytes = put (bytesFrom (x .bytes) 0 s) offset bytes;
               extents = x .extents ++ cond (ltb (extentsFor (L .geometry) m) (extentsFor (L .geometry) s)) (indexOf p ∷ []) [];
             }
 
@@ -180,21 +180,21 @@ module _ (L : Ledger) (img : List ℕ) (rep : Rep L img) (i : ℕ) (f : File) (o
         go true = length-append (f .extents) (x ∷ []) ∙ (let e : n + 1 ≡ suc n = omega arith in e)
         go false = ap length (append-nil (f .extents))
 
-    pub table-written : (e : ℕ) → catalogue (replaced L (L .root) i (just (writtenFile L i f offset bytes time))) .table e
+    pub table-written : (e : ℕ) → catalogue (replaced L (L .root) i (some (writtenFile L i f offset bytes time))) .table e
         ≡ cond (takesOne L i offset bytes && eqb e (nextExtent L)) (owner i (length (f .extents))) (catalogue L .table e)
     table-written = table-taken L (L .root) i f (w .has) within (rep .disjoint) b x (λ t. taken t .1) y refl
 
-    pub disjoint-written : Disjoint (replaced L (L .root) i (just (writtenFile L i f offset bytes time)))
+    pub disjoint-written : Disjoint (replaced L (L .root) i (some (writtenFile L i f offset bytes time)))
     disjoint-written = disjoint-taken L (L .root) i f (w .has) within (rep .disjoint) b x (λ t. taken t .1) y refl
 
-    pub admissible-written : Admissible L (L .root) i (just (writtenFile L i f offset bytes time))
+    pub admissible-written : Admissible L (L .root) i (some (writtenFile L i f offset bytes time))
     unfolding updatedEntry
     admissible-written =
         admissible-kept L img rep i f (w .has) y refl refl size-bounded
         (others-taken L (L .root) i f (w .has) within (rep .disjoint) b x (λ t. taken t .1) y refl)
         (λ e l. owned-taken L (L .root) i f (w .has) within (rep .disjoint) b x (λ t. taken t .1) y refl (λ t. taken t .0) few old-exact e
         (usable-owned L img rep e l))
-        (ap (exact (catalogue (replaced L (L .root) i (just y))) i) needs
+        (ap (exact (catalogue (replaced L (L .root) i (some y))) i) needs
         ∙ exact-taken L (L .root) i f (w .has) within (rep .disjoint) b x (λ t. taken t .1) y refl (λ t. taken t .0) few old-exact)
 
   -- ---- the file as it stands where only some data sectors landed: other bytes, all else as before
@@ -209,17 +209,17 @@ module _ (L : Ledger) (img : List ℕ) (rep : Rep L img) (i : ℕ) (f : File) (o
     no-more : f .extents ≡ f .extents ++ []
     no-more = sym (append-nil (f .extents))
 
-    pub table-part : (e : ℕ) → catalogue (replaced L (L .root) i (just (partFile f landed))) .table e ≡ catalogue L .table e
+    pub table-part : (e : ℕ) → catalogue (replaced L (L .root) i (some (partFile f landed))) .table e ≡ catalogue L .table e
     table-part = table-taken L (L .root) i f (w .has) within (rep .disjoint) false 0 nothing-taken v no-more
 
-    pub disjoint-part : Disjoint (replaced L (L .root) i (just (partFile f landed)))
+    pub disjoint-part : Disjoint (replaced L (L .root) i (some (partFile f landed)))
     disjoint-part = disjoint-taken L (L .root) i f (w .has) within (rep .disjoint) false 0 nothing-taken v no-more
 
-    pub admissible-part : Admissible L (L .root) i (just (partFile f landed))
+    pub admissible-part : Admissible L (L .root) i (some (partFile f landed))
     admissible-part =
         admissible-kept L img rep i f (w .has) v refl refl (size-small L img rep i f (w .has))
         (others-taken L (L .root) i f (w .has) within (rep .disjoint) false 0 nothing-taken v no-more)
         (λ e l. owned-taken L (L .root) i f (w .has) within (rep .disjoint) false 0 nothing-taken v no-more (λ t. absurd (false≢true t)) few old-exact e
         (usable-owned L img rep e l))
-        (ap (exact (catalogue (replaced L (L .root) i (just v))) i) (sym (rep .sized i f (w .has)))
+        (ap (exact (catalogue (replaced L (L .root) i (some v))) i) (sym (rep .sized i f (w .has)))
         ∙ exact-taken L (L .root) i f (w .has) within (rep .disjoint) false 0 nothing-taken v no-more (λ t. absurd (false≢true t)) few old-exact)

@@ -5,24 +5,24 @@ use mathlib.Core.Path.{_≡_, refl, sym, ap, _∙_, subst}
 use mathlib.Core.Logic.{_≢_}
 use mathlib.Core.Bool.{Bool, true, false, cond, _&&_}
 use mathlib.Core.List.{List}
-use mathlib.Core.Option.{some as just}
+use mathlib.Core.Option.{some}
 use native.Mathlib.Omega.{arith}
 use native.Mathlib.Decide.{decLt, decLe}
 use lib.Dec.{eqb, leb, ltb}
 use lib.ListN.{length, getD}
 use borrow.Author.Tests.{eqb-true, eq-eqb, ltb-true, ltb-false, lt-ltb}
-use Rattle.model.specs.Search.{tab, indexOf}
+use Rattle.model.specs.Search.{tabulate, indexOf}
 use Rattle.model.specs.Geometry.{extentSectors, usable, extentAt, extentsFor, dataAt, reserveAt}
 use Rattle.model.specs.Disk.{view}
-use Rattle.model.specs.Catalogue.{Catalogue, isPart, isBeyond, extentOf, sectorOf, fileByte, fileBytes}
+use Rattle.model.specs.Catalogue.{Catalogue, isPart, ownedFrom, extentOf, sectorOf, fileByte, fileBytes}
 use Rattle.model.specs.WriteList.{Group}
-use Rattle.model.specs.Write.{heldExtents, placeOf, dataSector, touchedSectors, spliced}
+use Rattle.model.specs.Write.{heldExtents, fileSectorAt, dataSector, touchedSectors, spliced}
 use Rattle.model.specs.Cut.{dataBy}
 use Rattle.model.specs.Ledger.{Ledger, File, catalogue}
 use Rattle.laws.proofs.Booleans.{and-false, range-no}
 use Rattle.laws.proofs.Search.{first-ext, getD-tab0}
 use Rattle.laws.proofs.Disk.{length-view}
-use Rattle.safety.proofs.Apply.{over, hits, All, all-tab, all-miss, Own, own-tab}
+use Rattle.safety.proofs.Apply.{over, hits, All, all-tabulate, all-miss, Own, own-tabulate}
 use Rattle.safety.proofs.Plan.{UsableSector, Whole}
 use Rattle.safety.proofs.Commit.{partOf}
 use Rattle.safety.proofs.Rep.{Rep, cat-is}
@@ -31,11 +31,11 @@ use Rattle.safety.proofs.KeptFile.{entry-of, slot-within}
 use Rattle.safety.proofs.Extents.{owner, owner-file, owner-offset, free-unowned, extent-owned, extent-usable, none-beyond, sector-held, extent-sector, rest-lt, same-extent, same-sector}
 use Rattle.safety.proofs.TakenFile.{first-only, part-old, part-new}
 use Rattle.safety.proofs.WriteLedger.{sizeWritten, takesOne, nextExtent, Writable, within, held-is, needs, taken, writtenFile}
-use Rattle.safety.proofs.Spliced.{spliced-at, length-spliced, part-tab, part-miss}
+use Rattle.safety.proofs.Spliced.{spliced-at, length-spliced, part-tabulate, part-miss}
 
 -- the data sectors of a write into file i
 abbrev pub writes : Ledger → List ℕ → ℕ → ℕ → List ℕ → Group
-writes L img i offset bytes = tab (dataSector (catalogue L) i (view img) offset bytes) (offset / 512) (touchedSectors offset (length bytes))
+writes L img i offset bytes = tabulate (dataSector (catalogue L) i (view img) offset bytes) (offset / 512) (touchedSectors offset (length bytes))
 
 module _ (L : Ledger) (img : List ℕ) (rep : Rep L img) (i : ℕ) (f : File) (offset : ℕ) (bytes : List ℕ) (w : Writable L i f offset bytes) where
   abbrev z : ℕ
@@ -60,8 +60,8 @@ module _ (L : Ledger) (img : List ℕ) (rep : Rep L img) (i : ℕ) (f : File) (o
   abbrev Held : ℕ → Type 0
   Held o = o < extentsFor (L .geometry) (sizeWritten L i offset bytes)
 
-  place-is : (s : ℕ) → placeOf (catalogue L) i s ≡ extentAt (L .geometry) (ext (s / S)) + s % S
-  unfolding placeOf catalogue
+  place-is : (s : ℕ) → fileSectorAt (catalogue L) i s ≡ extentAt (L .geometry) (ext (s / S)) + s % S
+  unfolding fileSectorAt catalogue
   place-is s = refl
 
   -- an extent that the file had, or the one that is taken
@@ -108,18 +108,18 @@ module _ (L : Ledger) (img : List ℕ) (rep : Rep L img) (i : ℕ) (f : File) (o
   -- ---- places
 
   pub place-usable : (s : ℕ) → s / extentSectors (L .geometry) < extentsFor (L .geometry) (sizeWritten L i offset bytes)
-      → (dataAt (L .geometry) ≤ placeOf (catalogue L) i s) × (placeOf (catalogue L) i s < reserveAt (L .geometry))
+      → (dataAt (L .geometry) ≤ fileSectorAt (catalogue L) i s) × (fileSectorAt (catalogue L) i s < reserveAt (L .geometry))
   place-usable s h = rw (place-is s) (extent-sector (L .geometry) (rep .bounded) (ext (s / S)) (s % S) (ext-usable (s / S) h) (rest-lt (L .geometry) (rep .bounded) s))
 
   pub place-apart : (s t : ℕ) → s / extentSectors (L .geometry) < extentsFor (L .geometry) (sizeWritten L i offset bytes)
-      → t / extentSectors (L .geometry) < extentsFor (L .geometry) (sizeWritten L i offset bytes) → placeOf (catalogue L) i s ≡ placeOf (catalogue L) i t → s ≡ t
+      → t / extentSectors (L .geometry) < extentsFor (L .geometry) (sizeWritten L i offset bytes) → fileSectorAt (catalogue L) i s ≡ fileSectorAt (catalogue L) i t → s ≡ t
   place-apart s t h k e =
       let q = same-extent (L .geometry) (rep .bounded) (ext (s / S)) (ext (t / S)) s t (sym (place-is s) ∙ e ∙ place-is t) in
       same-sector (L .geometry) (rep .bounded) s t (ext-apart (s / S) (t / S) h k (q .0)) (q .1)
 
   -- another file's sector
-  pub place-other : (k : ℕ) (y : File) (s t : ℕ) → k ≢ i → L .slots k ≡ just y → 512 * s < y .entry .size
-      → t / extentSectors (L .geometry) < extentsFor (L .geometry) (sizeWritten L i offset bytes) → sectorOf (catalogue L) k s ≢ placeOf (catalogue L) i t
+  pub place-other : (k : ℕ) (y : File) (s t : ℕ) → k ≢ i → L .slots k ≡ some y → 512 * s < y .entry .size
+      → t / extentSectors (L .geometry) < extentsFor (L .geometry) (sizeWritten L i offset bytes) → sectorOf (catalogue L) k s ≢ fileSectorAt (catalogue L) i t
   unfolding sectorOf catalogue
   place-other k y s t ne has l h e =
       by-extent (λ o d. extentOf (catalogue L) k (s / S) ≡ d → ⊥)
@@ -133,15 +133,15 @@ module _ (L : Ledger) (img : List ℕ) (rep : Rep L img) (i : ℕ) (f : File) (o
           (sector-held (L .geometry) (rep .bounded) (y .entry .size) s l)
 
   -- the file's own, before and after
-  pub sector-old : (s : ℕ) → s / extentSectors (L .geometry) < length (f .extents) → sectorOf (catalogue L) i s ≡ placeOf (catalogue L) i s
-  unfolding sectorOf placeOf catalogue
+  pub sector-old : (s : ℕ) → s / extentSectors (L .geometry) < length (f .extents) → sectorOf (catalogue L) i s ≡ fileSectorAt (catalogue L) i s
+  unfolding sectorOf fileSectorAt catalogue
   sector-old s l =
       ap (λ (t : Bool). extentAt (L .geometry) (cond t (extentOf (catalogue L) i (s / S)) x) + s % S)
       (sym (lt-ltb (s / S) (heldExtents (catalogue L) i) (let v : heldExtents (catalogue L) i ≡ n = held-is L img rep i f offset bytes w in omega arith)))
 
   module _ (time : ℕ) where
     abbrev M : Ledger
-    M = replaced L (L .root) i (just (writtenFile L i f offset bytes time))
+    M = replaced L (L .root) i (some (writtenFile L i f offset bytes time))
 
     extent-new : (o : ℕ) → Held o → extentOf (catalogue M) i o ≡ ext o
     unfolding extentOf catalogue
@@ -161,9 +161,9 @@ module _ (L : Ledger) (img : List ℕ) (rep : Rep L img) (i : ℕ) (f : File) (o
         new : b ≡ true → (e : ℕ) → e < usable (L .geometry) → isPart i n (catalogue M .table e) ≡ eqb e x
         new t e u =
             part-new L (L .root) i f (w .has) here (rep .disjoint) b x (λ t. taken L img rep i f offset bytes w t .1) y refl e t
-            (ap (λ m. isBeyond i m (catalogue L .table e)) (rep .sized i f (w .has)) ∙ none-beyond (catalogue L) (rep .faultless) i (f .entry) here (entry-of L img rep i f (w .has)) e (omega arith))
+            (ap (λ m. ownedFrom i m (catalogue L .table e)) (rep .sized i f (w .has)) ∙ none-beyond (catalogue L) (rep .faultless) i (f .entry) here (entry-of L img rep i f (w .has)) e (omega arith))
 
-    pub sector-new : (s : ℕ) → s / extentSectors (L .geometry) < extentsFor (L .geometry) (sizeWritten L i offset bytes) → sectorOf (catalogue M) i s ≡ placeOf (catalogue L) i s
+    pub sector-new : (s : ℕ) → s / extentSectors (L .geometry) < extentsFor (L .geometry) (sizeWritten L i offset bytes) → sectorOf (catalogue M) i s ≡ fileSectorAt (catalogue L) i s
     unfolding sectorOf catalogue
     sector-new s h = ap (λ e. extentAt (L .geometry) e + s % S) (extent-new (s / S) h) ∙ sym (place-is s)
 
@@ -180,59 +180,59 @@ module _ (L : Ledger) (img : List ℕ) (rep : Rep L img) (i : ℕ) (f : File) (o
 
   -- no two of them are for one sector
   touched-apart : (j k : ℕ) → j < touchedSectors offset (length bytes) → k < touchedSectors offset (length bytes)
-      → placeOf (catalogue L) i (offset / 512 + j) ≡ placeOf (catalogue L) i (offset / 512 + k) → j ≡ k
+      → fileSectorAt (catalogue L) i (offset / 512 + j) ≡ fileSectorAt (catalogue L) i (offset / 512 + k) → j ≡ k
   touched-apart j k l m e =
       let d : offset / 512 + j ≡ offset / 512 + k = place-apart (offset / 512 + j) (offset / 512 + k) (touched-held j l) (touched-held k m) e in
       omega arith
 
   pub writes-usable : All (UsableSector (L .geometry)) (writes L img i offset bytes)
   unfolding dataSector
-  writes-usable = all-tab (UsableSector (L .geometry)) (dataSector (catalogue L) i (view img) offset bytes) (offset / 512) t (λ k l. place-usable (offset / 512 + k) (touched-held k l))
+  writes-usable = all-tabulate (UsableSector (L .geometry)) (dataSector (catalogue L) i (view img) offset bytes) (offset / 512) t (λ k l. place-usable (offset / 512 + k) (touched-held k l))
 
   pub writes-own : Own (writes L img i offset bytes)
   unfolding dataSector
-  writes-own = own-tab (dataSector (catalogue L) i (view img) offset bytes) (offset / 512) t touched-apart
+  writes-own = own-tabulate (dataSector (catalogue L) i (view img) offset bytes) (offset / 512) t touched-apart
 
   pub writes-whole : All Whole (writes L img i offset bytes)
   unfolding dataSector
   writes-whole =
-      all-tab Whole (dataSector (catalogue L) i (view img) offset bytes) (offset / 512) t
-      (λ k l. length-spliced offset bytes (offset / 512 + k) (view img (placeOf (catalogue L) i (offset / 512 + k))) ∙ length-view img (placeOf (catalogue L) i (offset / 512 + k)))
+      all-tabulate Whole (dataSector (catalogue L) i (view img) offset bytes) (offset / 512) t
+      (λ k l. length-spliced offset bytes (offset / 512 + k) (view img (fileSectorAt (catalogue L) i (offset / 512 + k))) ∙ length-view img (fileSectorAt (catalogue L) i (offset / 512 + k)))
 
   -- a sector that is none of the file's
-  pub writes-miss : (j : ℕ) → ((s : ℕ) → s / extentSectors (L .geometry) < extentsFor (L .geometry) (sizeWritten L i offset bytes) → j ≢ placeOf (catalogue L) i s)
+  pub writes-miss : (j : ℕ) → ((s : ℕ) → s / extentSectors (L .geometry) < extentsFor (L .geometry) (sizeWritten L i offset bytes) → j ≢ fileSectorAt (catalogue L) i s)
       → hits (writes L img i offset bytes) j ≡ false
   unfolding dataSector
   writes-miss j h =
-      all-miss j ds (all-tab (λ r. j ≢ r .sector) (dataSector (catalogue L) i (view img) offset bytes) (offset / 512) t (λ k l. h (offset / 512 + k) (touched-held k l)))
+      all-miss j ds (all-tabulate (λ r. j ≢ r .sector) (dataSector (catalogue L) i (view img) offset bytes) (offset / 512) t (λ k l. h (offset / 512 + k) (touched-held k l)))
 
   pub low-miss : (j : ℕ) → j < dataAt (L .geometry) → hits (writes L img i offset bytes) j ≡ false
   low-miss j l = writes-miss j (λ s h e. let q = place-usable s h in omega (arith, q .0))
 
   at-touched : (k : ℕ) (m : List Bool) (s : ℕ) (v : List ℕ) → offset / 512 ≤ s → s - offset / 512 < t
-      → over (partOf k m ds) (placeOf (catalogue L) i s) v ≡ cond (dataBy k m (s - offset / 512)) (spliced offset bytes s (view img (placeOf (catalogue L) i s))) v
+      → over (partOf k m ds) (fileSectorAt (catalogue L) i s) v ≡ cond (dataBy k m (s - offset / 512)) (spliced offset bytes s (view img (fileSectorAt (catalogue L) i s))) v
   unfolding dataSector
   at-touched k m s v p q =
       let e : offset / 512 + (s - offset / 512) ≡ s = omega arith in
-      subst (λ (u : ℕ). over (partOf k m ds) (placeOf (catalogue L) i u) v ≡ cond (dataBy k m (s - offset / 512)) (spliced offset bytes u (view img (placeOf (catalogue L) i u))) v) e
-      (part-tab k m (dataSector (catalogue L) i (view img) offset bytes) (offset / 512) t (s - offset / 512) v touched-apart q)
+      subst (λ (u : ℕ). over (partOf k m ds) (fileSectorAt (catalogue L) i u) v ≡ cond (dataBy k m (s - offset / 512)) (spliced offset bytes u (view img (fileSectorAt (catalogue L) i u))) v) e
+      (part-tabulate k m (dataSector (catalogue L) i (view img) offset bytes) (offset / 512) t (s - offset / 512) v touched-apart q)
 
-  at-missed : (k : ℕ) (m : List Bool) (s : ℕ) (v : List ℕ) → Held (s / S) → (offset / 512 ≤ s → s - offset / 512 < t → ⊥) → over (partOf k m ds) (placeOf (catalogue L) i s) v ≡ v
+  at-missed : (k : ℕ) (m : List Bool) (s : ℕ) (v : List ℕ) → Held (s / S) → (offset / 512 ≤ s → s - offset / 512 < t → ⊥) → over (partOf k m ds) (fileSectorAt (catalogue L) i s) v ≡ v
   unfolding dataSector
   at-missed k m s v h out =
-      part-miss k m ds (placeOf (catalogue L) i s) v
-      (all-miss (placeOf (catalogue L) i s) ds (all-tab (λ r. placeOf (catalogue L) i s ≢ r .sector) (dataSector (catalogue L) i (view img) offset bytes) (offset / 512) t
+      part-miss k m ds (fileSectorAt (catalogue L) i s) v
+      (all-miss (fileSectorAt (catalogue L) i s) ds (all-tabulate (λ r. fileSectorAt (catalogue L) i s ≢ r .sector) (dataSector (catalogue L) i (view img) offset bytes) (offset / 512) t
       (λ j l e. let q : s ≡ offset / 512 + j = place-apart s (offset / 512 + j) h (touched-held j l) e in out (omega arith) (omega arith))))
 
   -- BYTE j OF FILE SECTOR s where a part landed: new if the span has it and its sector landed, else old
   pub landed-byte : (k : ℕ) (m : List Bool) (s j : ℕ) → s / extentSectors (L .geometry) < extentsFor (L .geometry) (sizeWritten L i offset bytes) → j < 512
-      → getD (over (partOf k m (writes L img i offset bytes)) (placeOf (catalogue L) i s) (view img (placeOf (catalogue L) i s))) j 0
+      → getD (over (partOf k m (writes L img i offset bytes)) (fileSectorAt (catalogue L) i s) (view img (fileSectorAt (catalogue L) i s))) j 0
       ≡ cond (leb offset (512 * s + j) && ltb (512 * s + j) (offset + length bytes) && dataBy k m (s - offset / 512)) (getD bytes (512 * s + j - offset) 0)
-      (getD (view img (placeOf (catalogue L) i s)) j 0)
+      (getD (view img (fileSectorAt (catalogue L) i s)) j 0)
   landed-byte k m s j h l = go (decLe (offset / 512) s) (decLt (s - offset / 512) t)
     where
       old : List ℕ
-      old = view img (placeOf (catalogue L) i s)
+      old = view img (fileSectorAt (catalogue L) i s)
 
       inside : Bool
       inside = leb offset (512 * s + j) && ltb (512 * s + j) (offset + length bytes)
@@ -246,21 +246,21 @@ module _ (L : Ledger) (img : List ℕ) (rep : Rep L img) (i : ℕ) (f : File) (o
       hit false = sym (ap (λ (q : Bool). cond q (getD bytes (512 * s + j - offset) 0) (getD old j 0)) (and-false inside))
 
       missed : (offset / 512 ≤ s → s - offset / 512 < t → ⊥)
-          → getD (over (partOf k m ds) (placeOf (catalogue L) i s) old) j 0 ≡ cond (inside && dataBy k m (s - offset / 512)) (getD bytes (512 * s + j - offset) 0) (getD old j 0)
+          → getD (over (partOf k m ds) (fileSectorAt (catalogue L) i s) old) j 0 ≡ cond (inside && dataBy k m (s - offset / 512)) (getD bytes (512 * s + j - offset) 0) (getD old j 0)
       missed out =
           ap (λ (v : List ℕ). getD v j 0) (at-missed k m s old h out)
           ∙ sym (ap (λ (q : Bool). cond (q && dataBy k m (s - offset / 512)) (getD bytes (512 * s + j - offset) 0) (getD old j 0))
           (range-no offset (offset + length bytes) (512 * s + j) (λ p q. out (omega arith) (omega arith))))
 
       go : Dec (offset / 512 ≤ s) → Dec (s - offset / 512 < t)
-          → getD (over (partOf k m ds) (placeOf (catalogue L) i s) old) j 0 ≡ cond (inside && dataBy k m (s - offset / 512)) (getD bytes (512 * s + j - offset) 0) (getD old j 0)
+          → getD (over (partOf k m ds) (fileSectorAt (catalogue L) i s) old) j 0 ≡ cond (inside && dataBy k m (s - offset / 512)) (getD bytes (512 * s + j - offset) 0) (getD old j 0)
       go (yes p) (yes q) = ap (λ (v : List ℕ). getD v j 0) (at-touched k m s old p q) ∙ hit (dataBy k m (s - offset / 512))
       go (yes p) (no q) = missed (λ u v. q v)
       go (no p) q = missed (λ u v. p u)
 
   -- ---- the file's bytes
 
-  old-byte : (q : ℕ) → q < f .entry .size → getD (view img (placeOf (catalogue L) i (q / 512))) (q % 512) 0 ≡ getD (f .bytes) q 0
+  old-byte : (q : ℕ) → q < f .entry .size → getD (view img (fileSectorAt (catalogue L) i (q / 512))) (q % 512) 0 ≡ getD (f .bytes) q 0
   unfolding fileBytes fileByte
   old-byte q l =
       let s : n ≡ extentsFor (L .geometry) (f .entry .size) = rep .sized i f (w .has) in
@@ -272,15 +272,15 @@ module _ (L : Ledger) (img : List ℕ) (rep : Rep L img) (i : ℕ) (f : File) (o
   -- byte q of the file where a part landed, if it is below the old size or was written
   pub byte-landed : (k : ℕ) (m : List Bool) (q : ℕ) → q < sizeWritten L i offset bytes
       → ((leb offset q && ltb q (offset + length bytes) && dataBy k m (q / 512 - offset / 512)) ≡ false → q < f .entry .size)
-      → getD (over (partOf k m (writes L img i offset bytes)) (placeOf (catalogue L) i (q / 512)) (view img (placeOf (catalogue L) i (q / 512)))) (q % 512) 0
+      → getD (over (partOf k m (writes L img i offset bytes)) (fileSectorAt (catalogue L) i (q / 512)) (view img (fileSectorAt (catalogue L) i (q / 512)))) (q % 512) 0
       ≡ cond (leb offset q && ltb q (offset + length bytes) && dataBy k m (q / 512 - offset / 512)) (getD bytes (q - offset) 0) (getD (f .bytes) q 0)
   byte-landed k m q l low =
       let e : 512 * (q / 512) + q % 512 ≡ q = omega arith in
       landed-byte k m (q / 512) (q % 512) (sector-held (L .geometry) (rep .bounded) z (q / 512) (omega arith)) (omega arith)
-      ∙ ap (λ p. cond (leb offset p && ltb p (offset + length bytes) && dataBy k m (q / 512 - offset / 512)) (getD bytes (p - offset) 0) (getD (view img (placeOf (catalogue L) i (q / 512))) (q % 512) 0)) e
+      ∙ ap (λ p. cond (leb offset p && ltb p (offset + length bytes) && dataBy k m (q / 512 - offset / 512)) (getD bytes (p - offset) 0) (getD (view img (fileSectorAt (catalogue L) i (q / 512))) (q % 512) 0)) e
       ∙ go (leb offset q && ltb q (offset + length bytes) && dataBy k m (q / 512 - offset / 512)) low
     where
       go : (v : Bool) → (v ≡ false → q < f .entry .size)
-          → cond v (getD bytes (q - offset) 0) (getD (view img (placeOf (catalogue L) i (q / 512))) (q % 512) 0) ≡ cond v (getD bytes (q - offset) 0) (getD (f .bytes) q 0)
+          → cond v (getD bytes (q - offset) 0) (getD (view img (fileSectorAt (catalogue L) i (q / 512))) (q % 512) 0) ≡ cond v (getD bytes (q - offset) 0) (getD (f .bytes) q 0)
       go true r = refl
       go false r = old-byte q (r refl)

@@ -5,8 +5,8 @@ use mathlib.Core.Bool.{cond}
 use mathlib.Core.List.{List, [], _∷_}
 use lib.Dec.{eqb}
 use lib.ListN.{length}
-use Rattle.model.specs.Bytes.{run}
-use Rattle.model.specs.Search.{flat}
+use Rattle.model.specs.Bytes.{bytesFrom}
+use Rattle.model.specs.Search.{concatenated}
 use Rattle.model.specs.WriteList.{Record, Group, barrierNumber, stored}
 use Rattle.model.specs.CarryOut.{recordsIn, carryImage}
 use Rattle.model.specs.Cut.{Cut, landed}
@@ -31,9 +31,9 @@ cutImage x list img = stored (landed x (groupsIn (recordsIn list))) img
 unfoldable pub formatCarried : Format → (ℕ → List ℕ) → ℕ → List ℕ → List ℕ
 formatCarried a outs zero img = img
 formatCarried a outs (suc n) img =
-    carryImage (formatCarried a outs n img) (run (formatOutput a n (outs n)) 0 (formatAnswer a n (length (outs n)) .length))
+    carryImage (formatCarried a outs n img) (bytesFrom (formatOutput a n (outs n)) 0 (formatAnswer a n (length (outs n)) .length))
 
 -- the bytes of a format's records, one after the other, each asked for with the buffer outs gives
 unfoldable pub formatList : Format → (ℕ → List ℕ) → List ℕ
 formatList a outs =
-    flat (λ p. run (formatOutput a p (outs p)) 0 (formatAnswer a p (length (outs p)) .length)) 0 (formatCount (geometryFor (a .sectors) (a .files)))
+    concatenated (λ p. bytesFrom (formatOutput a p (outs p)) 0 (formatAnswer a p (length (outs p)) .length)) 0 (formatCount (geometryFor (a .sectors) (a .files)))

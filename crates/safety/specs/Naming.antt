@@ -3,10 +3,10 @@ use Prim.Native.Nat.{ℕ}
 use mathlib.Core.Logic.{_≢_}
 use mathlib.Core.Bool.{cond}
 use mathlib.Core.List.{List, [], _∷_}
-use mathlib.Core.Option.{Option, none, some as just}
+use mathlib.Core.Option.{Option, none, some}
 use lib.Dec.{eqb}
-use Rattle.model.specs.declared.Place.{Place}
-use Rattle.model.specs.declared.Place.the-variants.{At, Nowhere}
+use Rattle.model.specs.declared.Lowest.{Lowest}
+use Rattle.model.specs.declared.Lowest.the-variants.{At, Nowhere}
 use Rattle.model.specs.Search.{indexOf}
 use Rattle.model.specs.Geometry.{FileNumber}
 use Rattle.model.specs.Disk.{Disk, view}
@@ -33,19 +33,19 @@ pub record Contents : Type 0 where
   pub entry : Entry
   pub bytes : List ℕ
 
-abbrev pub contentsAt : Disk → Place → Option Contents
+abbrev pub contentsAt : Disk → Lowest → Option Contents
 contentsAt d Nowhere = none
 contentsAt d (At i) =
     let c = catalogueOf d in
-    just (record { entry = entryOf c i; bytes = fileBytes c d i 0 (entryOf c i .size) })
+    some (record { entry = entryOf c i; bytes = fileBytes c d i 0 (entryOf c i .size) })
 
 -- what an image says of the file of a name: nothing, or its entry in the directory and, by the table, its bytes in the data area
 unfoldable pub fileOn : List ℕ → List ℕ → Option Contents
 fileOn img name = contentsAt (view img) (fileNamed (catalogueOf (view img)) name)
 
-abbrev pub contentsIn : Ledger → Place → Option Contents
+abbrev pub contentsIn : Ledger → Lowest → Option Contents
 contentsIn L Nowhere = none
-contentsIn L (At i) = let f = fileOr (L .slots i) in just (record { entry = f .entry; bytes = f .bytes })
+contentsIn L (At i) = let f = fileOr (L .slots i) in some (record { entry = f .entry; bytes = f .bytes })
 
 -- what the ledger says of it
 unfoldable pub fileIn : Ledger → List ℕ → Option Contents
@@ -58,4 +58,4 @@ directoryOn img = catalogueOf (view img) .entries
 -- a directory with the new entry of a create in its lowest free slot
 abbrev pub withNewEntry : List ℕ → List ℕ → ℕ → ℕ → ℕ → FileNumber → Option Entry
 withNewEntry img name id mode time i =
-    cond (eqb i (indexOf (freeEntry (catalogueOf (view img))))) (just (newEntry name id mode time)) (directoryOn img i)
+    cond (eqb i (indexOf (freeEntry (catalogueOf (view img))))) (some (newEntry name id mode time)) (directoryOn img i)

@@ -1,7 +1,7 @@
 // Judging a volume: the first fault, and the refusals 1 to 7 that all calls but format, summary, recovery and carrying out share.
 // The judging needs no heap and no lent scratch; bench/README.md has its stack.
 use model::Geometry;
-use model::Place;
+use model::Lowest;
 use model::Soundness;
 use model::State;
 use model::Verdict;
@@ -17,16 +17,16 @@ pub fn first_fault(img: &[u8], g: Geometry) -> Soundness
     requires { ⌜ Opened (now img) g ⌝ }
     ensures { λ r. ⌜ r ≡ firstFault (view (now (img .entry))) ⌝ }
 {
-    if let Place::At(i) = directory::fault21(img, g) {
+    if let Lowest::At(i) = directory::fault21(img, g) {
         return Soundness::Faulty(21, i as u64);
     }
-    if let Place::At(i) = directory::fault22(img, g) {
+    if let Lowest::At(i) = directory::fault22(img, g) {
         return Soundness::Faulty(22, i as u64);
     }
-    if let Place::At(i) = duplicates::fault23(img, g) {
+    if let Lowest::At(i) = duplicates::fault23(img, g) {
         return Soundness::Faulty(23, i as u64);
     }
-    if let Place::At(i) = duplicates::fault24(img, g) {
+    if let Lowest::At(i) = duplicates::fault24(img, g) {
         return Soundness::Faulty(24, i as u64);
     }
     allocation::faults(img, g)

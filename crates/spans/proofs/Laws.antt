@@ -8,17 +8,17 @@ use native.Mathlib.Omega.{arith}
 use lib.Arith.{digits-div, digits-mod}
 use lib.ListN.{length, getD}
 use Rattle.model.specs.declared.Geometry.{Geometry}
-use Rattle.model.specs.declared.Place.{Place}
-use Rattle.model.specs.declared.Place.the-variants.{At, Nowhere}
-use Rattle.model.specs.Bytes.{run}
-use Rattle.model.specs.Search.{scan, tab, indexOf}
+use Rattle.model.specs.declared.Lowest.{Lowest}
+use Rattle.model.specs.declared.Lowest.the-variants.{At, Nowhere}
+use Rattle.model.specs.Bytes.{bytesFrom}
+use Rattle.model.specs.Search.{scan, tabulate, indexOf}
 use Rattle.model.specs.Geometry.{extentSectors, extentBytes, extentAt, usable, reserveExtents, superblockAt}
 use Rattle.model.specs.Disk.{view}
 use Rattle.model.specs.Superblock.{geometryIn}
 use Rattle.model.specs.Catalogue.{Catalogue, catalogueOf, isPart, extentOf, sectorOf, fileByte, fileBytes}
 use Rattle.model.specs.Opened.{Bounded, Opened}
 use Rattle.model.proofs.Areas.{reserve-small}
-use Rattle.laws.proofs.Search.{Hit, scan-hit, length-tab, tab-split}
+use Rattle.laws.proofs.Search.{Hit, scan-hit, length-tabulate, tabulate-split}
 use Rattle.laws.proofs.Disk.{getD-view}
 
 -- ---- one extent's bytes
@@ -37,8 +37,8 @@ byte-at c img i o x h =
 
 -- n bytes from byte x on of the extent of offset o
 pub piece : (c : Catalogue) (img : List ℕ) (i o x n : ℕ) → x + n ≤ extentBytes (c .geometry) →
-    fileBytes c (view img) i (512 * (o * extentSectors (c .geometry)) + x) n ≡ run img (512 * extentAt (c .geometry) (extentOf c i o) + x) n
-unfolding fileBytes tab run
+    fileBytes c (view img) i (512 * (o * extentSectors (c .geometry)) + x) n ≡ bytesFrom img (512 * extentAt (c .geometry) (extentOf c i o) + x) n
+unfolding fileBytes tabulate bytesFrom
 piece c img i o x zero h = refl
 piece c img i o x (suc n) h =
     let s = extentSectors (c .geometry) in
@@ -48,18 +48,18 @@ piece c img i o x (suc n) h =
 
 pub length-fileBytes : (img : List ℕ) (i offset n : ℕ) → length (fileBytes (catalogueOf (view img)) (view img) i offset n) ≡ n
 unfolding fileBytes
-length-fileBytes img i offset n = length-tab (fileByte (catalogueOf (view img)) (view img) i) offset n
+length-fileBytes img i offset n = length-tabulate (fileByte (catalogueOf (view img)) (view img) i) offset n
 
 -- a span cut in two
 pub span-cut : (img : List ℕ) (i offset n m : ℕ)
     → fileBytes (catalogueOf (view img)) (view img) i offset (n + m)
     ≡ fileBytes (catalogueOf (view img)) (view img) i offset n ++ fileBytes (catalogueOf (view img)) (view img) i (offset + n) m
 unfolding fileBytes
-span-cut img i offset n m = tab-split (fileByte (catalogueOf (view img)) (view img) i) offset n m
+span-cut img i offset n m = tabulate-split (fileByte (catalogueOf (view img)) (view img) i) offset n m
 
 -- ---- an extent lies in the volume
 
-pub found-below : (p : ℕ → Bool) (n : ℕ) (r : Place) → 0 < n → Hit p n 0 r → indexOf r < n
+pub found-below : (p : ℕ → Bool) (n : ℕ) (r : Lowest) → 0 < n → Hit p n 0 r → indexOf r < n
 found-below p n (At k) h q = omega (arith, q .1)
 found-below p n Nowhere h q = h
 
@@ -109,7 +109,7 @@ module _ (img : List ℕ) (g : Geometry) (h : Opened img g) (i offset x start : 
   piece-inside = rw at (extent-inside img g h x piece-below)
 
   pub piece-is : (m : ℕ) → offset % extentBytes g + m ≤ extentBytes g
-      → fileBytes (catalogueOf (view img)) (view img) i offset m ≡ run img (512 * start + offset % extentBytes g) m
+      → fileBytes (catalogueOf (view img)) (view img) i offset m ≡ bytesFrom img (512 * start + offset % extentBytes g) m
   unfolding catalogueOf
   piece-is m l =
       let s0 = geometryIn (view img superblockAt) in
@@ -118,5 +118,5 @@ module _ (img : List ℕ) (g : Geometry) (h : Opened img g) (i offset x start : 
       at ∙ ap (extentAt g) found ∙ ap (λ (q : Geometry). extentAt q (extentOf (catalogueOf (view img)) i (offset / extentBytes q))) (h .is) in
       ap (λ (z : ℕ). fileBytes (catalogueOf (view img)) (view img) i z m) (offset-split g (h .bounded) offset ∙ ap (λ (q : Geometry). 512 * (offset / extentBytes q * extentSectors q) + offset % extentBytes q) (h .is))
       ∙ piece (catalogueOf (view img)) img i (offset / extentBytes s0) (offset % extentBytes s0) m b
-      ∙ ap (λ (z : ℕ). run img (512 * z + offset % extentBytes s0) m) (sym k)
-      ∙ ap (λ (q : Geometry). run img (512 * start + offset % extentBytes q) m) (sym (h .is))
+      ∙ ap (λ (z : ℕ). bytesFrom img (512 * z + offset % extentBytes s0) m) (sym k)
+      ∙ ap (λ (q : Geometry). bytesFrom img (512 * start + offset % extentBytes q) m) (sym (h .is))

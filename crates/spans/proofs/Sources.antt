@@ -7,9 +7,9 @@ use native.Mathlib.Omega.{arith}
 use lib.Dec.{eqb}
 use lib.ListN.{length, getD}
 use borrow.Author.Tests.{eq-eqb, ne-eqb, eqb-true}
-use Rattle.model.specs.Bytes.{run}
+use Rattle.model.specs.Bytes.{bytesFrom}
 use Rattle.model.specs.Resize.{zeros}
-use Rattle.laws.proofs.Bytes.{length-run, run-all, run-ext, getD-run}
+use Rattle.laws.proofs.Bytes.{length-bytesFrom, bytesFrom-all, bytesFrom-ext, getD-bytesFrom}
 use Rattle.spans.specs.Touched.{Source, spanOf}
 
 module _ (bytes : List ℕ) (len : ℕ) where
@@ -27,7 +27,7 @@ module _ (bytes : List ℕ) (len : ℕ) where
     where
       go : (b : Bool) → eqb (length bytes) len ≡ b → length (cond b bytes (zeros len)) ≡ len
       go true e = eqb-true (length bytes) len e
-      go false e = length-run [] 0 len
+      go false e = length-bytesFrom [] 0 len
 
   -- zeros, however they are lent
   pub span-zeros : ((p : ℕ) → getD bytes p 0 ≡ 0) → spanOf bytes len ≡ zeros len
@@ -35,16 +35,16 @@ module _ (bytes : List ℕ) (len : ℕ) where
   span-zeros z = go (eqb (length bytes) len) refl
     where
       go : (b : Bool) → eqb (length bytes) len ≡ b → cond b bytes (zeros len) ≡ zeros len
-      go true e = sym (run-all bytes len (eqb-true (length bytes) len e)) ∙ run-ext bytes [] 0 0 len (λ i l. z (0 + i))
+      go true e = sym (bytesFrom-all bytes len (eqb-true (length bytes) len e)) ∙ bytesFrom-ext bytes [] 0 0 len (λ i l. z (0 + i))
       go false e = refl
 
-  pub own-run : (at n : ℕ) → length bytes ≡ len → run bytes at n ≡ run (spanOf bytes len) at n
-  own-run at n e = ap (λ (x : List ℕ). run x at n) (sym (span-own e))
+  pub own-run : (at n : ℕ) → length bytes ≡ len → bytesFrom bytes at n ≡ bytesFrom (spanOf bytes len) at n
+  own-run at n e = ap (λ (x : List ℕ). bytesFrom x at n) (sym (span-own e))
 
-  pub other-run : Source bytes len → (at n : ℕ) → (length bytes ≡ len → ⊥) → at + n ≤ len → run bytes 0 n ≡ run (spanOf bytes len) at n
+  pub other-run : Source bytes len → (at n : ℕ) → (length bytes ≡ len → ⊥) → at + n ≤ len → bytesFrom bytes 0 n ≡ bytesFrom (spanOf bytes len) at n
   other-run S at n o h =
       rw (span-other o)
-      (run-ext bytes (zeros len) 0 at n (λ i l. S .zero o (0 + i) ∙ sym (getD-run [] 0 len (at + i) (let q : at + i < len = omega arith in q))))
+      (bytesFrom-ext bytes (zeros len) 0 at n (λ i l. S .zero o (0 + i) ∙ sym (getD-bytesFrom [] 0 len (at + i) (let q : at + i < len = omega arith in q))))
 
 -- what is lent: the bytes themselves, or at least a sector of zeros
 pub source-own : (bytes : List ℕ) → Source bytes (length bytes)

@@ -10,30 +10,30 @@ use lib.Arith.{digits-div, digits-mod}
 use lib.Dec.{ltb}
 use lib.ListN.{length}
 use Rattle.model.specs.declared.Geometry.{Geometry}
-use Rattle.model.specs.Bytes.{run, put}
-use Rattle.model.specs.Search.{scan, tab, indexOf}
+use Rattle.model.specs.Bytes.{bytesFrom, put}
+use Rattle.model.specs.Search.{scan, tabulate, indexOf}
 use Rattle.model.specs.Geometry.{extentSectors, extentAt, usable, superblockAt}
 use Rattle.model.specs.Disk.{view}
 use Rattle.model.specs.Superblock.{geometryIn}
 use Rattle.model.specs.Catalogue.{catalogueOf, isFree, extentOf, freeExtent}
 use Rattle.model.specs.WriteList.{sectorWrite}
-use Rattle.model.specs.Write.{spliced, splicedFrom, heldExtents, placeOf, dataSector}
+use Rattle.model.specs.Write.{spliced, splicedFrom, heldExtents, fileSectorAt, dataSector}
 use Rattle.model.specs.Opened.{Opened}
-use Rattle.laws.proofs.Bytes.{length-run, put-all}
-use Rattle.laws.proofs.Search.{scan-hit, tab-ext}
+use Rattle.laws.proofs.Bytes.{length-bytesFrom, put-all}
+use Rattle.laws.proofs.Search.{scan-hit, tabulate-ext}
 use Rattle.spans.specs.Touched.{Lent}
 use Rattle.spans.proofs.Laws.{found-below, usable-some, extent-below, extent-inside}
 
 module _ (offset s : ℕ) (bytes old : List ℕ) (from to : ℕ) (first : from ≡ max offset (512 * s)) (last : to ≡ min (offset + length bytes) (512 * s + 512)) where
-  pub splice-part : put old (from - 512 * s) (run bytes (from - offset) (to - from)) ≡ spliced offset bytes s old
+  pub splice-part : put old (from - 512 * s) (bytesFrom bytes (from - offset) (to - from)) ≡ spliced offset bytes s old
   unfolding spliced splicedFrom
   splice-part = rw (first, last)
 
-  pub splice-whole : length old ≡ 512 → to - from ≡ 512 → run bytes (from - offset) 512 ≡ spliced offset bytes s old
+  pub splice-whole : length old ≡ 512 → to - from ≡ 512 → bytesFrom bytes (from - offset) 512 ≡ spliced offset bytes s old
   splice-whole l h =
       let z : from - 512 * s ≡ 0 = omega arith in
-      sym (put-all old (run bytes (from - offset) 512) (length-run bytes (from - offset) 512 ∙ sym l))
-      ∙ ap₂ (λ (a n : ℕ). put old a (run bytes (from - offset) n)) (sym z) (sym h)
+      sym (put-all old (bytesFrom bytes (from - offset) 512) (length-bytesFrom bytes (from - offset) 512 ∙ sym l))
+      ∙ ap₂ (λ (a n : ℕ). put old a (bytesFrom bytes (from - offset) n)) (sym z) (sym h)
       ∙ splice-part
 
 -- ---- where the file's sectors of one extent stand
@@ -60,8 +60,8 @@ module _ (img : List ℕ) (g : Geometry) (h : Opened img g) (i held next s x sta
   pub lent-inside : 512 * (start + extentSectors g) ≤ length img
   lent-inside = rw at (omega (arith, extent-inside img g h x lent-below))
 
-  place-at : (k : ℕ) → s % extentSectors g + k < extentSectors g → placeOf (catalogueOf (view img)) i (s + k) ≡ start + s % extentSectors g + k
-  unfolding placeOf catalogueOf
+  place-at : (k : ℕ) → s % extentSectors g + k < extentSectors g → fileSectorAt (catalogueOf (view img)) i (s + k) ≡ start + s % extentSectors g + k
+  unfolding fileSectorAt catalogueOf
   place-at k l =
       let S = extentSectors g in
       let d : s ≡ s / S * S + s % S = sym (div-add-mod' s S) in
@@ -77,12 +77,12 @@ module _ (img : List ℕ) (g : Geometry) (h : Opened img g) (i held next s x sta
 
   -- m sectors of one extent, as put_piece emits them
   pub piece-records : (offset : ℕ) (bytes : List ℕ) (m : ℕ) → s % extentSectors g + m ≤ extentSectors g
-      → tab (λ k. sectorWrite (start + s % extentSectors g + (k - s)) (spliced offset bytes k (view img (start + s % extentSectors g + (k - s))))) s m
-      ≡ tab (dataSector (catalogueOf (view img)) i (view img) offset bytes) s m
+      → tabulate (λ k. sectorWrite (start + s % extentSectors g + (k - s)) (spliced offset bytes k (view img (start + s % extentSectors g + (k - s))))) s m
+      ≡ tabulate (dataSector (catalogueOf (view img)) i (view img) offset bytes) s m
   unfolding dataSector
   piece-records offset bytes m l =
-      tab-ext _ (dataSector (catalogueOf (view img)) i (view img) offset bytes) s s m
+      tabulate-ext _ (dataSector (catalogueOf (view img)) i (view img) offset bytes) s s m
       (λ k b.
-      let e : start + s % extentSectors g + (s + k - s) ≡ placeOf (catalogueOf (view img)) i (s + k) =
+      let e : start + s % extentSectors g + (s + k - s) ≡ fileSectorAt (catalogueOf (view img)) i (s + k) =
       (let f : start + s % extentSectors g + (s + k - s) ≡ start + s % extentSectors g + k = omega arith in f) ∙ sym (place-at k (omega arith)) in
       ap (λ (p : ℕ). sectorWrite p (spliced offset bytes (s + k) (view img p))) e)

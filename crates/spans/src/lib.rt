@@ -10,8 +10,8 @@ ghost use mathlib.Core.List.{[], _∷_};
 ghost use Prim.Native.Nat.{_+_, _*_, _-_, _≤_, _<_, _^_, min, max};
 ghost use lib.Dec.{ltb};
 ghost use lib.ListN.{length};
-ghost use Rattle.model.specs.Bytes.{run, put};
-ghost use Rattle.model.specs.Search.{tab};
+ghost use Rattle.model.specs.Bytes.{bytesFrom, put};
+ghost use Rattle.model.specs.Search.{tabulate};
 ghost use Rattle.model.specs.Disk.{view};
 ghost use Rattle.model.specs.Table.{freeFile};
 ghost use Rattle.model.specs.Catalogue.{catalogueOf, fileBytes, extentOf};
@@ -60,7 +60,7 @@ fn read_piece(
     let start = g.extent_at(table::extent_of(img, g, i, offset / e));
     let within = offset % e;
     let m = least(e - within, n as u64) as usize;
-    fields::copy_run(img, (512 * start.0 + within) as usize, out, at, m);
+    fields::copy_bytes(img, (512 * start.0 + within) as usize, out, at, m);
     m
 }
 
@@ -93,7 +93,7 @@ fn place_in(bytes: &[u8], len: u64, at: u64, n: u64) -> usize
     requires { ⌜ Source (now bytes) len ⌝ }
     requires { ⌜ (at + n ≤ len) × (n ≤ 512) ⌝ }
     ensures { λ r. ⌜ r + n ≤ length (now (bytes .entry)) ⌝ }
-    ensures { λ r. ⌜ run (now (bytes .entry)) r n ≡ run (spanOf (now (bytes .entry)) len) at n ⌝ }
+    ensures { λ r. ⌜ bytesFrom (now (bytes .entry)) r n ≡ bytesFrom (spanOf (now (bytes .entry)) len) at n ⌝ }
 {
     if bytes.len() as u64 == len {
         return at as usize;
@@ -126,7 +126,7 @@ fn put_data_sector(
         return lists::put_from(list, k, place, bytes, at);
     }
     let mut a = fields::sector(img, place);
-    fields::copy_run(
+    fields::copy_bytes(
         bytes,
         at,
         &mut a,
@@ -153,7 +153,7 @@ fn put_piece(
     requires { ⌜ Touched offset len s n ⌝ }
     requires { ⌜ Source (now bytes) len ⌝ }
     ensures { λ r. ⌜ r ≡ k + n ⌝ }
-    ensures { λ r. ⌜ Emitted (now (list .entry)) k (tab (λ x. sectorWrite (start .0 + (x - s)) (spliced offset (spanOf (now (bytes .entry)) len) x (view (now (img .entry)) (start .0 + (x - s))))) s n) (now (list .exit)) r ⌝ }
+    ensures { λ r. ⌜ Emitted (now (list .entry)) k (tabulate (λ x. sectorWrite (start .0 + (x - s)) (spliced offset (spanOf (now (bytes .entry)) len) x (view (now (img .entry)) (start .0 + (x - s))))) s n) (now (list .exit)) r ⌝ }
 {
     let mut at = k;
     let mut j: u64 = 0;
@@ -207,7 +207,7 @@ fn put_in_extent(
     requires { ⌜ Source (now bytes) len ⌝ }
     requires { ⌜ 0 < n ⌝ }
     ensures { λ r. ⌜ (0 < r) × (r ≤ n) ⌝ }
-    ensures { λ r. ⌜ Emitted (now (list .entry)) k (tab (dataSector (catalogueOf (view (now (img .entry)))) (i .0) (view (now (img .entry))) offset (spanOf (now (bytes .entry)) len)) s r) (now (list .exit)) (k + r) ⌝ }
+    ensures { λ r. ⌜ Emitted (now (list .entry)) k (tabulate (dataSector (catalogueOf (view (now (img .entry)))) (i .0) (view (now (img .entry))) offset (spanOf (now (bytes .entry)) len)) s r) (now (list .exit)) (k + r) ⌝ }
 {
     let size = g.extent_sectors as u64;
     let within = s % size;
@@ -248,7 +248,7 @@ pub fn put_data(
     requires { ⌜ Touched offset len s n ⌝ }
     requires { ⌜ Source (now bytes) len ⌝ }
     ensures { λ r. ⌜ r ≡ k + n ⌝ }
-    ensures { λ r. ⌜ Emitted (now (list .entry)) k (tab (dataSector (catalogueOf (view (now (img .entry)))) (i .0) (view (now (img .entry))) offset (spanOf (now (bytes .entry)) len)) s n) (now (list .exit)) r ⌝ }
+    ensures { λ r. ⌜ Emitted (now (list .entry)) k (tabulate (dataSector (catalogueOf (view (now (img .entry)))) (i .0) (view (now (img .entry))) offset (spanOf (now (bytes .entry)) len)) s n) (now (list .exit)) r ⌝ }
 {
     if n == 0 {
         return k;

@@ -3,7 +3,7 @@ use Prim.Native.Nat.{ℕ, _+_, _-_, _*_, _/_, _%_, _≤_, _<_}
 use mathlib.Core.Path.{_≡_, refl, sym, ap, _∙_}
 use mathlib.Core.Bool.{Bool, true, false, cond, not, _&&_}
 use mathlib.Core.List.{List}
-use mathlib.Core.Option.{none, some as just}
+use mathlib.Core.Option.{none, some}
 use native.Mathlib.Numerals.{add-one}
 use native.Mathlib.Nat.{div-add-mod', div-lt-iff-lt-mul, mul-le-mul-left, suc-mul, mod-lt}
 use native.Mathlib.Omega.{arith}
@@ -12,30 +12,30 @@ use lib.Dec.{eqb, leb}
 use borrow.Author.Tests.{le-ltb, eq-eqb, ne-eqb, eqb-true, eqb-false}
 use Rattle.model.specs.declared.Geometry.{Geometry}
 use Rattle.model.specs.Bytes.{beAt, put}
-use Rattle.model.specs.declared.Place.the-variants.{Nowhere}
-use Rattle.model.specs.Search.{scan, some, first, count, indexOf}
+use Rattle.model.specs.declared.Lowest.the-variants.{Nowhere}
+use Rattle.model.specs.Search.{scan, anyBelow, first, countBelow, indexOf}
 use Rattle.model.specs.Geometry.{usable, tableAt, tableSectors}
 use Rattle.model.specs.Disk.{Disk, view}
 use Rattle.model.specs.Superblock.{geometryIn}
 use Rattle.model.specs.Table.{freeFile, tableFile, tableOffset, tableEntryBytes, freedIn}
-use Rattle.model.specs.Catalogue.{Owner, catalogueOf, isFree, isPart, isBeyond, freeExtent, extentOf, holdsBeyond, sectorsBeyond}
+use Rattle.model.specs.Catalogue.{Owner, catalogueOf, isFree, isPart, ownedFrom, freeExtent, extentOf, holdsFrom, sectorsFrom}
 use Rattle.laws.proofs.Disk.{beAt-view}
 use Rattle.laws.proofs.Search.{first-ext, scan-none, none-at}
 use Rattle.laws.proofs.Catalogue.{table-on, part-is}
 use Rattle.table.specs.Word.{swapped, entryWord}
 
 -- where the test holds of none of n indexes from i on, the search of them finds nothing
-pub nowhere-from : (p : ℕ → Bool) (i n : ℕ) → some (λ k. p (i + k)) n ≡ false → Nowhere ≡ scan p n i
+pub nowhere-from : (p : ℕ → Bool) (i n : ℕ) → anyBelow (λ k. p (i + k)) n ≡ false → Nowhere ≡ scan p n i
 nowhere-from p i n e =
     sym (scan-none p n i (λ k a b. let z : i + (k - i) ≡ k = omega arith in rw z at (none-at (λ j. p (i + j)) n e (k - i) (omega arith))))
 
-vacant : (b : Bool) (w : Owner) → isFree (cond (not b) (just w) none) ≡ b
+vacant : (b : Bool) (w : Owner) → isFree (cond (not b) (some w) none) ≡ b
 vacant true w = refl
 vacant false w = refl
 
 beyond-of : (d : Disk) (i o e : ℕ) → i < freeFile → e < geometryIn (d 0) .extents
-    → isBeyond i o (catalogueOf d .table e) ≡ (eqb (tableFile (geometryIn (d 0)) d e) i && leb o (tableOffset (geometryIn (d 0)) d e))
-beyond-of d i o e few l = ap (isBeyond i o) (table-on d e l) ∙ go (eqb (tableFile (geometryIn (d 0)) d e) freeFile) refl
+    → ownedFrom i o (catalogueOf d .table e) ≡ (eqb (tableFile (geometryIn (d 0)) d e) i && leb o (tableOffset (geometryIn (d 0)) d e))
+beyond-of d i o e few l = ap (ownedFrom i o) (table-on d e l) ∙ go (eqb (tableFile (geometryIn (d 0)) d e) freeFile) refl
   where
     f : ℕ
     f = tableFile (geometryIn (d 0)) d e
@@ -43,7 +43,7 @@ beyond-of d i o e few l = ap (isBeyond i o) (table-on d e l) ∙ go (eqb (tableF
     w : Owner
     w = record { file = tableFile (geometryIn (d 0)) d e; offset = tableOffset (geometryIn (d 0)) d e }
 
-    go : (b : Bool) → eqb f freeFile ≡ b → isBeyond i o (cond (not b) (just w) none) ≡ (eqb f i && leb o (w .offset))
+    go : (b : Bool) → eqb f freeFile ≡ b → ownedFrom i o (cond (not b) (some w) none) ≡ (eqb f i && leb o (w .offset))
     go true q = let z : f ≡ freeFile = eqb-true f freeFile q in sym (rw (ne-eqb f i (λ y. omega arith)))
     go false q = refl
 
@@ -62,16 +62,16 @@ module _ (d : Disk) (g : Geometry) (is : g ≡ geometryIn (d 0)) where
   pub part-on : (i o e : ℕ) → i < freeFile → e < g .extents → isPart i o (catalogueOf d .table e) ≡ (eqb (tableFile g d e) i && eqb (tableOffset g d e) o)
   part-on i o e few l = rw is (part-is d i few o e (rw is at l))
 
-  pub beyond-on : (i o e : ℕ) → i < freeFile → e < g .extents → isBeyond i o (catalogueOf d .table e) ≡ (eqb (tableFile g d e) i && leb o (tableOffset g d e))
+  pub beyond-on : (i o e : ℕ) → i < freeFile → e < g .extents → ownedFrom i o (catalogueOf d .table e) ≡ (eqb (tableFile g d e) i && leb o (tableOffset g d e))
   beyond-on i o e few l = rw is (beyond-of d i o e few (rw is at l))
 
-  pub beyond-past : (i o e : ℕ) → g .extents ≤ e → isBeyond i o (catalogueOf d .table e) ≡ false
+  pub beyond-past : (i o e : ℕ) → g .extents ≤ e → ownedFrom i o (catalogueOf d .table e) ≡ false
   unfolding catalogueOf
   beyond-past i o e h = rw (le-ltb e (geometryIn (d 0) .extents) (rw is at h))
 
-  pub sectors-beyond-is : (i o : ℕ) → sectorsBeyond (catalogueOf d) i o ≡ count (holdsBeyond (catalogueOf d) i o) (tableSectors g)
-  unfolding sectorsBeyond catalogueOf
-  sectors-beyond-is i o = rw is
+  pub sectors-from-is : (i o : ℕ) → sectorsFrom (catalogueOf d) i o ≡ countBelow (holdsFrom (catalogueOf d) i o) (tableSectors g)
+  unfolding sectorsFrom catalogueOf
+  sectors-from-is i o = rw is
 
 pub freed-more : (p : ℕ → Bool) (s : List ℕ) (k : ℕ)
     → freedIn p s (k + 1) ≡ cond (p k) (put (freedIn p s k) (4 * k) (tableEntryBytes freeFile 65535)) (freedIn p s k)

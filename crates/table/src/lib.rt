@@ -2,19 +2,19 @@
 use model::Extent;
 use model::FileIndex;
 use model::Geometry;
-use model::Place;
+use model::Lowest;
 ghost use mathlib.Core.Path.{_≡_};
 ghost use mathlib.Core.Bool.{cond, _&&_, _||_};
 ghost use Prim.Native.Nat.{_+_, _-_, _*_, _≤_, _<_};
 ghost use lib.Dec.{eqb};
 ghost use lib.ListN.{length};
 ghost use Rattle.model.specs.Bytes.{put, beAt};
-ghost use Rattle.model.specs.Search.{some, every, scan, indexOf};
+ghost use Rattle.model.specs.Search.{anyBelow, allBelow, scan, indexOf};
 ghost use Rattle.model.specs.Geometry.{usable, tableAt, tableSectors, extentsFor};
 ghost use Rattle.model.specs.Disk.{view};
 ghost use Rattle.model.specs.Opened.{Bounded, Opened};
 ghost use Rattle.model.specs.Table.{tableFile, tableOffset, tableEntryBytes, freeFile, freedIn};
-ghost use Rattle.model.specs.Catalogue.{catalogueOf, freeExtent, extentOf, isPart, isBeyond, holdsBeyond, sectorsBeyond};
+ghost use Rattle.model.specs.Catalogue.{catalogueOf, freeExtent, extentOf, isPart, ownedFrom, holdsFrom, sectorsFrom};
 ghost use Rattle.table.specs.Word.{swapped, entryWord};
 
 // The file that extent e's entry names; 65535 where it is free.
@@ -100,7 +100,7 @@ fn both(a: bool, b: bool) -> bool
 pub fn all_free(img: &[u8], g: Geometry, e: u64) -> bool
     requires { ⌜ Opened (now img) g ⌝ }
     requires { ⌜ e + 128 ≤ g .extents ⌝ }
-    ensures { λ r. ⌜ r ≡ every (λ k. eqb (tableFile g (view (now (img .entry))) (e + k)) freeFile) 128 ⌝ }
+    ensures { λ r. ⌜ r ≡ allBelow (λ k. eqb (tableFile g (view (now (img .entry))) (e + k)) freeFile) 128 ⌝ }
 {
     let mut all = true;
     let mut k: u64 = 0;
@@ -115,7 +115,7 @@ pub fn all_free(img: &[u8], g: Geometry, e: u64) -> bool
 fn holds_free(img: &[u8], g: Geometry, e: u64) -> bool
     requires { ⌜ Opened (now img) g ⌝ }
     requires { ⌜ e + 128 ≤ g .extents ⌝ }
-    ensures { λ r. ⌜ r ≡ some (λ k. eqb (tableFile g (view (now (img .entry))) (e + k)) freeFile) 128 ⌝ }
+    ensures { λ r. ⌜ r ≡ anyBelow (λ k. eqb (tableFile g (view (now (img .entry))) (e + k)) freeFile) 128 ⌝ }
 {
     let mut found = false;
     let mut k: u64 = 0;
@@ -127,7 +127,7 @@ fn holds_free(img: &[u8], g: Geometry, e: u64) -> bool
 }
 
 // The lowest usable free extent from `from` on.
-fn free_from(img: &[u8], g: Geometry, from: u64) -> Place
+fn free_from(img: &[u8], g: Geometry, from: u64) -> Lowest
     requires { ⌜ Opened (now img) g ⌝ }
     requires { ⌜ from ≤ usable g ⌝ }
     ensures { λ r. ⌜ r ≡ scan (λ e. eqb (tableFile g (view (now (img .entry))) e) freeFile) (usable g - from) from ⌝ }
@@ -136,15 +136,15 @@ fn free_from(img: &[u8], g: Geometry, from: u64) -> Place
     let mut e = from;
     while e < n {
         if is_free(img, g, Extent(e)) {
-            return Place::At(e as usize);
+            return Lowest::At(e as usize);
         }
         e += 1;
     }
-    Place::Nowhere
+    Lowest::Nowhere
 }
 
 // The lowest usable free extent. A sector with no free entry is passed over whole.
-pub fn free_extent(img: &[u8], g: Geometry) -> Place
+pub fn free_extent(img: &[u8], g: Geometry) -> Lowest
     requires { ⌜ Opened (now img) g ⌝ }
     ensures { λ r. ⌜ r ≡ freeExtent (catalogueOf (view (now (img .entry)))) ⌝ }
 {
@@ -176,7 +176,7 @@ fn is_part(img: &[u8], g: Geometry, i: FileIndex, o: u64, e: Extent) -> bool
 fn holds_part(img: &[u8], g: Geometry, i: FileIndex, o: u64, e: u64) -> bool
     requires { ⌜ Opened (now img) g ⌝ }
     requires { ⌜ (i .0 < freeFile) × (e + 128 ≤ g .extents) ⌝ }
-    ensures { λ r. ⌜ r ≡ some (λ k. isPart (i .0) o (catalogueOf (view (now (img .entry))) .table (e + k))) 128 ⌝ }
+    ensures { λ r. ⌜ r ≡ anyBelow (λ k. isPart (i .0) o (catalogueOf (view (now (img .entry))) .table (e + k))) 128 ⌝ }
 {
     let mut found = false;
     let mut k: u64 = 0;
@@ -226,10 +226,10 @@ pub fn extent_of(img: &[u8], g: Geometry, i: FileIndex, o: u64) -> Extent
 // ---- a file's extents from an offset on
 
 // Extent e is file i's, of offset o or more. Past the last extent stands table padding, which is no file's.
-fn is_beyond(img: &[u8], g: Geometry, i: FileIndex, o: u64, e: Extent) -> bool
+fn owned_from(img: &[u8], g: Geometry, i: FileIndex, o: u64, e: Extent) -> bool
     requires { ⌜ Opened (now img) g ⌝ }
     requires { ⌜ i .0 < freeFile ⌝ }
-    ensures { λ r. ⌜ r ≡ isBeyond (i .0) o (catalogueOf (view (now (img .entry))) .table (e .0)) ⌝ }
+    ensures { λ r. ⌜ r ≡ ownedFrom (i .0) o (catalogueOf (view (now (img .entry))) .table (e .0)) ⌝ }
 {
     if e.0 < g.extents {
         if table_file(img, g, e) == i.0 {
@@ -241,14 +241,14 @@ fn is_beyond(img: &[u8], g: Geometry, i: FileIndex, o: u64, e: Extent) -> bool
 }
 
 // Table sector t holds an extent of file i of offset o or more.
-pub fn holds_beyond(img: &[u8], g: Geometry, i: FileIndex, o: u64, t: u64) -> bool
+pub fn holds_from(img: &[u8], g: Geometry, i: FileIndex, o: u64, t: u64) -> bool
     requires { ⌜ Opened (now img) g ⌝ }
     requires { ⌜ (i .0 < freeFile) × (t < tableSectors g) ⌝ }
-    ensures { λ r. ⌜ r ≡ holdsBeyond (catalogueOf (view (now (img .entry)))) (i .0) o t ⌝ }
+    ensures { λ r. ⌜ r ≡ holdsFrom (catalogueOf (view (now (img .entry)))) (i .0) o t ⌝ }
 {
     let mut k: u64 = 0;
     while k < 128 {
-        if is_beyond(img, g, i, o, g.table_extent(t, k)) {
+        if owned_from(img, g, i, o, g.table_extent(t, k)) {
             return true;
         }
         k += 1;
@@ -266,17 +266,17 @@ fn one_if(b: bool) -> u64
 }
 
 // How many table sectors hold one.
-pub fn sectors_beyond(img: &[u8], g: Geometry, i: FileIndex, o: u64) -> u64
+pub fn sectors_from(img: &[u8], g: Geometry, i: FileIndex, o: u64) -> u64
     requires { ⌜ Opened (now img) g ⌝ }
     requires { ⌜ i .0 < freeFile ⌝ }
-    ensures { λ r. ⌜ r ≡ sectorsBeyond (catalogueOf (view (now (img .entry)))) (i .0) o ⌝ }
+    ensures { λ r. ⌜ r ≡ sectorsFrom (catalogueOf (view (now (img .entry)))) (i .0) o ⌝ }
     ensures { λ r. ⌜ r ≤ tableSectors g ⌝ }
 {
     let n = g.table_sectors();
     let mut found: u64 = 0;
     let mut t: u64 = 0;
     while t < n {
-        found += one_if(holds_beyond(img, g, i, o, t));
+        found += one_if(holds_from(img, g, i, o, t));
         t += 1;
     }
     found
@@ -298,12 +298,12 @@ fn free_one(s: &mut [u8], k: usize, hit: bool)
 pub fn freed(img: &[u8], g: Geometry, i: FileIndex, o: u64, t: u64) -> [u8; 512]
     requires { ⌜ Opened (now img) g ⌝ }
     requires { ⌜ (i .0 < freeFile) × (t < tableSectors g) ⌝ }
-    ensures { λ r. ⌜ r ≡ freedIn (λ k. isBeyond (i .0) o (catalogueOf (view (now (img .entry))) .table (128 * t + k))) (view (now (img .entry)) (tableAt g + t)) 128 ⌝ }
+    ensures { λ r. ⌜ r ≡ freedIn (λ k. ownedFrom (i .0) o (catalogueOf (view (now (img .entry))) .table (128 * t + k))) (view (now (img .entry)) (tableAt g + t)) 128 ⌝ }
 {
     let mut a = fields::sector(img, g.table_sector(t));
     let mut k: usize = 0;
     while k < 128 {
-        let hit = is_beyond(img, g, i, o, g.table_extent(t, k as u64));
+        let hit = owned_from(img, g, i, o, g.table_extent(t, k as u64));
         free_one(&mut a, k, hit);
         k += 1;
     }

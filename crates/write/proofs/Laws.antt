@@ -3,16 +3,16 @@ use Prim.Native.Nat.{ℕ, _*_, _-_, _≤_, _<_, _/_}
 use mathlib.Core.Path.{_≡_, refl, sym, ap, ap₂, _∙_}
 use mathlib.Core.Bool.{Bool, true, false, cond, not, _&&_}
 use mathlib.Core.List.{List, [], _∷_}
-use mathlib.Core.Option.{Option, none, some as just}
+use mathlib.Core.Option.{Option, none, some}
 use native.Mathlib.Omega.{arith}
 use lib.Dec.{eqb, ltb}
 use lib.ListN.{length}
 use borrow.Author.Tests.{lt-ltb, le-ltb, eq-eqb, ne-eqb}
 use Rattle.model.specs.declared.Changed.{Changed}
 use Rattle.model.specs.declared.Geometry.{Geometry}
-use Rattle.model.specs.declared.Place.{Place}
-use Rattle.model.specs.declared.Place.the-variants.{At}
-use Rattle.model.specs.Search.{scan, tab, isAt, indexOf}
+use Rattle.model.specs.declared.Lowest.{Lowest}
+use Rattle.model.specs.declared.Lowest.the-variants.{At}
+use Rattle.model.specs.Search.{scan, tabulate, isAt, indexOf}
 use Rattle.model.specs.Geometry.{entryAt, extentsFor, usable}
 use Rattle.model.specs.Disk.{Disk, view}
 use Rattle.model.specs.Bytes.{beAt}
@@ -24,7 +24,7 @@ use Rattle.model.specs.WriteList.{Plan, Record, Group, sectorWrite, recordSize,
 use Rattle.model.specs.Read.{longestTransfer, sizeNamed}
 use Rattle.model.specs.Write.{touchedSectors, heldExtents, grows, noRoom, sizeAfter, dataSector, writePlan, writePlanned, writeConditions, writeDecision, writeAnswer, writeList}
 use Rattle.model.specs.Opened.{Opened}
-use Rattle.laws.proofs.Search.{Hit, scan-hit, length-tab}
+use Rattle.laws.proofs.Search.{Hit, scan-hit, length-tabulate}
 use Rattle.laws.proofs.Booleans.{or-right}
 use Rattle.laws.proofs.Judged.{judged-sound}
 use Rattle.laws.proofs.Named.{named-at, named-entry, size-fits}
@@ -73,7 +73,7 @@ module _ (img : List ℕ) (g : Geometry) (o : Opened img g) where
 
 module _ (c : Catalogue) (i : ℕ) (d : Disk) (offset : ℕ) (bytes : List ℕ) (time : ℕ) where
   abbrev pub sectorsOut : Group
-  sectorsOut = tab (dataSector c i d offset bytes) (offset / 512) (touchedSectors offset (length bytes))
+  sectorsOut = tabulate (dataSector c i d offset bytes) (offset / 512) (touchedSectors offset (length bytes))
 
   abbrev pub entryOut : ℕ → Record
   entryOut z = sectorWrite (entryAt i) (updatedEntrySector z time (d (entryAt i)))
@@ -93,11 +93,11 @@ module _ (c : Catalogue) (i : ℕ) (d : Disk) (offset : ℕ) (bytes : List ℕ) 
   plan-kept z e h = rw (← e, h)
 
   pub write-needs : (z : ℕ) (b : Bool) → z ≡ sizeAfter c i offset (length bytes) → b ≡ grows c i z
-      → listLength (groupsFor d (just (writePlan c i d offset bytes time))) ≡ recordCount (touchedSectors offset (length bytes)) (cond b 2 1) * recordSize
+      → listLength (groupsFor d (some (writePlan c i d offset bytes time))) ≡ recordCount (touchedSectors offset (length bytes)) (cond b 2 1) * recordSize
   write-needs z b e h = plan-needs d (writePlan c i d offset bytes time) ∙ go b (sym h)
     where
       many : length sectorsOut ≡ touchedSectors offset (length bytes)
-      many = length-tab (dataSector c i d offset bytes) (offset / 512) (touchedSectors offset (length bytes))
+      many = length-tabulate (dataSector c i d offset bytes) (offset / 512) (touchedSectors offset (length bytes))
 
       go : (b : Bool) → grows c i z ≡ b
           → recordCount (length (writePlan c i d offset bytes time .dataSectors)) (length (writePlan c i d offset bytes time .targets)) * recordSize
@@ -107,11 +107,11 @@ module _ (c : Catalogue) (i : ℕ) (d : Disk) (offset : ℕ) (bytes : List ℕ) 
 
   pub planned-none : length bytes ≡ 0 → writePlanned c i d offset bytes time ≡ none
   unfolding writePlanned
-  planned-none h = ap (λ (b : Bool). cond b none (just (writePlan c i d offset bytes time))) (eq-eqb (length bytes) 0 h)
+  planned-none h = ap (λ (b : Bool). cond b none (some (writePlan c i d offset bytes time))) (eq-eqb (length bytes) 0 h)
 
-  pub planned-some : (length bytes ≡ 0 → ⊥) → writePlanned c i d offset bytes time ≡ just (writePlan c i d offset bytes time)
+  pub planned-some : (length bytes ≡ 0 → ⊥) → writePlanned c i d offset bytes time ≡ some (writePlan c i d offset bytes time)
   unfolding writePlanned
-  planned-some h = ap (λ (b : Bool). cond b none (just (writePlan c i d offset bytes time))) (ne-eqb (length bytes) 0 h)
+  planned-some h = ap (λ (b : Bool). cond b none (some (writePlan c i d offset bytes time))) (ne-eqb (length bytes) 0 h)
 
 -- ---- decisions
 
@@ -152,26 +152,26 @@ module _ (img : List ℕ) (ok : judged (length img) (view img) .number ≡ 0) (l
 
     -- 14, or the list
     module _ (some : Some (length bytes)) (z : ℕ) (b : Bool) (e : z ≡ sizeAfter c i offset (length bytes)) (h : b ≡ grows c i z) where
-      needs : listLength (groupsFor (view img) (just plan)) ≡ recordCount (touchedSectors offset (length bytes)) (cond b 2 1) * recordSize
+      needs : listLength (groupsFor (view img) (some plan)) ≡ recordCount (touchedSectors offset (length bytes)) (cond b 2 1) * recordSize
       needs = write-needs c i (view img) offset bytes time z b e h
 
       -- how many records were emitted
-      pub room-count : {l m : List ℕ} {j : ℕ} → Emitted l 0 (closed (groupsFor (view img) (just plan))) m j
+      pub room-count : {l m : List ℕ} {j : ℕ} → Emitted l 0 (closed (groupsFor (view img) (some plan))) m j
           → j * recordSize ≡ recordCount (touchedSectors offset (length bytes)) (cond b 2 1) * recordSize
-      room-count q = emitted-length (groupsFor (view img) (just plan)) q ∙ needs
+      room-count q = emitted-length (groupsFor (view img) (some plan)) q ∙ needs
 
       pub room-short : length list < recordCount (touchedSectors offset (length bytes)) (cond b 2 1) * recordSize → Room (refusedBy 14) list
       unfolding roomDecision verdictOf
       room-short l =
           rw (planned-some c i (view img) offset bytes time some)
-          (refused-as-short (length img) (view img) [] (just plan) list ok done refl refl (rw needs l))
+          (refused-as-short (length img) (view img) [] (some plan) list ok done refl refl (rw needs l))
 
       pub room-done : {m : List ℕ} {j : ℕ} → recordCount (touchedSectors offset (length bytes)) (cond b 2 1) * recordSize ≤ length list
-          → Emitted list 0 (closed (groupsFor (view img) (just plan))) m j → Room (record { verdict = done; length = j * recordSize }) m
+          → Emitted list 0 (closed (groupsFor (view img) (some plan))) m j → Room (record { verdict = done; length = j * recordSize }) m
       unfolding roomDecision verdictOf
       room-done l q =
-          rw (planned-some c i (view img) offset bytes time some, emitted-length (groupsFor (view img) (just plan)) q)
-          (done-as-planned (length img) (view img) [] (just plan) list ok done refl refl (rw needs l) q)
+          rw (planned-some c i (view img) offset bytes time some, emitted-length (groupsFor (view img) (some plan)) q)
+          (done-as-planned (length img) (view img) [] (some plan) list ok done refl refl (rw needs l) q)
 
     -- 12, 13
     module _ (size : ℕ) (says : size ≡ entryOf c i .size) where
@@ -223,7 +223,7 @@ module _ (img : List ℕ) (ok : judged (length img) (view img) .number ≡ 0) (l
 
       sized : (i : ℕ) → At i ≡ fileNamed (catalogueOf (view img)) name → sizeNamed (catalogueOf (view img)) name ≡ entryOf (catalogueOf (view img)) i .size
       unfolding sizeNamed
-      sized i e = ap (λ (p : Place). entryOf (catalogueOf (view img)) (indexOf p) .size) (sym e)
+      sized i e = ap (λ (p : Lowest). entryOf (catalogueOf (view img)) (indexOf p) .size) (sym e)
 
       pub write-found : {answer : Changed} {after : List ℕ} (i : ℕ) → At i ≡ fileNamed (catalogueOf (view img)) name
           → ComesTo (view img) (fileDecision (length img) (view img) i offset bytes time (length list)) list answer after → Written answer after

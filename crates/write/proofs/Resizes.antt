@@ -3,7 +3,7 @@ use Prim.Native.Nat.{ℕ, _+_, _*_, _-_, _/_, _≤_, _<_, max}
 use mathlib.Core.Path.{_≡_, refl, sym, ap, _∙_}
 use mathlib.Core.Bool.{true, false}
 use mathlib.Core.List.{List, []}
-use mathlib.Core.Option.{Option, some as just}
+use mathlib.Core.Option.{Option, some}
 use native.Mathlib.Nat.{le-div-iff-mul-le, div-mul-le-self}
 use native.Mathlib.Omega.{arith}
 use lib.ListN.{length, take, replicate, getD-replicate, length-replicate}
@@ -11,21 +11,21 @@ use lib.Seq.{getD-take, length-take-le}
 use borrow.Author.Tests.{lt-ltb, le-ltb}
 use Rattle.model.specs.declared.Changed.{Changed}
 use Rattle.model.specs.declared.Geometry.{Geometry}
-use Rattle.model.specs.declared.Place.{Place}
-use Rattle.model.specs.declared.Place.the-variants.{At}
+use Rattle.model.specs.declared.Lowest.{Lowest}
+use Rattle.model.specs.declared.Lowest.the-variants.{At}
 use Rattle.model.specs.Search.{isAt, indexOf}
 use Rattle.model.specs.Geometry.{extentBytes, extentsFor, superblockAt}
 use Rattle.model.specs.Disk.{view}
 use Rattle.model.specs.Superblock.{geometryIn}
 use Rattle.model.specs.Entry.{badName}
-use Rattle.model.specs.Catalogue.{Catalogue, catalogueOf, fileNamed, entryOf, sectorsBeyond}
+use Rattle.model.specs.Catalogue.{Catalogue, catalogueOf, fileNamed, entryOf, sectorsFrom}
 use Rattle.model.specs.Refusals.{Conditions, verdictOf, done, judged}
 use Rattle.model.specs.WriteList.{Plan, recordSize, recordCount, groupsFor, listLength, closed, Emitted}
 use Rattle.model.specs.Read.{longestTransfer, sizeNamed}
 use Rattle.model.specs.Write.{grows, noRoom, writePlanned}
 use Rattle.model.specs.Resize.{zeros, shrinkPlan, resizePlanned, resizeConditions, resizeDecision, resizeAnswer, resizeList}
 use Rattle.model.specs.Opened.{Bounded, Opened}
-use Rattle.laws.proofs.Bytes.{run-all, run-ext, length-run}
+use Rattle.laws.proofs.Bytes.{bytesFrom-all, bytesFrom-ext, length-bytesFrom}
 use Rattle.commit.proofs.Records.{emitted-length}
 use Rattle.commit.proofs.Decided.{ComesTo, refused-as-short, done-as-planned}
 use Rattle.delete.proofs.Decisions.{shrink-needs}
@@ -61,30 +61,30 @@ module _ (img : List ℕ) (g : Geometry) (o : Opened img g) where
       abbrev Sized : Changed → List ℕ → Type 0
       Sized answer after = ComesTo (view img) (sizeDecision (length img) (view img) i z time (length list)) list answer after
 
-      needs : listLength (groupsFor (view img) (just plan)) ≡ recordCount 0 (1 + sectorsBeyond c i (extentsFor g z)) * recordSize
+      needs : listLength (groupsFor (view img) (some plan)) ≡ recordCount 0 (1 + sectorsFrom c i (extentsFor g z)) * recordSize
       needs = shrink-needs (view img) g (o .is) i z time
 
-      pub shrink-count : {l m : List ℕ} {j : ℕ} → Emitted l 0 (closed (groupsFor (view img) (just plan))) m j
-          → j * recordSize ≡ recordCount 0 (1 + sectorsBeyond c i (extentsFor g z)) * recordSize
-      shrink-count q = emitted-length (groupsFor (view img) (just plan)) q ∙ needs
+      pub shrink-count : {l m : List ℕ} {j : ℕ} → Emitted l 0 (closed (groupsFor (view img) (some plan))) m j
+          → j * recordSize ≡ recordCount 0 (1 + sectorsFrom c i (extentsFor g z)) * recordSize
+      shrink-count q = emitted-length (groupsFor (view img) (some plan)) q ∙ needs
 
-      pub shrink-short : length list < recordCount 0 (1 + sectorsBeyond c i (extentsFor g z)) * recordSize → Shrunk (refusedBy 14) list
+      pub shrink-short : length list < recordCount 0 (1 + sectorsFrom c i (extentsFor g z)) * recordSize → Shrunk (refusedBy 14) list
       unfolding shrinkDecision verdictOf
-      shrink-short l = refused-as-short (length img) (view img) [] (just plan) list ok done refl refl (rw needs l)
+      shrink-short l = refused-as-short (length img) (view img) [] (some plan) list ok done refl refl (rw needs l)
 
-      pub shrink-done : {m : List ℕ} {j : ℕ} → recordCount 0 (1 + sectorsBeyond c i (extentsFor g z)) * recordSize ≤ length list
-          → Emitted list 0 (closed (groupsFor (view img) (just plan))) m j → Shrunk (record { verdict = done; length = j * recordSize }) m
+      pub shrink-done : {m : List ℕ} {j : ℕ} → recordCount 0 (1 + sectorsFrom c i (extentsFor g z)) * recordSize ≤ length list
+          → Emitted list 0 (closed (groupsFor (view img) (some plan))) m j → Shrunk (record { verdict = done; length = j * recordSize }) m
       unfolding shrinkDecision verdictOf
       shrink-done l q =
-          rw (emitted-length (groupsFor (view img) (just plan)) q)
-          (done-as-planned (length img) (view img) [] (just plan) list ok done refl refl (rw needs l) q)
+          rw (emitted-length (groupsFor (view img) (some plan)) q)
+          (done-as-planned (length img) (view img) [] (some plan) list ok done refl refl (rw needs l) q)
 
       module _ (size : ℕ) (says : size ≡ entryOf c i .size) where
         none-holds : z < size → verdictOf (sizeConditions c i z) ≡ verdictOf []
         unfolding sizeConditions verdictOf noRoom
         none-holds l = rw (← says, le-ltb (size + longestTransfer) z (omega arith), shrunk i size z says (omega arith))
 
-        less-planned : z < size → resizePlanned c (view img) i z time ≡ just plan
+        less-planned : z < size → resizePlanned c (view img) i z time ≡ some plan
         unfolding resizePlanned
         less-planned l = rw (← says, lt-ltb z size l)
 
@@ -100,7 +100,7 @@ module _ (img : List ℕ) (g : Geometry) (o : Opened img g) where
 
         module _ (l : size ≤ z) (m : z ≤ size + longestTransfer) where
           whole : max size (size + length (zeros (z - size))) ≡ z
-          whole = rw length-run (omega arith)
+          whole = rw length-bytesFrom (omega arith)
 
           same-verdict : verdictOf (sizeConditions c i z) ≡ verdictOf (fileConditions c i size (length (zeros (z - size))))
           unfolding sizeConditions fileConditions verdictOf
@@ -148,7 +148,7 @@ module _ (img : List ℕ) (ok : judged (length img) (view img) .number ≡ 0) (l
 
       sized : (i : ℕ) → At i ≡ fileNamed cat name → sizeNamed cat name ≡ entryOf cat i .size
       unfolding sizeNamed
-      sized i e = ap (λ (p : Place). entryOf cat (indexOf p) .size) (sym e)
+      sized i e = ap (λ (p : Lowest). entryOf cat (indexOf p) .size) (sym e)
 
       pub resize-found : {answer : Changed} {after : List ℕ} (i : ℕ) → At i ≡ fileNamed cat name → ComesTo (view img) (sizeDecision (length img) (view img) i z time (length list)) list answer after → Resized answer after
       unfolding resizeAnswer resizeList resizeDecision sizeDecision resizeConditions sizeConditions verdictOf

@@ -1,7 +1,7 @@
 -- A resize of a file that was found: the part of the decision that rests on the file alone.
 use Prim.Native.Nat.{ℕ, _+_}
 use mathlib.Core.List.{[], _∷_}
-use mathlib.Core.Option.{some as just}
+use mathlib.Core.Option.{some}
 use lib.Dec.{ltb}
 use Rattle.model.specs.Geometry.{FileNumber}
 use Rattle.model.specs.Disk.{Disk}
@@ -21,4 +21,4 @@ sizeDecision len d i z time room = decided len d (sizeConditions (catalogueOf d)
 
 -- where the file shrinks: 14, or the plan
 unfoldable pub shrinkDecision : ℕ → Disk → FileNumber → ℕ → ℕ → ℕ → Decision
-shrinkDecision len d i z time room = decided len d [] (just (shrinkPlan (catalogueOf d) d i z time)) room
+shrinkDecision len d i z time room = decided len d [] (some (shrinkPlan (catalogueOf d) d i z time)) room

@@ -3,10 +3,10 @@ use model::Changed;
 use model::Extent;
 use model::FileIndex;
 use model::Geometry;
-use model::Place;
+use model::Lowest;
 ghost use mathlib.Core.Path.{_≡_};
 ghost use mathlib.Core.Bool.{cond};
-ghost use mathlib.Core.Option.{some as just};
+ghost use mathlib.Core.Option.{some};
 ghost use Prim.Native.Nat.{_+_, _*_, _≤_, _<_, _^_, max};
 ghost use lib.ListN.{length};
 ghost use Rattle.model.specs.Disk.{view};
@@ -63,7 +63,7 @@ fn need_for(img: &[u8], g: Geometry, i: FileIndex, size: u64, z: u64) -> Growth
 {
     let held = table::extents_for(g, size);
     let more = held < table::extents_for(g, z);
-    if let Place::At(e) = table::free_extent(img, g) {
+    if let Lowest::At(e) = table::free_extent(img, g) {
         return Growth {
             held,
             more,
@@ -112,7 +112,7 @@ fn put_write(
     requires { ⌜ (i .0 < g .files) × (0 < len) × (offset + len < 2 ^ 63) × Source (now bytes) len ⌝ }
     requires { ⌜ z ≡ sizeAfter (catalogueOf (view (now img))) (i .0) offset len ⌝ }
     requires { ⌜ recordCount (touchedSectors offset len) (cond (w .more) 2 1) * recordSize ≤ length (now list) ⌝ }
-    ensures { λ r. ⌜ Emitted (now (list .entry)) 0 (closed (groupsFor (view (now (img .entry))) (just (writePlan (catalogueOf (view (now (img .entry)))) (i .0) (view (now (img .entry))) offset (spanOf (now (bytes .entry)) len) time)))) (now (list .exit)) r ⌝ }
+    ensures { λ r. ⌜ Emitted (now (list .entry)) 0 (closed (groupsFor (view (now (img .entry))) (some (writePlan (catalogueOf (view (now (img .entry)))) (i .0) (view (now (img .entry))) offset (spanOf (now (bytes .entry)) len) time)))) (now (list .exit)) r ⌝ }
 {
     let first = offset / 512;
     let touched = (offset + len + 511) / 512 - first;
@@ -228,7 +228,7 @@ pub fn write_in(
         return commit::refused(volume::refusal(8));
     }
     let g = volume::geometry_in(img);
-    if let Place::At(i) = directory::file_named(img, g, name) {
+    if let Lowest::At(i) = directory::file_named(img, g, name) {
         let index = FileIndex(i as u64);
         let size = fields::number(img, index.sector(), 2, 8);
         return write_file(
@@ -317,7 +317,7 @@ pub fn resize_in(img: &[u8], name: &[u8], size: u64, time: u32, list: &mut [u8])
         return commit::refused(volume::refusal(8));
     }
     let g = volume::geometry_in(img);
-    if let Place::At(i) = directory::file_named(img, g, name) {
+    if let Lowest::At(i) = directory::file_named(img, g, name) {
         let index = FileIndex(i as u64);
         let old = fields::number(img, index.sector(), 2, 8);
         return resize_file(img, g, index, old, size, time, list);

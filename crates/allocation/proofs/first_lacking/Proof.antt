@@ -4,7 +4,7 @@ use mathlib.Core.Path.{_≡_, sym, _∙_}
 use native.Mathlib.Omega.{arith}
 use lib.Dec.{eqb}
 use lib.ListN.{getD}
-use Rattle.laws.proofs.Search.{first-none, some-no, none-at}
+use Rattle.laws.proofs.Search.{first-none, anyBelow-no, none-at}
 use Rattle.allocation.specs.Marks.{lacks}
 use borrow.Author.Needs.{needs}
 use Rattle.allocation.proofs.first_lacking.Statement.{statement}
@@ -34,7 +34,7 @@ returns-2 c =
     let a = s .args in
     let none = none-at (λ k. eqb (getD (a .seen .now) (0 + k) 0) 0) (getD (a .starts .now) (a .m) 0 - 0) (sym (c .before .has-unseen .ensures) ∙ c .if1 .left) in
     sym (first-none (lacks (a .starts .now) (a .seen .now)) (a .m) (λ i l.
-    some-no (λ k. eqb (getD (a .seen .now) (getD (a .starts .now) i 0 + k) 0) 0) (getD (a .starts .now) (i + 1) 0 - getD (a .starts .now) i 0) (λ k h.
+    anyBelow-no (λ k. eqb (getD (a .seen .now) (getD (a .starts .now) i 0 + k) 0) 0) (getD (a .starts .now) (i + 1) 0 - getD (a .starts .now) i 0) (λ k h.
     let z : 0 + (getD (a .starts .now) i 0 + k) ≡ getD (a .starts .now) i 0 + k = omega arith in
     rw z at (none (getD (a .starts .now) i 0 + k) (omega (arith, s .pre .1 .last (i + 1) (omega arith)))))))
 

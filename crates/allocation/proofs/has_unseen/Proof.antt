@@ -6,18 +6,18 @@ use native.Mathlib.Omega.{arith}
 use lib.Dec.{eqb}
 use lib.ListN.{length, take, drop, getD, length-take, length-drop}
 use lib.Seq.{getD-take, getD-drop}
-use Rattle.model.specs.Search.{some}
+use Rattle.model.specs.Search.{anyBelow}
 use Rattle.model.specs.Entry.{hasZero}
-use Rattle.laws.proofs.Search.{some-ext}
+use Rattle.laws.proofs.Search.{anyBelow-ext}
 use borrow.Author.Needs.{needs}
 use Rattle.allocation.proofs.has_unseen.Statement.{statement}
 use Rattle.allocation.proofs.has_unseen.Tie as tie
 
-zero-part : (s : List ℕ) (a n : ℕ) → a + n ≤ length s → hasZero (take n (drop a s)) ≡ some (λ k. eqb (getD s (a + k) 0) 0) n
+zero-part : (s : List ℕ) (a n : ℕ) → a + n ≤ length s → hasZero (take n (drop a s)) ≡ anyBelow (λ k. eqb (getD s (a + k) 0) 0) n
 unfolding hasZero
 zero-part s a n l =
     let w : length (take n (drop a s)) ≡ n = simp (length-take, length-drop) (omega arith) in
-    rw w (some-ext (λ k. eqb (getD (take n (drop a s)) k 0) 0) (λ k. eqb (getD s (a + k) 0) 0) n (λ k h. rw (getD-take, getD-drop)))
+    rw w (anyBelow-ext (λ k. eqb (getD (take n (drop a s)) k 0) 0) (λ k. eqb (getD s (a + k) 0) 0) n (λ k h. rw (getD-take, getD-drop)))
 
 sub-has-zero : tie.Need-sub-has-zero
 sub-has-zero c = search needs

@@ -8,7 +8,7 @@ use Rattle.model.specs.Disk.{view}
 use Rattle.model.specs.Table.{tableFile, freeFile}
 use Rattle.model.specs.Catalogue.{catalogueOf}
 use Rattle.model.specs.Faults.{fault25}
-use Rattle.laws.proofs.Search.{every-at, scan-none}
+use Rattle.laws.proofs.Search.{allBelow-at, scan-none}
 use Rattle.allocation.proofs.Marks.{marks-over}
 use Rattle.allocation.proofs.Misplaced.{free-sound}
 use borrow.Author.Needs.{needs}
@@ -25,7 +25,7 @@ returns c =
     let d = view (a .img .now) in
     let f : ℕ → ℕ = tableFile (a .g) d in
     let free : (k : ℕ) → k < 128 → f (a .e + k) ≡ freeFile =
-    λ k l. eqb-true (f (a .e + k)) freeFile (every-at (λ j. eqb (f (a .e + j)) freeFile) 128 (sym (c .before .all-free .ensures) ∙ c .if1 .taken) k l) in record {
+    λ k l. eqb-true (f (a .e + k)) freeFile (allBelow-at (λ j. eqb (f (a .e + j)) freeFile) 128 (sym (c .before .all-free .ensures) ∙ c .if1 .taken) k l) in record {
       found = sym (scan-none (fault25 (catalogueOf d)) (a .e + 128 - a .e) (a .e) (λ k x y.
           let z : a .e + (k - a .e) ≡ k = omega arith in
           free-sound d (a .g) (s .pre .0 .is) k (omega arith) (sym (ap f z) ∙ free (k - a .e) (omega arith))));

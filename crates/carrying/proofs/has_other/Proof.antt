@@ -7,8 +7,8 @@ use native.Mathlib.Omega.{arith}
 use lib.Dec.{eqb}
 use lib.ListN.{getD}
 use borrow.Author.Tests.{eq-eqb, ne-eqb, eqb-true, eqb-false}
-use Rattle.model.specs.Search.{every}
-use Rattle.laws.proofs.Search.{every-more}
+use Rattle.model.specs.Search.{allBelow}
+use Rattle.laws.proofs.Search.{allBelow-more}
 use borrow.Author.Needs.{needs}
 use Rattle.carrying.proofs.has_other.Statement.{statement}
 use Rattle.carrying.proofs.has_other.Tie as tie
@@ -26,13 +26,13 @@ max-zero v x = go (eqb x 0) refl (eqb v 0) refl
     go false p b q = let n : (x ≡ 0) → ⊥ = eqb-false x 0 p in ne-eqb (max v x) 0 (λ e. n (omega arith))
 
 abbrev Inv-loop : tie.InvT-loop
-Inv-loop list at most₀ i₀ most i = (i ≤ 512) × (eqb most 0 ≡ every (zeroAt list at) i)
+Inv-loop list at most₀ i₀ most i = (i ≤ 512) × (eqb most 0 ≡ allBelow (zeroAt list at) i)
 
 abbrev μ-loop : tie.MeasureT-loop
 μ-loop list at most₀ i₀ most i = 512 - i
 
 loop-holds : tie.Need-loop-holds Inv-loop μ-loop
-unfolding every
+unfolding allBelow
 loop-holds c = (omega arith, refl)
 
 add-greater : tie.Need-add-greater Inv-loop μ-loop
@@ -56,7 +56,7 @@ loop-again c =
     let a = c .before .before .before .before .before .args in
     let x = getD (a .list .now) (a .at + l .i) 0 in (
       omega arith,
-      ap (λ (n : ℕ). eqb n 0) (c .greater .ensures) ∙ max-zero (l .most) x ∙ ap (λ (q : Bool). eqb x 0 && q) (l .inv .1) ∙ sym (every-more (zeroAt (a .list .now) (a .at)) (l .i)),
+      ap (λ (n : ℕ). eqb n 0) (c .greater .ensures) ∙ max-zero (l .most) x ∙ ap (λ (q : Bool). eqb x 0 && q) (l .inv .1) ∙ sym (allBelow-more (zeroAt (a .list .now) (a .at)) (l .i)),
     )
 
 returns : tie.Need-returns Inv-loop μ-loop

@@ -5,7 +5,7 @@ use Prim.Native.Nat.{_-_, _/_, _≤_}
 use mathlib.Core.Path.{_≡_, refl}
 use native.Mathlib.Omega.{arith}
 use lib.ListN.{length}
-use Rattle.model.specs.Search.{tab}
+use Rattle.model.specs.Search.{tabulate}
 use Rattle.model.specs.WriteList.{stored}
 use Rattle.model.specs.CarryOut.{recordIn, recordsIn, badRecord}
 use Rattle.laws.proofs.Search.{none-at}
@@ -14,13 +14,13 @@ use Rattle.carrying.proofs.put_records.Statement.{statement}
 use Rattle.carrying.proofs.put_records.Tie as tie
 
 abbrev Inv-loop : tie.InvT-loop
-Inv-loop img₀ list n k₀ img k = (k ≤ n) × (img ≡ stored (tab (recordIn list) 0 k) img₀) × (length img ≡ length img₀)
+Inv-loop img₀ list n k₀ img k = (k ≤ n) × (img ≡ stored (tabulate (recordIn list) 0 k) img₀) × (length img ≡ length img₀)
 
 abbrev μ-loop : tie.MeasureT-loop
 μ-loop img₀ list n k₀ img k = n - k
 
 loop-holds : tie.Need-loop-holds Inv-loop μ-loop
-unfolding tab stored
+unfolding tabulate stored
 loop-holds c = (search needs, refl, refl)
 
 put-record-requires : tie.Need-put-record-requires Inv-loop μ-loop

@@ -4,7 +4,7 @@ use Prim.Native.Nat.{_+_, _-_, _/_, _≤_}
 use native.Mathlib.Nat.{add-zero}
 use native.Mathlib.Omega.{arith}
 use lib.ListN.{length}
-use Rattle.model.specs.Search.{tab}
+use Rattle.model.specs.Search.{tabulate}
 use Rattle.model.specs.WriteList.{Emitted}
 use Rattle.laws.proofs.WriteList.{emitted-none}
 use Rattle.commit.proofs.Records.{emitted-more}
@@ -14,7 +14,7 @@ use Rattle.commit.proofs.put_journal.Statement.{statement}
 use Rattle.commit.proofs.put_journal.Tie as tie
 
 abbrev Inv-loop : tie.InvT-loop
-Inv-loop list₀ k g numbers n at m j₀ list j = (j ≤ m) × Emitted list₀ k (tab (journalRecord g numbers n) 0 j) list (k + j) × (length list ≡ length list₀)
+Inv-loop list₀ k g numbers n at m j₀ list j = (j ≤ m) × Emitted list₀ k (tabulate (journalRecord g numbers n) 0 j) list (k + j) × (length list ≡ length list₀)
 
 abbrev μ-loop : tie.MeasureT-loop
 μ-loop list₀ k g numbers n at m j₀ list j = m - j
@@ -26,7 +26,7 @@ add-m : tie.Need-add-m Inv-loop μ-loop
 add-m c = search needs
 
 loop-holds : tie.Need-loop-holds Inv-loop μ-loop
-unfolding tab
+unfolding tabulate
 loop-holds c = (omega arith, rw add-zero (emitted-none _ _), refl)
 
 journal-sector-requires : tie.Need-journal-sector-requires Inv-loop μ-loop

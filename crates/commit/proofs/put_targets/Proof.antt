@@ -4,7 +4,7 @@ use Prim.Native.Nat.{_+_, _-_, _≤_}
 use native.Mathlib.Nat.{add-zero}
 use native.Mathlib.Omega.{arith}
 use lib.ListN.{length}
-use Rattle.model.specs.Search.{tab}
+use Rattle.model.specs.Search.{tabulate}
 use Rattle.model.specs.WriteList.{Emitted}
 use Rattle.laws.proofs.WriteList.{emitted-none}
 use Rattle.commit.specs.Commit.{stagedTargets}
@@ -20,7 +20,7 @@ abbrev μ-loop : tie.MeasureT-loop
 μ-loop list₀ k numbers n from j₀ list j = n - j
 
 loop-holds : tie.Need-loop-holds Inv-loop μ-loop
-unfolding stagedTargets tab
+unfolding stagedTargets tabulate
 loop-holds c = (omega arith, rw add-zero (emitted-none _ _), refl)
 
 mul-t9 : tie.Need-mul-t9 Inv-loop μ-loop

@@ -9,8 +9,8 @@ use borrow.Author.Needs.{needs}
 use Rattle.delete.proofs.put_freed_sector.Statement.{statement}
 use Rattle.delete.proofs.put_freed_sector.Tie as tie
 
-holds-beyond-requires : tie.Need-holds-beyond-requires
-holds-beyond-requires c κs = search needs
+holds-from-requires : tie.Need-holds-from-requires
+holds-from-requires c κs = search needs
 
 freed-requires : tie.Need-freed-requires
 freed-requires c κs = search needs
@@ -33,7 +33,7 @@ returns c =
     let f = c .before .before .before .before .before .before .before .before in
     let s = c .before .before .before .before .before .before .before .before .before .before .before .before .before .before in
     let a = s .args in
-    let held = sym (f .before .before .holds-beyond .ensures) ∙ f .before .if1 .taken in (
+    let held = sym (f .before .before .holds-from .ensures) ∙ f .before .if1 .taken in (
       rw (freed-hit (view (a .img .now)) (a .g) (s .pre .0 .is) (a .i .0) (a .o) (a .t) held)
           (added-copy {s = tableAt (a .g) + a .t} (rw (← f .freed .ensures) (q .put-copy .ensures .0)) (rw (← q .before .table-sector .ensures) (q .put-copy .ensures .1)) (omega arith)),
       (rw held (q .put-copy .ensures .0 .next), omega (arith, q .put-copy .ensures .0 .next)),
@@ -43,7 +43,7 @@ returns-2 : tie.Need-returns-2
 returns-2 c =
     let s = c .before .before .before .before .before in
     let a = s .args in
-    let none = sym (c .before .holds-beyond .ensures) ∙ c .if1 .left in (
+    let none = sym (c .before .holds-from .ensures) ∙ c .if1 .left in (
       rw (freed-miss (view (a .img .now)) (a .i .0) (a .o) (a .t) none) (added-none _ _ _ _),
       (rw none (omega arith), omega arith),
     )
@@ -52,7 +52,7 @@ pub put-freed-sector-spec : {M : Type 1} → statement M
 put-freed-sector-spec =
     tie.close
     (tie.spec
-    holds-beyond-requires
+    holds-from-requires
     freed-requires
     table-sector-requires
     put-copy-requires

@@ -3,7 +3,7 @@ use mathlib.Core.Path.{sym, ap}
 use native.Mathlib.Omega.{arith}
 use lib.ListN.{replicate}
 use Rattle.model.specs.Disk.{view}
-use Rattle.model.specs.Catalogue.{catalogueOf, sectorsBeyond}
+use Rattle.model.specs.Catalogue.{catalogueOf, sectorsFrom}
 use Rattle.model.specs.Resize.{shrinkPlan}
 use Rattle.delete.proofs.Laws.{added-then, added-copy, added-committed, shrink-targets, shrink-alone}
 use borrow.Author.Needs.{needs}
@@ -34,7 +34,7 @@ put-freed-requires c κs =
     let s = p .before .before .before .before .before .before .before in
     let a = s .args in
     let size = c .before .before .extents-for .ensures .0 in
-    let same = ap (sectorsBeyond (catalogueOf (view (a .img .now))) (a .i .0)) size in
+    let same = ap (sectorsFrom (catalogueOf (view (a .img .now))) (a .i .0)) size in
     (s .pre .0, (omega arith, (omega (arith, same, p .put-copy .ensures .0 .next), omega (arith, p .put-copy .ensures .0 .next))))
 
 slice-aggregate-put-commit : tie.Need-slice-aggregate-put-commit
@@ -47,7 +47,7 @@ put-commit-requires c κs =
     let s = p .before .before .before .before .before .before .before in
     let a = s .args in
     let size = f .before .before .before .extents-for .ensures .0 in
-    let same = ap (sectorsBeyond (catalogueOf (view (a .img .now))) (a .i .0)) size in
+    let same = ap (sectorsFrom (catalogueOf (view (a .img .now))) (a .i .0)) size in
     let first = p .put-copy .ensures .0 .next in
     let all = f .put-freed .ensures .1 in
     (omega (arith, same, first, all .0), (omega arith, (s .pre .0 .bounded, (omega (arith, first, all .1), omega (arith, first, all .1), omega arith))))
@@ -65,7 +65,7 @@ returns c =
     let d = view (a .img .now) in
     let z = a .size in
     let size = f .before .before .before .extents-for .ensures .0 in
-    let same = ap (sectorsBeyond (catalogueOf d) (a .i .0)) size in
+    let same = ap (sectorsFrom (catalogueOf d) (a .i .0)) size in
     let staged = added-then {numbers = replicate 1024 0} (added-copy (p .put-copy .ensures .0) (p .put-copy .ensures .1) (omega arith)) (f .put-freed .ensures .0) in
     added-committed d (shrinkPlan (catalogueOf d) d (a .i .0) z (a .time)) staged (m .put-commit .ensures .0) (s .pre .0 .is)
     (rw (p .before .sector .ensures, p .before .before .before .before .updated-entry .ensures, size) (sym (shrink-targets d (a .g) (s .pre .0 .is) (a .i .0) z (a .time))))

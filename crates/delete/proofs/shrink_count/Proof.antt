@@ -7,8 +7,8 @@ use Rattle.delete.proofs.shrink_count.Tie as tie
 extents-for-requires : tie.Need-extents-for-requires
 extents-for-requires c κs = search needs
 
-sectors-beyond-requires : tie.Need-sectors-beyond-requires
-sectors-beyond-requires c κs = search needs
+sectors-from-requires : tie.Need-sectors-from-requires
+sectors-from-requires c κs = search needs
 
 add-records-for : tie.Need-add-records-for
 add-records-for c = search needs
@@ -17,14 +17,14 @@ records-for-requires : tie.Need-records-for-requires
 records-for-requires c κs = search needs
 
 returns : tie.Need-returns
-returns c = (rw (← c .before .before .extents-for .ensures .0, ← c .before .sectors-beyond .ensures .0) (c .records-for .ensures), omega (arith, c .records-for .ensures, c .before .sectors-beyond .ensures .1))
+returns c = (rw (← c .before .before .extents-for .ensures .0, ← c .before .sectors-from .ensures .0) (c .records-for .ensures), omega (arith, c .records-for .ensures, c .before .sectors-from .ensures .1))
 
 pub shrink-count-spec : {M : Type 1} → statement M
 shrink-count-spec =
     tie.close
     (tie.spec
     extents-for-requires
-    sectors-beyond-requires
+    sectors-from-requires
     add-records-for
     records-for-requires
     returns)

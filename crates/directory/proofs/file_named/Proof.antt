@@ -4,7 +4,7 @@ use Prim.Native.Nat.{ℕ, _-_}
 use mathlib.Core.Path.{sym, _∙_}
 use mathlib.Core.Bool.{Bool, _&&_}
 use mathlib.Core.List.{List}
-use Rattle.model.specs.Search.{same}
+use Rattle.model.specs.Search.{equalBytes}
 use Rattle.model.specs.Geometry.{entryAt}
 use Rattle.model.specs.Disk.{view}
 use Rattle.model.specs.Entry.{isOccupied, nameIn}
@@ -14,7 +14,7 @@ use Rattle.directory.proofs.file_named.Statement.{statement}
 use Rattle.directory.proofs.file_named.Tie as tie
 
 abbrev hit : List ℕ → List ℕ → ℕ → Bool
-hit img name i = isOccupied (view img (entryAt i)) && same (nameIn (view img (entryAt i))) name
+hit img name i = isOccupied (view img (entryAt i)) && equalBytes (nameIn (view img (entryAt i))) name
 
 abbrev Inv-loop : tie.InvT-loop
 Inv-loop img name f i₀ i = Seeking (hit img name) f i

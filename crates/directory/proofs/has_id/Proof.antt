@@ -7,11 +7,11 @@ use mathlib.Core.List.{List}
 use native.Mathlib.Omega.{arith}
 use lib.Dec.{eqb}
 use Rattle.model.specs.Bytes.{beAt}
-use Rattle.model.specs.Search.{some}
+use Rattle.model.specs.Search.{anyBelow}
 use Rattle.model.specs.Geometry.{entryAt}
 use Rattle.model.specs.Disk.{view}
 use Rattle.model.specs.Entry.{isOccupied}
-use Rattle.laws.proofs.Search.{some-more, some-true}
+use Rattle.laws.proofs.Search.{anyBelow-more, anyBelow-true}
 use Rattle.directory.proofs.Laws.{id-on}
 use Rattle.directory.proofs.has_id.Statement.{statement}
 use Rattle.directory.proofs.has_id.Tie as tie
@@ -20,13 +20,13 @@ abbrev hit : List ℕ → ℕ → ℕ → Bool
 hit img id i = isOccupied (view img (entryAt i)) && eqb (beAt (view img (entryAt i)) 14 8) id
 
 abbrev Inv-loop : tie.InvT-loop
-Inv-loop img id f i₀ i = (i ≤ f) × (some (hit img id) i ≡ false)
+Inv-loop img id f i₀ i = (i ≤ f) × (anyBelow (hit img id) i ≡ false)
 
 abbrev μ-loop : tie.MeasureT-loop
 μ-loop img id f i₀ i = f - i
 
 loop-holds : tie.Need-loop-holds Inv-loop μ-loop
-unfolding some
+unfolding anyBelow
 loop-holds c = (search needs, refl)
 
 has-id-at-requires : tie.Need-has-id-at-requires Inv-loop μ-loop
@@ -38,7 +38,7 @@ returns c =
     let s = b .before .before in
     let a = s .args in
     rw (id-on (view (a .img .now)) (a .id), ← s .pre .is)
-    (sym (some-true (hit (a .img .now) (a .id)) (b .loop .i) (a .g .files) (search needs) (sym (c .before .has-id-at .ensures) ∙ c .if1 .taken)))
+    (sym (anyBelow-true (hit (a .img .now) (a .id)) (b .loop .i) (a .g .files) (search needs) (sym (c .before .has-id-at .ensures) ∙ c .if1 .taken)))
 
 add-i : tie.Need-add-i Inv-loop μ-loop
 add-i c = search needs
@@ -49,7 +49,7 @@ loop-less c = search needs
 loop-again : tie.Need-loop-again Inv-loop μ-loop
 loop-again c =
     let b = c .before .before .before in
-    (search needs, rw (some-more, ← c .before .has-id-at .ensures, c .if1 .left) (b .loop .inv .1))
+    (search needs, rw (anyBelow-more, ← c .before .has-id-at .ensures, c .if1 .left) (b .loop .inv .1))
 
 returns-2 : tie.Need-returns-2 Inv-loop μ-loop
 returns-2 c =

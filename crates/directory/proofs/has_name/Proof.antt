@@ -4,11 +4,11 @@ use Prim.Native.Nat.{_+_, _-_, _*_}
 use mathlib.Core.Path.{_≡_, sym, _∙_}
 use native.Mathlib.Omega.{arith}
 use lib.ListN.{length, take, drop}
-use Rattle.model.specs.Bytes.{run}
+use Rattle.model.specs.Bytes.{bytesFrom}
 use Rattle.model.specs.Disk.{view}
 use Rattle.model.specs.Entry.{nameIn}
 use Rattle.laws.proofs.Search.{same-length}
-use Rattle.laws.proofs.Bytes.{run-part}
+use Rattle.laws.proofs.Bytes.{bytesFrom-part}
 use Rattle.laws.proofs.Entry.{length-nameIn, name-view}
 use Rattle.directory.proofs.has_name.Statement.{statement}
 use Rattle.directory.proofs.has_name.Tie as tie
@@ -51,8 +51,8 @@ returns c =
     let img = a .img .now in
     let n = length (a .name .now) in
     let w : (512 * k + 512) - (512 * k + 36) ≡ 476 = omega arith in
-    let e : nameIn (view img k) ≡ run (take 476 (drop (512 * k + 36) img)) 0 n =
-    name-view img k n (sym (c .before .before .if2 .taken) ∙ d .number .ensures .0) (omega arith) ∙ sym (run-part img (512 * k + 36) 476 n (omega arith)) in
+    let e : nameIn (view img k) ≡ bytesFrom (take 476 (drop (512 * k + 36) img)) 0 n =
+    name-view img k n (sym (c .before .before .if2 .taken) ∙ d .number .ensures .0) (omega arith) ∙ sym (bytesFrom-part img (512 * k + 36) 476 n (omega arith)) in
     rw (← d .before .before .before .is-occupied .ensures, d .before .before .if1 .taken, ← d .before .sector .ensures, e) (rw w at (c .starts-with .ensures))
 
 returns-2 : tie.Need-returns-2

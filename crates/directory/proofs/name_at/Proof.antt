@@ -3,7 +3,7 @@ use borrow.Author.Needs.{needs}
 use Prim.Native.Nat.{_+_, _-_, _*_, _≤_}
 use mathlib.Core.Path.{_≡_, sym, _∙_}
 use native.Mathlib.Omega.{arith}
-use Rattle.laws.proofs.Bytes.{run-eq}
+use Rattle.laws.proofs.Bytes.{bytesFrom-eq}
 use Rattle.laws.proofs.Entry.{name-view}
 use Rattle.directory.proofs.name_at.Statement.{statement}
 use Rattle.directory.proofs.name_at.Tie as tie
@@ -42,7 +42,7 @@ returns c =
     let n = d .number .result in
     let h : n ≤ 476 = rw (d .number .ensures .0, d .before .sector .ensures) (d .before .before .before .pre .1) in
     let w : (512 * k + 36 + n) - (512 * k + 36) ≡ n = omega arith in
-    rw (← d .before .sector .ensures, w) (sym (name-view img k n (d .number .ensures .0) h ∙ run-eq img (512 * k + 36) n (omega arith)))
+    rw (← d .before .sector .ensures, w) (sym (name-view img k n (d .number .ensures .0) h ∙ bytesFrom-eq img (512 * k + 36) n (omega arith)))
 
 pub name-at-spec : {M : Type 1} → statement M
 name-at-spec =

@@ -7,9 +7,9 @@ use native.Mathlib.Omega.{arith}
 use lib.Dec.{eqb}
 use lib.ListN.{length, getD}
 use borrow.Author.Tests.{eq-eqb, ne-eqb, eqb-true, eqb-false}
-use Rattle.model.specs.Search.{some}
+use Rattle.model.specs.Search.{anyBelow}
 use Rattle.model.specs.Entry.{hasZero}
-use Rattle.laws.proofs.Search.{some-more}
+use Rattle.laws.proofs.Search.{anyBelow-more}
 use borrow.Author.Needs.{needs}
 use Rattle.fields.proofs.has_zero.Statement.{statement}
 use Rattle.fields.proofs.has_zero.Tie as tie
@@ -30,13 +30,13 @@ min-zero v x = go (eqb x 0) refl (eqb v 0) refl
         ne-eqb (min v x) 0 (λ e. omega arith)
 
 abbrev Inv-loop : tie.InvT-loop
-Inv-loop bytes least₀ i₀ least i = (i ≤ length bytes) × (eqb least 0 ≡ some (zeroAt bytes) i)
+Inv-loop bytes least₀ i₀ least i = (i ≤ length bytes) × (eqb least 0 ≡ anyBelow (zeroAt bytes) i)
 
 abbrev μ-loop : tie.MeasureT-loop
 μ-loop bytes least₀ i₀ least i = length bytes - i
 
 loop-holds : tie.Need-loop-holds Inv-loop μ-loop
-unfolding some
+unfolding anyBelow
 loop-holds c = (omega arith, refl)
 
 shared-slice-read-lesser : tie.Need-shared-slice-read-lesser Inv-loop μ-loop
@@ -57,7 +57,7 @@ loop-again c =
     let a = c .before .before .before .before .before .args in
     let x = getD (a .bytes .now) (l .i) 0 in (
       omega arith,
-      ap (λ (n : ℕ). eqb n 0) (c .lesser .ensures) ∙ min-zero (l .least) x ∙ ap (λ (q : Bool). eqb x 0 || q) (l .inv .1) ∙ sym (some-more (zeroAt (a .bytes .now)) (l .i)),
+      ap (λ (n : ℕ). eqb n 0) (c .lesser .ensures) ∙ min-zero (l .least) x ∙ ap (λ (q : Bool). eqb x 0 || q) (l .inv .1) ∙ sym (anyBelow-more (zeroAt (a .bytes .now)) (l .i)),
     )
 
 returns : tie.Need-returns Inv-loop μ-loop

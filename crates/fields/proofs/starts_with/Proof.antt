@@ -1,6 +1,6 @@
 -- `fields::starts_with` meets its contract. The loop's invariant: all bytes passed are equal.
-use Rattle.laws.proofs.Search.{every-more, every-false, same-run}
-use Rattle.model.specs.Search.{every}
+use Rattle.laws.proofs.Search.{allBelow-more, allBelow-false, same-run}
+use Rattle.model.specs.Search.{allBelow}
 use native.Mathlib.Nat.{zero-add}
 use lib.Dec.{eqb}
 use lib.ListN.{length, getD}
@@ -18,13 +18,13 @@ abbrev hit : List ℕ → List ℕ → ℕ → Bool
 hit part text k = eqb (getD part (0 + k) 0) (getD text k 0)
 
 abbrev Inv-loop : tie.InvT-loop
-Inv-loop part text i₀ i = (i ≤ length text) × (every (hit part text) i ≡ true)
+Inv-loop part text i₀ i = (i ≤ length text) × (allBelow (hit part text) i ≡ true)
 
 abbrev μ-loop : tie.MeasureT-loop
 μ-loop part text i₀ i = length text - i
 
 loop-holds : tie.Need-loop-holds Inv-loop μ-loop
-unfolding every
+unfolding allBelow
 loop-holds c = (omega arith, refl)
 
 shared-slice-read-if1 : tie.Need-shared-slice-read-if1 Inv-loop μ-loop
@@ -36,7 +36,7 @@ shared-slice-read-if1-2 c = search needs
 returns : tie.Need-returns Inv-loop μ-loop
 returns c = let b = c .before .before .before .before in
     let a = b .before .args in
-    sym (same-run (a .part .now) 0 (a .text .now) ∙ every-false (hit (a .part .now) (a .text .now)) (b .loop .i) (length (a .text .now)) (omega arith) (rw zero-add (ne-eqb _ _ (c .if1 .taken))))
+    sym (same-run (a .part .now) 0 (a .text .now) ∙ allBelow-false (hit (a .part .now) (a .text .now)) (b .loop .i) (length (a .text .now)) (omega arith) (rw zero-add (ne-eqb _ _ (c .if1 .taken))))
 
 add-i : tie.Need-add-i Inv-loop μ-loop
 add-i c = search needs
@@ -46,7 +46,7 @@ loop-less c = search needs
 
 loop-again : tie.Need-loop-again Inv-loop μ-loop
 loop-again c = let b = c .before .before .before .before in
-    (omega arith, rw (every-more, zero-add, eq-eqb _ _ (c .if1 .left)) (b .loop .inv .1))
+    (omega arith, rw (allBelow-more, zero-add, eq-eqb _ _ (c .if1 .left)) (b .loop .inv .1))
 
 returns-2 : tie.Need-returns-2 Inv-loop μ-loop
 returns-2 c = let a = c .before .before .args in

@@ -1,7 +1,7 @@
 -- `format::new_superblock` meets its contract. The stores are those of the definition, and the bytes copied are the whole magic.
 use borrow.Author.Needs.{needs}
 use Rattle.model.specs.Superblock.{newSuperblock, magic}
-use Rattle.laws.proofs.Bytes.{run-all}
+use Rattle.laws.proofs.Bytes.{bytesFrom-all}
 use mathlib.Core.Path.{refl}
 use Rattle.format.proofs.new_superblock.Statement.{statement}
 use Rattle.format.proofs.new_superblock.Tie as tie
@@ -30,14 +30,14 @@ cast-put-be c = search needs
 put-be-requires-3 : tie.Need-put-be-requires-3
 put-be-requires-3 c κs = search needs
 
-slice-aggregate-copy-run : tie.Need-slice-aggregate-copy-run
-slice-aggregate-copy-run c = search needs
+slice-aggregate-copy-bytes : tie.Need-slice-aggregate-copy-bytes
+slice-aggregate-copy-bytes c = search needs
 
-slice-aggregate-copy-run-2 : tie.Need-slice-aggregate-copy-run-2
-slice-aggregate-copy-run-2 c = search needs
+slice-aggregate-copy-bytes-2 : tie.Need-slice-aggregate-copy-bytes-2
+slice-aggregate-copy-bytes-2 c = search needs
 
-copy-run-requires : tie.Need-copy-run-requires
-copy-run-requires c κs = search needs
+copy-bytes-requires : tie.Need-copy-bytes-requires
+copy-bytes-requires c κs = search needs
 
 slice-aggregate-put-be-4 : tie.Need-slice-aggregate-put-be-4
 slice-aggregate-put-be-4 c = search needs
@@ -53,7 +53,7 @@ put-be-requires-5 c κs = search needs
 
 returns : tie.Need-returns
 unfolding newSuperblock
-returns c = cc (run-all magic 8 refl)
+returns c = cc (bytesFrom-all magic 8 refl)
 
 pub new-superblock-spec : {M : Type 1} → statement M
 new-superblock-spec =
@@ -67,9 +67,9 @@ new-superblock-spec =
     slice-aggregate-put-be-3
     cast-put-be
     put-be-requires-3
-    slice-aggregate-copy-run
-    slice-aggregate-copy-run-2
-    copy-run-requires
+    slice-aggregate-copy-bytes
+    slice-aggregate-copy-bytes-2
+    copy-bytes-requires
     slice-aggregate-put-be-4
     put-be-requires-4
     slice-aggregate-put-be-5

@@ -1,7 +1,7 @@
 -- `lists::put_from` meets its contract. The stores of the number and of the contents are the bytes of the record.
 use mathlib.Core.Path.{refl}
-use Rattle.model.specs.Bytes.{run}
-use Rattle.laws.proofs.Bytes.{run-all, length-run}
+use Rattle.model.specs.Bytes.{bytesFrom}
+use Rattle.laws.proofs.Bytes.{bytesFrom-all, length-bytesFrom}
 use Rattle.laws.proofs.WriteList.{emit-run}
 use borrow.Author.Needs.{needs}
 use Rattle.lists.proofs.put_from.Statement.{statement}
@@ -28,7 +28,7 @@ same-length c = search needs
 returns : tie.Need-returns
 returns c =
     let a = c .before .before .before .before .before .before .before .before .before .before .args in
-    record { holds = rw (emit-run, run-all (run (a .src .now) (a .from) 512) 512 (length-run (a .src .now) (a .from) 512)) (cc); next = refl }
+    record { holds = rw (emit-run, bytesFrom-all (bytesFrom (a .src .now) (a .from) 512) 512 (length-bytesFrom (a .src .now) (a .from) 512)) (cc); next = refl }
 
 pub put-from-spec : {M : Type 1} → statement M
 put-from-spec =

@@ -1,10 +1,10 @@
 -- `lists::put_superblock` meets its contract. The journal length is stored into the contents of the record.
 use mathlib.Core.Path.{_∙_}
 use native.Mathlib.Omega.{arith}
-use Rattle.model.specs.Bytes.{beBytes, run}
+use Rattle.model.specs.Bytes.{beBytes, bytesFrom}
 use Rattle.model.specs.Disk.{view}
 use Rattle.model.specs.Superblock.{withJournalLength}
-use Rattle.laws.proofs.Bytes.{length-run, length-beBytes}
+use Rattle.laws.proofs.Bytes.{length-bytesFrom, length-beBytes}
 use Rattle.laws.proofs.WriteList.{emit-patched, emitted-then}
 use borrow.Author.Needs.{needs}
 use Rattle.lists.proofs.put_superblock.Statement.{statement}
@@ -39,7 +39,7 @@ returns c =
     let patched = rw (copied .holds) at (c .before .before .before .before .before .before .put-be .ensures) in
     let new =
     patched
-    ∙ emit-patched (a .list .now) (a .k) 0 (run (a .img .now) 0 512) 18 (beBytes 2 (a .n)) (length-run (a .img .now) 0 512)
+    ∙ emit-patched (a .list .now) (a .k) 0 (bytesFrom (a .img .now) 0 512) 18 (beBytes 2 (a .n)) (length-bytesFrom (a .img .now) 0 512)
     (omega (arith, length-beBytes 2 (a .n))) in
     emitted-then (record { holds = new; next = copied .next }) (c .before .before .put-barrier .ensures)
 

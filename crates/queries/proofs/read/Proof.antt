@@ -2,7 +2,7 @@
 use mathlib.Core.Path.{sym, ap, _∙_}
 use borrow.Author.Tests.{eq-eqb, ne-eqb}
 use Rattle.model.specs.declared.Verdict.{Verdict}
-use Rattle.model.specs.Search.{tab}
+use Rattle.model.specs.Search.{tabulate}
 use Rattle.model.specs.Catalogue.{fileBytes}
 use Rattle.model.specs.Read.{readBy, readAnswer, readGives, readOutput}
 use Rattle.laws.proofs.Bytes.{put-nil}
@@ -30,7 +30,7 @@ not-read-requires : tie.Need-not-read-requires
 not-read-requires c κs = search needs
 
 returns-2 : tie.Need-returns-2
-unfolding readAnswer readOutput readGives readBy fileBytes tab
+unfolding readAnswer readOutput readGives readBy fileBytes tabulate
 returns-2 c =
     let t = ne-eqb _ _ (c .before .if1 .left) in
     (rw (← c .before .before .before .judge .ensures, t, t) (c .not-read .ensures), rw (← c .before .before .before .judge .ensures, t, t) (sym (put-nil _ _)))

@@ -1,7 +1,7 @@
 -- `reading::read_file` meets its contract. The offset is greater than the size, the bytes are read, or the output is too short.
 use mathlib.Core.Path.{sym}
 use borrow.Author.Tests.{lt-ltb, le-ltb}
-use Rattle.model.specs.Search.{tab}
+use Rattle.model.specs.Search.{tabulate}
 use Rattle.model.specs.Catalogue.{fileBytes}
 use Rattle.model.specs.Refusals.{verdictOf}
 use Rattle.laws.proofs.Bytes.{put-nil}
@@ -17,7 +17,7 @@ not-read-requires : tie.Need-not-read-requires
 not-read-requires c κs = search needs
 
 returns : tie.Need-returns
-unfolding fileVerdict verdictOf fileBytes tab
+unfolding fileVerdict verdictOf fileBytes tabulate
 returns c = (rw (lt-ltb _ _ (c .before .before .if1 .taken), ← c .before .refusal .ensures) (c .not-read .ensures), rw (c .not-read .ensures) (sym (put-nil _ _)))
 
 least-requires : tie.Need-least-requires
@@ -45,7 +45,7 @@ not-read-requires-2 : tie.Need-not-read-requires-2
 not-read-requires-2 c κs = search needs
 
 returns-3 : tie.Need-returns-3
-unfolding fileVerdict verdictOf fileBytes tab
+unfolding fileVerdict verdictOf fileBytes tabulate
 returns-3 c =
     let n = c .before .before .before .least .ensures in
     (rw (le-ltb _ _ (c .before .before .before .before .if1 .left), ← n, lt-ltb _ _ (c .before .before .if2 .left), ← c .before .refusal3 .ensures) (c .not-read2 .ensures), rw (c .not-read2 .ensures) (sym (put-nil _ _)))

@@ -4,7 +4,7 @@ use native.Mathlib.Omega.{arith}
 use lib.ListN.{length}
 use Rattle.model.specs.declared.Geometry.{Geometry}
 use Rattle.model.specs.Bytes.{beAt}
-use Rattle.model.specs.Search.{tab, isAt}
+use Rattle.model.specs.Search.{tabulate, isAt}
 use Rattle.model.specs.Geometry.{entryAt}
 use Rattle.model.specs.Disk.{view}
 use Rattle.model.specs.Catalogue.{fileBytes}
@@ -28,7 +28,7 @@ not-read-requires : tie.Need-not-read-requires
 not-read-requires c κs = search needs
 
 returns : tie.Need-returns
-unfolding readBy fileBytes tab
+unfolding readBy fileBytes tabulate
 returns c =
     let v = read-bad-name (view (c .before .before .before .before .before .before .before .args .img .now)) (c .before .before .before .before .before .before .before .args .name .now) (c .before .before .before .before .before .before .before .args .offset) (c .before .before .before .before .before .before .before .args .asked) (length (c .before .before .before .before .before .before .before .args .out .now)) (sym (c .before .before .before .bad-name .ensures) ∙ c .before .before .if1 .taken) in
     (rw (v, ← c .before .refusal .ensures) (c .not-read .ensures), rw (c .not-read .ensures) (sym (put-nil _ _)))
@@ -40,7 +40,7 @@ not-read-requires-2 : tie.Need-not-read-requires-2
 not-read-requires-2 c κs = search needs
 
 returns-2 : tie.Need-returns-2
-unfolding readBy fileBytes tab
+unfolding readBy fileBytes tabulate
 returns-2 c =
     let v = read-long (view (c .before .before .before .before .before .before .before .before .args .img .now)) (c .before .before .before .before .before .before .before .before .args .name .now) (c .before .before .before .before .before .before .before .before .args .offset) (c .before .before .before .before .before .before .before .before .args .asked) (length (c .before .before .before .before .before .before .before .before .args .out .now)) (c .before .before .if2 .taken) in
     (rw (v, ← c .before .refusal2 .ensures) (c .not-read2 .ensures), rw (c .not-read2 .ensures) (sym (put-nil _ _)))
@@ -101,7 +101,7 @@ not-read-requires-3 : tie.Need-not-read-requires-3
 not-read-requires-3 c κs = search needs
 
 returns-4 : tie.Need-returns-4
-unfolding readBy fileBytes tab
+unfolding readBy fileBytes tabulate
 returns-4 c =
     let n = sym (c .before .before .before .before .file-named .ensures) ∙ c .before .before .enum-told .given .1 in
     let v = read-missing (view (c .before .before .before .before .before .before .before .before .before .before .before .before .args .img .now)) (c .before .before .before .before .before .before .before .before .before .before .before .before .args .name .now) (c .before .before .before .before .before .before .before .before .before .before .before .before .args .offset) (c .before .before .before .before .before .before .before .before .before .before .before .before .args .asked) (length (c .before .before .before .before .before .before .before .before .before .before .before .before .args .out .now)) (sym (c .before .before .before .before .before .before .before .before .bad-name .ensures) ∙ c .before .before .before .before .before .before .before .if1 .left) (c .before .before .before .before .before .before .if2 .left) (ap isAt n) in

@@ -16,8 +16,8 @@ slice-aggregate-be32 c = search needs
 be32-requires : tie.Need-be32-requires
 be32-requires c κs = search needs
 
-next-version-requires : tie.Need-next-version-requires
-next-version-requires c κs = search needs
+raised-version-requires : tie.Need-raised-version-requires
+raised-version-requires c κs = search needs
 
 slice-aggregate-put-be : tie.Need-slice-aggregate-put-be
 slice-aggregate-put-be c = search needs
@@ -52,7 +52,7 @@ updated-entry-spec =
     sector-requires-2
     slice-aggregate-be32
     be32-requires
-    next-version-requires
+    raised-version-requires
     slice-aggregate-put-be
     put-be-requires
     slice-aggregate-put-be-2

@@ -1,8 +1,8 @@
 -- `spans::put_data` meets its contract. By induction on n: the sectors in one extent, and then the rest, are the whole span.
 use mathlib.Core.Path.{_≡_}
 use native.Mathlib.Omega.{arith}
-use Rattle.model.specs.Search.{tab}
-use Rattle.laws.proofs.Search.{tab-split}
+use Rattle.model.specs.Search.{tabulate}
+use Rattle.laws.proofs.Search.{tabulate-split}
 use Rattle.laws.proofs.WriteList.{emitted-none, emitted-then}
 use borrow.Author.Needs.{needs}
 use Prim.Native.Nat.{ℕ, _+_, _-_, _<_}
@@ -31,7 +31,7 @@ put-data-returns : (t : ℕ) → put-data-lts.Need-returns (
   put-data-below t,
   put-data.Post,
 ) (put-data-at t) put-data.Post
-unfolding tab
+unfolding tabulate
 put-data-returns t c =
     let e : c .before .before .before .before .args .n ≡ 0 = c .if1 .taken in
     (omega arith, rw e (emitted-none _ _))
@@ -99,7 +99,7 @@ put-data-returns-2 t c =
     let a = c .before .before .before .before .before .before .before .before .before .before .before .before .args in
     let r = c .before .before .before .before .before .before .put-in-extent in
     let e : a .n ≡ r .result + (a .n - r .result) = omega arith in
-    (omega arith, rw (e, tab-split) (emitted-then (r .ensures .1) (c .before .before .put-data .ensures .1)))
+    (omega arith, rw (e, tabulate-split) (emitted-then (r .ensures .1) (c .before .before .put-data .ensures .1)))
 
 pub +put-data-spec : {M : Type 1} → statement M
 +put-data-spec = close μ-put-data λ t. put-data-lts.spec (

@@ -1,7 +1,7 @@
 -- `spans::read_span` meets its contract. By induction on n: the bytes in one extent, and then the rest, are the whole span.
 use mathlib.Core.Path.{_≡_, sym}
 use native.Mathlib.Omega.{arith}
-use Rattle.model.specs.Search.{tab}
+use Rattle.model.specs.Search.{tabulate}
 use Rattle.model.specs.Catalogue.{fileBytes}
 use Rattle.laws.proofs.Bytes.{put-nil, put-append}
 use Rattle.spans.proofs.Laws.{span-cut, length-fileBytes}
@@ -32,7 +32,7 @@ read-span-returns : (t : ℕ) → read-span-lts.Need-returns (
   read-span-below t,
   read-span.Post,
 ) (read-span-at t) read-span.Post
-unfolding fileBytes tab
+unfolding fileBytes tabulate
 read-span-returns t c =
     let e : c .before .before .before .args .n ≡ 0 = c .if1 .taken in
     rw e (sym (put-nil _ _))

@@ -62,17 +62,17 @@ returns c =
 sector-requires : tie.Need-sector-requires
 sector-requires c κs = search needs
 
-slice-aggregate-copy-run : tie.Need-slice-aggregate-copy-run
-slice-aggregate-copy-run c = search needs
+slice-aggregate-copy-bytes : tie.Need-slice-aggregate-copy-bytes
+slice-aggregate-copy-bytes c = search needs
 
-sub-copy-run : tie.Need-sub-copy-run
-sub-copy-run c = search needs
+sub-copy-bytes : tie.Need-sub-copy-bytes
+sub-copy-bytes c = search needs
 
-sub-copy-run-2 : tie.Need-sub-copy-run-2
-sub-copy-run-2 c = search needs
+sub-copy-bytes-2 : tie.Need-sub-copy-bytes-2
+sub-copy-bytes-2 c = search needs
 
-copy-run-requires : tie.Need-copy-run-requires
-copy-run-requires c κs = search needs
+copy-bytes-requires : tie.Need-copy-bytes-requires
+copy-bytes-requires c κs = search needs
 
 put-sector-requires : tie.Need-put-sector-requires
 put-sector-requires c κs = search needs
@@ -93,7 +93,7 @@ returns-2 c =
       ← splice-part (a .offset) (a .s) span d (from .result) (to .result) (from .ensures) last,
       ← read,
       ← c .before .before .before .before .before .before .before .sector .ensures,
-      ← c .before .before .before .before .before .copy-run .ensures,
+      ← c .before .before .before .before .before .copy-bytes .ensures,
     )
     (c .before .before .put-sector .ensures)
 
@@ -114,10 +114,10 @@ put-data-sector-spec =
     same-length
     returns
     sector-requires
-    slice-aggregate-copy-run
-    sub-copy-run
-    sub-copy-run-2
-    copy-run-requires
+    slice-aggregate-copy-bytes
+    sub-copy-bytes
+    sub-copy-bytes-2
+    copy-bytes-requires
     put-sector-requires
     same-length-2
     returns-2)

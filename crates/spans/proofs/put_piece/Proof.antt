@@ -4,12 +4,12 @@ use mathlib.Core.Path.{_≡_, refl}
 use mathlib.Core.List.{List}
 use native.Mathlib.Omega.{arith}
 use lib.ListN.{length}
-use Rattle.model.specs.Search.{tab}
+use Rattle.model.specs.Search.{tabulate}
 use Rattle.model.specs.Disk.{view}
 use Rattle.model.specs.WriteList.{Record, sectorWrite, Emitted}
 use Rattle.model.specs.Write.{spliced}
 use Rattle.spans.specs.Touched.{spanOf}
-use Rattle.laws.proofs.Search.{tab-more}
+use Rattle.laws.proofs.Search.{tabulate-more}
 use Rattle.laws.proofs.WriteList.{emitted-none, emitted-then}
 use borrow.Author.Needs.{needs}
 use Rattle.spans.proofs.put_piece.Statement.{statement}
@@ -21,13 +21,13 @@ sectorAt img start offset bytes s x = sectorWrite (start + (x - s)) (spliced off
 
 abbrev Inv-loop : tie.InvT-loop
 Inv-loop list₀ k img start offset bytes len s n at₀ j₀ list at j =
-    (j ≤ n) × (at ≡ k + j) × Emitted list₀ k (tab (sectorAt img (start .0) offset (spanOf bytes len) s) s j) list at × (length list ≡ length list₀)
+    (j ≤ n) × (at ≡ k + j) × Emitted list₀ k (tabulate (sectorAt img (start .0) offset (spanOf bytes len) s) s j) list at × (length list ≡ length list₀)
 
 abbrev μ-loop : tie.MeasureT-loop
 μ-loop list₀ k img start offset bytes len s n at₀ j₀ list at j = n - j
 
 loop-holds : tie.Need-loop-holds Inv-loop μ-loop
-unfolding tab
+unfolding tabulate
 loop-holds c = (omega arith, omega arith, emitted-none _ _, refl)
 
 add-t15 : tie.Need-add-t15 Inv-loop μ-loop
@@ -58,7 +58,7 @@ loop-again c =
     let n = c .before .before .put-data-sector .ensures .next in (
       omega arith,
       omega arith,
-      rw tab-more (emitted-then (l .inv .2) (rw e at (c .before .before .put-data-sector .ensures))),
+      rw tabulate-more (emitted-then (l .inv .2) (rw e at (c .before .before .put-data-sector .ensures))),
       omega arith,
     )
 

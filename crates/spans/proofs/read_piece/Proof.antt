@@ -31,14 +31,14 @@ sub-least c = omega (arith, offset-within (c .before .before .before .before .be
 least-requires : tie.Need-least-requires
 least-requires c κs = search needs
 
-mul-copy-run : tie.Need-mul-copy-run
-mul-copy-run c = omega (arith, piece-inside (c .before .before .before .before .before .before .before .args .img .now) (c .before .before .before .before .before .before .before .args .g) (c .before .before .before .before .before .before .before .pre .0) (c .before .before .before .before .before .before .before .args .i .0) (c .before .before .before .before .before .before .before .args .offset) (c .before .before .before .extent-of .result .0) (c .before .before .extent-at .result .0) (c .before .before .before .extent-of .ensures .0) (c .before .before .extent-at .ensures))
+mul-copy-bytes : tie.Need-mul-copy-bytes
+mul-copy-bytes c = omega (arith, piece-inside (c .before .before .before .before .before .before .before .args .img .now) (c .before .before .before .before .before .before .before .args .g) (c .before .before .before .before .before .before .before .pre .0) (c .before .before .before .before .before .before .before .args .i .0) (c .before .before .before .before .before .before .before .args .offset) (c .before .before .before .extent-of .result .0) (c .before .before .extent-at .result .0) (c .before .before .before .extent-of .ensures .0) (c .before .before .extent-at .ensures))
 
-add-copy-run : tie.Need-add-copy-run
-add-copy-run c = omega (arith, piece-inside (c .before .before .before .before .before .before .before .args .img .now) (c .before .before .before .before .before .before .before .args .g) (c .before .before .before .before .before .before .before .pre .0) (c .before .before .before .before .before .before .before .args .i .0) (c .before .before .before .before .before .before .before .args .offset) (c .before .before .before .extent-of .result .0) (c .before .before .extent-at .result .0) (c .before .before .before .extent-of .ensures .0) (c .before .before .extent-at .ensures), offset-within (c .before .before .before .before .before .before .before .args .g) (c .before .before .before .before .before .before .before .pre .0 .bounded) (c .before .before .before .before .before .before .before .args .offset))
+add-copy-bytes : tie.Need-add-copy-bytes
+add-copy-bytes c = omega (arith, piece-inside (c .before .before .before .before .before .before .before .args .img .now) (c .before .before .before .before .before .before .before .args .g) (c .before .before .before .before .before .before .before .pre .0) (c .before .before .before .before .before .before .before .args .i .0) (c .before .before .before .before .before .before .before .args .offset) (c .before .before .before .extent-of .result .0) (c .before .before .extent-at .result .0) (c .before .before .before .extent-of .ensures .0) (c .before .before .extent-at .ensures), offset-within (c .before .before .before .before .before .before .before .args .g) (c .before .before .before .before .before .before .before .pre .0 .bounded) (c .before .before .before .before .before .before .before .args .offset))
 
-copy-run-requires : tie.Need-copy-run-requires
-copy-run-requires c κs = omega (arith, piece-inside (c .before .before .before .before .before .before .before .before .args .img .now) (c .before .before .before .before .before .before .before .before .args .g) (c .before .before .before .before .before .before .before .before .pre .0) (c .before .before .before .before .before .before .before .before .args .i .0) (c .before .before .before .before .before .before .before .before .args .offset) (c .before .before .before .before .extent-of .result .0) (c .before .before .before .extent-at .result .0) (c .before .before .before .before .extent-of .ensures .0) (c .before .before .before .extent-at .ensures), offset-within (c .before .before .before .before .before .before .before .before .args .g) (c .before .before .before .before .before .before .before .before .pre .0 .bounded) (c .before .before .before .before .before .before .before .before .args .offset))
+copy-bytes-requires : tie.Need-copy-bytes-requires
+copy-bytes-requires c κs = omega (arith, piece-inside (c .before .before .before .before .before .before .before .before .args .img .now) (c .before .before .before .before .before .before .before .before .args .g) (c .before .before .before .before .before .before .before .before .pre .0) (c .before .before .before .before .before .before .before .before .args .i .0) (c .before .before .before .before .before .before .before .before .args .offset) (c .before .before .before .before .extent-of .result .0) (c .before .before .before .extent-at .result .0) (c .before .before .before .before .extent-of .ensures .0) (c .before .before .before .extent-at .ensures), offset-within (c .before .before .before .before .before .before .before .before .args .g) (c .before .before .before .before .before .before .before .before .pre .0 .bounded) (c .before .before .before .before .before .before .before .before .args .offset))
 
 same-length : tie.Need-same-length
 same-length c = search needs
@@ -49,7 +49,7 @@ returns c =
     let e = extentBytes (c .before .before .before .before .before .before .before .before .before .before .before .args .g) in
     let w = offset-within (c .before .before .before .before .before .before .before .before .before .before .before .args .g) (c .before .before .before .before .before .before .before .before .before .before .before .pre .0 .bounded) (c .before .before .before .before .before .before .before .before .before .before .before .args .offset) in
     let l : c .before .before .before .before .before .before .before .before .before .before .before .args .offset % e + m ≤ e = omega arith in
-    ((omega arith, omega arith), rw (piece-is (c .before .before .before .before .before .before .before .before .before .before .before .args .img .now) (c .before .before .before .before .before .before .before .before .before .before .before .args .g) (c .before .before .before .before .before .before .before .before .before .before .before .pre .0) (c .before .before .before .before .before .before .before .before .before .before .before .args .i .0) (c .before .before .before .before .before .before .before .before .before .before .before .args .offset) (c .before .before .before .before .before .before .before .extent-of .result .0) (c .before .before .before .before .before .before .extent-at .result .0) (c .before .before .before .before .before .before .before .extent-of .ensures .0) (c .before .before .before .before .before .before .extent-at .ensures) m l) (c .before .before .copy-run .ensures))
+    ((omega arith, omega arith), rw (piece-is (c .before .before .before .before .before .before .before .before .before .before .before .args .img .now) (c .before .before .before .before .before .before .before .before .before .before .before .args .g) (c .before .before .before .before .before .before .before .before .before .before .before .pre .0) (c .before .before .before .before .before .before .before .before .before .before .before .args .i .0) (c .before .before .before .before .before .before .before .before .before .before .before .args .offset) (c .before .before .before .before .before .before .before .extent-of .result .0) (c .before .before .before .before .before .before .extent-at .result .0) (c .before .before .before .before .before .before .before .extent-of .ensures .0) (c .before .before .before .before .before .before .extent-at .ensures) m l) (c .before .before .copy-bytes .ensures))
 
 pub read-piece-spec : {M : Type 1} → statement M
 read-piece-spec =
@@ -63,8 +63,8 @@ read-piece-spec =
     rem-within
     sub-least
     least-requires
-    mul-copy-run
-    add-copy-run
-    copy-run-requires
+    mul-copy-bytes
+    add-copy-bytes
+    copy-bytes-requires
     same-length
     returns)

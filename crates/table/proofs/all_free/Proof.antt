@@ -4,22 +4,22 @@ use mathlib.Core.Path.{_≡_, refl, sym, ap₂, _∙_}
 use mathlib.Core.Bool.{Bool, _&&_}
 use native.Mathlib.Omega.{arith}
 use lib.Dec.{eqb}
-use Rattle.model.specs.Search.{every}
+use Rattle.model.specs.Search.{allBelow}
 use Rattle.model.specs.Disk.{view}
 use Rattle.model.specs.Table.{tableFile, freeFile}
-use Rattle.laws.proofs.Search.{every-more}
+use Rattle.laws.proofs.Search.{allBelow-more}
 use borrow.Author.Needs.{needs}
 use Rattle.table.proofs.all_free.Statement.{statement}
 use Rattle.table.proofs.all_free.Tie as tie
 
 abbrev Inv-loop : tie.InvT-loop
-Inv-loop img g e all₀ k₀ all k = (k ≤ 128) × (all ≡ every (λ j. eqb (tableFile g (view img) (e + j)) freeFile) k)
+Inv-loop img g e all₀ k₀ all k = (k ≤ 128) × (all ≡ allBelow (λ j. eqb (tableFile g (view img) (e + j)) freeFile) k)
 
 abbrev μ-loop : tie.MeasureT-loop
 μ-loop img g e all₀ k₀ all k = 128 - k
 
 loop-holds : tie.Need-loop-holds Inv-loop μ-loop
-unfolding every
+unfolding allBelow
 loop-holds c = (omega arith, refl)
 
 add-t7 : tie.Need-add-t7 Inv-loop μ-loop
@@ -41,7 +41,7 @@ loop-again : tie.Need-loop-again Inv-loop μ-loop
 loop-again c =
     let l = c .before .before .before .loop in
     let a = c .before .before .before .before .before .args in
-    (omega arith, c .both .ensures ∙ ap₂ (λ (x y : Bool). x && y) (c .before .is-free .ensures) (l .inv .1) ∙ sym (every-more (λ j. eqb (tableFile (a .g) (view (a .img .now)) (a .e + j)) freeFile) (l .k)))
+    (omega arith, c .both .ensures ∙ ap₂ (λ (x y : Bool). x && y) (c .before .is-free .ensures) (l .inv .1) ∙ sym (allBelow-more (λ j. eqb (tableFile (a .g) (view (a .img .now)) (a .e + j)) freeFile) (l .k)))
 
 returns : tie.Need-returns Inv-loop μ-loop
 returns c =

@@ -5,7 +5,7 @@ use native.Mathlib.Omega.{arith}
 use lib.ListN.{length}
 use Rattle.model.specs.Disk.{view}
 use Rattle.model.specs.Table.{freedIn}
-use Rattle.model.specs.Catalogue.{catalogueOf, isBeyond}
+use Rattle.model.specs.Catalogue.{catalogueOf, ownedFrom}
 use Rattle.table.proofs.Laws.{freed-more}
 use borrow.Author.Needs.{needs}
 use Rattle.table.proofs.freed.Statement.{statement}
@@ -13,7 +13,7 @@ use Rattle.table.proofs.freed.Tie as tie
 
 abbrev Inv-loop : tie.InvT-loop
 Inv-loop img g i o t a₀ k₀ a k =
-    (k ≤ 128) × (a ≡ freedIn (λ j. isBeyond (i .0) o (catalogueOf (view img) .table (128 * t + j))) a₀ k) × (length a ≡ 512)
+    (k ≤ 128) × (a ≡ freedIn (λ j. ownedFrom (i .0) o (catalogueOf (view img) .table (128 * t + j))) a₀ k) × (length a ≡ 512)
 
 abbrev μ-loop : tie.MeasureT-loop
 μ-loop img g i o t a₀ k₀ a k = 128 - k
@@ -31,8 +31,8 @@ loop-holds c = (omega arith, refl, search needs)
 table-extent-requires : tie.Need-table-extent-requires Inv-loop μ-loop
 table-extent-requires c κs = search needs
 
-is-beyond-requires : tie.Need-is-beyond-requires Inv-loop μ-loop
-is-beyond-requires c κs = search needs
+owned-from-requires : tie.Need-owned-from-requires Inv-loop μ-loop
+owned-from-requires c κs = search needs
 
 slice-aggregate-free-one : tie.Need-slice-aggregate-free-one Inv-loop μ-loop
 slice-aggregate-free-one c = search needs
@@ -49,7 +49,7 @@ loop-less c = search needs
 loop-again : tie.Need-loop-again Inv-loop μ-loop
 loop-again c =
     let l = c .before .before .before .before .before .before .loop in
-    (omega arith, rw (freed-more, ← c .before .before .before .before .table-extent .ensures, ← c .before .before .before .is-beyond .ensures, ← l .inv .1) (c .before .free-one .ensures), search needs)
+    (omega arith, rw (freed-more, ← c .before .before .before .before .table-extent .ensures, ← c .before .before .before .owned-from .ensures, ← l .inv .1) (c .before .free-one .ensures), search needs)
 
 returns : tie.Need-returns Inv-loop μ-loop
 returns c =
@@ -66,7 +66,7 @@ freed-spec =
     sector-requires
     loop-holds
     table-extent-requires
-    is-beyond-requires
+    owned-from-requires
     slice-aggregate-free-one
     free-one-requires
     add-k

@@ -4,22 +4,22 @@ use mathlib.Core.Path.{_≡_, refl, sym, ap₂, _∙_}
 use mathlib.Core.Bool.{Bool, _||_}
 use native.Mathlib.Omega.{arith}
 use lib.Dec.{eqb}
-use Rattle.model.specs.Search.{some}
+use Rattle.model.specs.Search.{anyBelow}
 use Rattle.model.specs.Disk.{view}
 use Rattle.model.specs.Table.{tableFile, freeFile}
-use Rattle.laws.proofs.Search.{some-more}
+use Rattle.laws.proofs.Search.{anyBelow-more}
 use borrow.Author.Needs.{needs}
 use Rattle.table.proofs.holds_free.Statement.{statement}
 use Rattle.table.proofs.holds_free.Tie as tie
 
 abbrev Inv-loop : tie.InvT-loop
-Inv-loop img g e found₀ k₀ found k = (k ≤ 128) × (found ≡ some (λ j. eqb (tableFile g (view img) (e + j)) freeFile) k)
+Inv-loop img g e found₀ k₀ found k = (k ≤ 128) × (found ≡ anyBelow (λ j. eqb (tableFile g (view img) (e + j)) freeFile) k)
 
 abbrev μ-loop : tie.MeasureT-loop
 μ-loop img g e found₀ k₀ found k = 128 - k
 
 loop-holds : tie.Need-loop-holds Inv-loop μ-loop
-unfolding some
+unfolding anyBelow
 loop-holds c = (omega arith, refl)
 
 add-t7 : tie.Need-add-t7 Inv-loop μ-loop
@@ -41,7 +41,7 @@ loop-again : tie.Need-loop-again Inv-loop μ-loop
 loop-again c =
     let l = c .before .before .before .loop in
     let a = c .before .before .before .before .before .args in
-    (omega arith, c .either .ensures ∙ ap₂ (λ (x y : Bool). x || y) (c .before .is-free .ensures) (l .inv .1) ∙ sym (some-more (λ j. eqb (tableFile (a .g) (view (a .img .now)) (a .e + j)) freeFile) (l .k)))
+    (omega arith, c .either .ensures ∙ ap₂ (λ (x y : Bool). x || y) (c .before .is-free .ensures) (l .inv .1) ∙ sym (anyBelow-more (λ j. eqb (tableFile (a .g) (view (a .img .now)) (a .e + j)) freeFile) (l .k)))
 
 returns : tie.Need-returns Inv-loop μ-loop
 returns c =

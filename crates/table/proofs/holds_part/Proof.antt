@@ -4,10 +4,10 @@ use mathlib.Core.Path.{_≡_, refl, sym, ap₂, _∙_}
 use mathlib.Core.Bool.{Bool, _||_}
 use mathlib.Core.List.{List}
 use native.Mathlib.Omega.{arith}
-use Rattle.model.specs.Search.{some}
+use Rattle.model.specs.Search.{anyBelow}
 use Rattle.model.specs.Disk.{view}
 use Rattle.model.specs.Catalogue.{catalogueOf, isPart}
-use Rattle.laws.proofs.Search.{some-more}
+use Rattle.laws.proofs.Search.{anyBelow-more}
 use borrow.Author.Needs.{needs}
 use Rattle.table.proofs.holds_part.Statement.{statement}
 use Rattle.table.proofs.holds_part.Tie as tie
@@ -16,13 +16,13 @@ abbrev hit : List ℕ → ℕ → ℕ → ℕ → ℕ → Bool
 hit img i o e k = isPart i o (catalogueOf (view img) .table (e + k))
 
 abbrev Inv-loop : tie.InvT-loop
-Inv-loop img g i o e found₀ k₀ found k = (k ≤ 128) × (found ≡ some (hit img (i .0) o e) k)
+Inv-loop img g i o e found₀ k₀ found k = (k ≤ 128) × (found ≡ anyBelow (hit img (i .0) o e) k)
 
 abbrev μ-loop : tie.MeasureT-loop
 μ-loop img g i o e found₀ k₀ found k = 128 - k
 
 loop-holds : tie.Need-loop-holds Inv-loop μ-loop
-unfolding some
+unfolding anyBelow
 loop-holds c = (omega arith, refl)
 
 add-t9 : tie.Need-add-t9 Inv-loop μ-loop
@@ -45,7 +45,7 @@ loop-again c =
     let l = c .before .before .before .loop in
     let a = c .before .before .before .before .before .args in (
       omega arith,
-      c .either .ensures ∙ ap₂ (λ (x y : Bool). x || y) (c .before .is-part .ensures) (l .inv .1) ∙ sym (some-more (hit (a .img .now) (a .i .0) (a .o) (a .e)) (l .k)),
+      c .either .ensures ∙ ap₂ (λ (x y : Bool). x || y) (c .before .is-part .ensures) (l .inv .1) ∙ sym (anyBelow-more (hit (a .img .now) (a .i .0) (a .o) (a .e)) (l .k)),
     )
 
 returns : tie.Need-returns Inv-loop μ-loop

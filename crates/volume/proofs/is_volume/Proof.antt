@@ -1,9 +1,9 @@
 -- `volume::is_volume` meets its contract. The magic is wrong, or the version is compared.
-use Rattle.laws.proofs.Disk.{run-view}
-use Rattle.laws.proofs.Bytes.{run-part}
-use Rattle.model.specs.Search.{same}
+use Rattle.laws.proofs.Disk.{bytesFrom-view}
+use Rattle.laws.proofs.Bytes.{bytesFrom-part}
+use Rattle.model.specs.Search.{equalBytes}
 use Rattle.model.specs.Disk.{view}
-use Rattle.model.specs.Bytes.{run}
+use Rattle.model.specs.Bytes.{bytesFrom}
 use Rattle.model.specs.Superblock.{isVolume, magic}
 use native.Mathlib.Omega.{arith}
 use mathlib.Core.Path.{_≡_, sym}
@@ -33,16 +33,16 @@ returns : tie.Need-returns
 unfolding isVolume
 returns c = let d = c .before .before in
     let img = d .before .before .before .before .args .img .now in
-    let m : same (run (view img 0) 8 8) magic ≡ d .starts-with .result =
-    rw (run-view img 0 8 8 (omega arith), ← run-part img 8 8 8 (omega arith)) (sym (d .starts-with .ensures)) in
+    let m : equalBytes (bytesFrom (view img 0) 8 8) magic ≡ d .starts-with .result =
+    rw (bytesFrom-view img 0 8 8 (omega arith), ← bytesFrom-part img 8 8 8 (omega arith)) (sym (d .starts-with .ensures)) in
     rw (m, c .before .if1 .taken, ← c .number .ensures .0)
 
 returns-2 : tie.Need-returns-2
 unfolding isVolume
 returns-2 c = let d = c .before in
     let img = d .before .before .before .before .args .img .now in
-    let m : same (run (view img 0) 8 8) magic ≡ d .starts-with .result =
-    rw (run-view img 0 8 8 (omega arith), ← run-part img 8 8 8 (omega arith)) (sym (d .starts-with .ensures)) in
+    let m : equalBytes (bytesFrom (view img 0) 8 8) magic ≡ d .starts-with .result =
+    rw (bytesFrom-view img 0 8 8 (omega arith), ← bytesFrom-part img 8 8 8 (omega arith)) (sym (d .starts-with .ensures)) in
     rw (m, c .if1 .left)
 
 pub is-volume-spec : {M : Type 1} → statement M

@@ -1,11 +1,11 @@
--- `table::is_beyond` meets its contract. Past the last extent the catalogue has no owner.
+-- `table::owned_from` meets its contract. Past the last extent the catalogue has no owner.
 use borrow.Author.Tests.{eq-eqb, ne-eqb}
 use mathlib.Core.Path.{sym}
 use Rattle.model.specs.Disk.{view}
 use Rattle.table.proofs.Laws.{beyond-on, beyond-past}
 use borrow.Author.Needs.{needs}
-use Rattle.table.proofs.is_beyond.Statement.{statement}
-use Rattle.table.proofs.is_beyond.Tie as tie
+use Rattle.table.proofs.owned_from.Statement.{statement}
+use Rattle.table.proofs.owned_from.Tie as tie
 
 table-file-requires : tie.Need-table-file-requires
 table-file-requires c κs = search needs
@@ -31,6 +31,6 @@ returns-3 c =
     let a = s .args in
     sym (beyond-past (view (a .img .now)) (a .g) (s .pre .0 .is) (a .i .0) (a .o) (a .e .0) (c .if1 .left))
 
-pub is-beyond-spec : {M : Type 1} → statement M
-is-beyond-spec =
+pub owned-from-spec : {M : Type 1} → statement M
+owned-from-spec =
     tie.close (tie.spec table-file-requires table-offset-requires returns returns-2 returns-3)

@@ -1,23 +1,23 @@
--- `table::sectors_beyond` meets its contract. The loop's invariant: how many of the sectors passed hold one.
+-- `table::sectors_from` meets its contract. The loop's invariant: how many of the sectors passed hold one.
 use Prim.Native.Nat.{ℕ, _-_, _≤_}
 use mathlib.Core.Path.{_≡_, refl}
 use mathlib.Core.Bool.{Bool}
 use mathlib.Core.List.{List}
 use native.Mathlib.Omega.{arith}
-use Rattle.model.specs.Search.{count}
+use Rattle.model.specs.Search.{countBelow}
 use Rattle.model.specs.Disk.{view}
-use Rattle.model.specs.Catalogue.{catalogueOf, holdsBeyond}
-use Rattle.laws.proofs.Search.{count-more}
-use Rattle.table.proofs.Laws.{sectors-beyond-is}
+use Rattle.model.specs.Catalogue.{catalogueOf, holdsFrom}
+use Rattle.laws.proofs.Search.{countBelow-more}
+use Rattle.table.proofs.Laws.{sectors-from-is}
 use borrow.Author.Needs.{needs}
-use Rattle.table.proofs.sectors_beyond.Statement.{statement}
-use Rattle.table.proofs.sectors_beyond.Tie as tie
+use Rattle.table.proofs.sectors_from.Statement.{statement}
+use Rattle.table.proofs.sectors_from.Tie as tie
 
 abbrev hit : List ℕ → ℕ → ℕ → ℕ → Bool
-hit img i o = holdsBeyond (catalogueOf (view img)) i o
+hit img i o = holdsFrom (catalogueOf (view img)) i o
 
 abbrev Inv-loop : tie.InvT-loop
-Inv-loop img g i o n found₀ t₀ found t = (t ≤ n) × (found ≤ t) × (found ≡ count (hit img (i .0) o) t)
+Inv-loop img g i o n found₀ t₀ found t = (t ≤ n) × (found ≤ t) × (found ≡ countBelow (hit img (i .0) o) t)
 
 abbrev μ-loop : tie.MeasureT-loop
 μ-loop img g i o n found₀ t₀ found t = n - t
@@ -26,11 +26,11 @@ table-sectors-requires : tie.Need-table-sectors-requires Inv-loop μ-loop
 table-sectors-requires c κs = search needs
 
 loop-holds : tie.Need-loop-holds Inv-loop μ-loop
-unfolding count
+unfolding countBelow
 loop-holds c = (omega arith, omega arith, refl)
 
-holds-beyond-requires : tie.Need-holds-beyond-requires Inv-loop μ-loop
-holds-beyond-requires c κs = search needs
+holds-from-requires : tie.Need-holds-from-requires Inv-loop μ-loop
+holds-from-requires c κs = search needs
 
 one-if-requires : tie.Need-one-if-requires Inv-loop μ-loop
 one-if-requires c κs = search needs
@@ -50,7 +50,7 @@ loop-again c =
     let a = c .before .before .before .before .before .before .args in (
       omega arith,
       omega arith,
-      rw (count-more (hit (a .img .now) (a .i .0) (a .o)) (l .t), ← c .before .holds-beyond .ensures, ← c .one-if .ensures .0, ← l .inv .2) (omega arith),
+      rw (countBelow-more (hit (a .img .now) (a .i .0) (a .o)) (l .t), ← c .before .holds-from .ensures, ← c .one-if .ensures .0, ← l .inv .2) (omega arith),
     )
 
 returns : tie.Need-returns Inv-loop μ-loop
@@ -59,17 +59,17 @@ returns c =
     let s = c .before .before .before .before in
     let a = s .args in
     let e : l .t ≡ c .before .before .table-sectors .result = omega arith in
-    (rw (sectors-beyond-is (view (a .img .now)) (a .g) (s .pre .0 .is) (a .i .0) (a .o), ← c .before .before .table-sectors .ensures) (rw e at (l .inv .2)), omega arith)
+    (rw (sectors-from-is (view (a .img .now)) (a .g) (s .pre .0 .is) (a .i .0) (a .o), ← c .before .before .table-sectors .ensures) (rw e at (l .inv .2)), omega arith)
 
-pub sectors-beyond-spec : {M : Type 1} → statement M
-sectors-beyond-spec =
+pub sectors-from-spec : {M : Type 1} → statement M
+sectors-from-spec =
     tie.close
     (tie.spec
     Inv-loop
     μ-loop
     table-sectors-requires
     loop-holds
-    holds-beyond-requires
+    holds-from-requires
     one-if-requires
     add-found
     add-t

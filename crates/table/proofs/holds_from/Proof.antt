@@ -1,41 +1,41 @@
--- `table::holds_beyond` meets its contract. The loop's invariant: none of the entries passed is one.
+-- `table::holds_from` meets its contract. The loop's invariant: none of the entries passed is one.
 use Prim.Native.Nat.{ℕ, _+_, _-_, _*_, _≤_}
 use mathlib.Core.Path.{_≡_, refl, sym, _∙_}
 use mathlib.Core.Bool.{Bool, false}
 use mathlib.Core.List.{List}
 use native.Mathlib.Omega.{arith}
-use Rattle.model.specs.Search.{some}
+use Rattle.model.specs.Search.{anyBelow}
 use Rattle.model.specs.Disk.{view}
-use Rattle.model.specs.Catalogue.{catalogueOf, isBeyond, holdsBeyond}
-use Rattle.laws.proofs.Search.{some-more, some-true}
+use Rattle.model.specs.Catalogue.{catalogueOf, ownedFrom, holdsFrom}
+use Rattle.laws.proofs.Search.{anyBelow-more, anyBelow-true}
 use borrow.Author.Needs.{needs}
-use Rattle.table.proofs.holds_beyond.Statement.{statement}
-use Rattle.table.proofs.holds_beyond.Tie as tie
+use Rattle.table.proofs.holds_from.Statement.{statement}
+use Rattle.table.proofs.holds_from.Tie as tie
 
 abbrev hit : List ℕ → ℕ → ℕ → ℕ → ℕ → Bool
-hit img i o t k = isBeyond i o (catalogueOf (view img) .table (128 * t + k))
+hit img i o t k = ownedFrom i o (catalogueOf (view img) .table (128 * t + k))
 
 abbrev Inv-loop : tie.InvT-loop
-Inv-loop img g i o t k₀ k = (k ≤ 128) × (some (hit img (i .0) o t) k ≡ false)
+Inv-loop img g i o t k₀ k = (k ≤ 128) × (anyBelow (hit img (i .0) o t) k ≡ false)
 
 abbrev μ-loop : tie.MeasureT-loop
 μ-loop img g i o t k₀ k = 128 - k
 
 loop-holds : tie.Need-loop-holds Inv-loop μ-loop
-unfolding some
+unfolding anyBelow
 loop-holds c = (omega arith, refl)
 
 table-extent-requires : tie.Need-table-extent-requires Inv-loop μ-loop
 table-extent-requires c κs = search needs
 
-is-beyond-requires : tie.Need-is-beyond-requires Inv-loop μ-loop
-is-beyond-requires c κs = search needs
+owned-from-requires : tie.Need-owned-from-requires Inv-loop μ-loop
+owned-from-requires c κs = search needs
 
 returns : tie.Need-returns Inv-loop μ-loop
-unfolding holdsBeyond
+unfolding holdsFrom
 returns c =
     let a = c .before .before .before .before .before .before .args in
-    sym (some-true (hit (a .img .now) (a .i .0) (a .o) (a .t)) (c .before .before .before .before .loop .k) 128 (omega arith) (rw (c .before .before .table-extent .ensures) at (sym (c .before .is-beyond .ensures) ∙ c .if1 .taken)))
+    sym (anyBelow-true (hit (a .img .now) (a .i .0) (a .o) (a .t)) (c .before .before .before .before .loop .k) 128 (omega arith) (rw (c .before .before .table-extent .ensures) at (sym (c .before .owned-from .ensures) ∙ c .if1 .taken)))
 
 add-k : tie.Need-add-k Inv-loop μ-loop
 add-k c = search needs
@@ -47,23 +47,23 @@ loop-again : tie.Need-loop-again Inv-loop μ-loop
 loop-again c =
     let l = c .before .before .before .before .loop in
     let a = c .before .before .before .before .before .before .args in
-    (omega arith, rw (some-more (hit (a .img .now) (a .i .0) (a .o) (a .t)) (l .k), ← c .before .before .table-extent .ensures, ← c .before .is-beyond .ensures, c .if1 .left) (l .inv .1))
+    (omega arith, rw (anyBelow-more (hit (a .img .now) (a .i .0) (a .o) (a .t)) (l .k), ← c .before .before .table-extent .ensures, ← c .before .owned-from .ensures, c .if1 .left) (l .inv .1))
 
 returns-2 : tie.Need-returns-2 Inv-loop μ-loop
-unfolding holdsBeyond
+unfolding holdsFrom
 returns-2 c =
     let e : c .before .loop .k ≡ 128 = omega arith in
     sym (rw e at (c .before .loop .inv .1))
 
-pub holds-beyond-spec : {M : Type 1} → statement M
-holds-beyond-spec =
+pub holds-from-spec : {M : Type 1} → statement M
+holds-from-spec =
     tie.close
     (tie.spec
     Inv-loop
     μ-loop
     loop-holds
     table-extent-requires
-    is-beyond-requires
+    owned-from-requires
     returns
     add-k
     loop-less

@@ -1,5 +1,5 @@
 -- Laws of the layout: what bounds say, that no area's start overflows, that the reserve is smaller than the volume. Assumes nothing.
-use Prim.Native.Nat.{ℕ, suc, _+_, _-_, _*_, _/_, _≤_, _<_}
+use Prim.Native.Nat.{ℕ, suc, _+_, _-_, _*_, _≤_, _<_}
 use mathlib.Core.Path.{_≡_, refl, ap, _∙_}
 use mathlib.Core.Bool.{Bool, true, false, _&&_, false≢true}
 use native.Mathlib.Nat.{mul-le-mul, mul-le-mul-left, div-lt-iff-lt-mul, suc-mul}
@@ -7,7 +7,7 @@ use native.Mathlib.Omega.{arith}
 use lib.Dec.{leb}
 use borrow.Author.Tests.{leb-true}
 use Rattle.model.specs.declared.Geometry.{Geometry}
-use Rattle.model.specs.Geometry.{extentSectors, inBounds}
+use Rattle.model.specs.Geometry.{extentSectors, mostTargets, reserveExtents, inBounds}
 use Rattle.model.specs.Opened.{Bounded}
 
 and-true : (a b : Bool) → (a && b) ≡ true → (a ≡ true) × (b ≡ true)
@@ -35,10 +35,14 @@ pub product : (g : Geometry) (e : ℕ) → Bounded g → e ≤ g .extents → e 
 product g e b h = mul-le-mul (let q : e ≤ 65535 = omega (arith, b .extents-high) in q) (b .extent-high)
 
 -- the reserve is smaller than the volume
-pub reserve-small : (n s : ℕ) → 2 ≤ n → n ≤ 65535 → 128 ≤ s → ((n + 127) / 128 + 2 + (s - 1)) / s < n
-reserve-small n s a b h =
+pub reserve-small : (g : Geometry) → Bounded g → reserveExtents g < g .extents
+reserve-small g b =
+    let n = g .extents in
+    let s = extentSectors g in
+    let a : 2 ≤ n = b .extents-low in
+    let h : 128 ≤ s = b .extent-low in
     let m : n ≡ suc (n - 1) = omega arith in
     let e : n * s ≡ (n - 1) * s + s = ap (λ x. x * s) m ∙ suc-mul (n - 1) s in
     let p : (n - 1) * 128 ≤ (n - 1) * s = mul-le-mul-left (n - 1) h in
-    let q : (n + 127) / 128 + 2 + (s - 1) < n * s = omega arith in
+    let q : mostTargets g + (s - 1) < n * s = omega arith in
     div-lt-iff-lt-mul {k = s} (omega arith) .1 q

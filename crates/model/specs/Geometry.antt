@@ -25,9 +25,13 @@ extentBytes g = 512 * extentSectors g
 abbrev pub tableSectors : Geometry → ℕ
 tableSectors g = (g .extents + 127) / 128
 
+-- the most targets that a list has: a delete's root, entry and all table sectors
+abbrev pub mostTargets : Geometry → ℕ
+mostTargets g = tableSectors g + 2
+
 -- "The last K extents, K = (T + 2) / S rounded up, are the reserve and never belong to a file. The first N - K are usable."
 abbrev pub reserveExtents : Geometry → ℕ
-reserveExtents g = (tableSectors g + 2 + (extentSectors g - 1)) / extentSectors g
+reserveExtents g = (mostTargets g + (extentSectors g - 1)) / extentSectors g
 
 abbrev pub usable : Geometry → ℕ
 usable g = g .extents - reserveExtents g

@@ -33,7 +33,7 @@ use Rattle.safety.proofs.Apply.{over, apply, over-here, over-miss, over
 use Rattle.safety.proofs.Superblock.{length-withJournalLength, journalLength-with, state-clean, Volume, volume-with, volume-long, volume-bounds, volume-accepted, Recovers, recovers-clean}
 use Rattle.safety.proofs.Superblock.{when-done, when-none, byRoom, answers}
 use Rattle.safety.proofs.Landing.{Begun, Ended, both-end, cut-begun}
-use Rattle.safety.proofs.Bounds.{bounded-by}
+use Rattle.model.proofs.Areas.{bounds}
 use Rattle.safety.proofs.Plan.{metadata-lt, metadata-no, metadata-directory, metadata-table}
 use Rattle.safety.proofs.Changing.{earlier-done, later-done}
 use Rattle.safety.proofs.Bridge.{Carriable, toSector, isBarrier, carries-out, all-closed, all-fit, cut-bytes, NoBarrier, ListCarries}
@@ -45,7 +45,7 @@ few-sectors : (g : Geometry) → inBounds g ≡ true → (g .files ≤ 1024) × 
 unfolding inBounds
 few-sectors g h =
     let most = leb 255 (g .files) && leb (g .files) 1024 && leb 2 (g .extents) && leb (g .extents) 65535 in
-    let b = bounded-by (record { files = g .files; extents = g .extents; «extent_sectors» = 128 }) (and-yes most (leb 128 128) (and-left most (leb 128 (extentSectors g)) h) refl) (omega arith) in
+    let b = bounds (record { files = g .files; extents = g .extents; «extent_sectors» = 128 }) (and-yes most (leb 128 128) (and-left most (leb 128 (extentSectors g)) h) refl) (omega arith) in
     (b .files-high, b .extents-high)
 
 -- ---- the state

@@ -9,7 +9,7 @@ use native.Mathlib.Omega.{arith}
 use lib.ListN.{length}
 use Rattle.model.specs.declared.Geometry.{Geometry}
 use Rattle.model.specs.declared.State.the-variants.{Clean}
-use Rattle.model.specs.Geometry.{superblockAt, extentSectors, tableSectors, reserveExtents, journalAt, dataAt, reserveAt, volumeSectors}
+use Rattle.model.specs.Geometry.{superblockAt, extentSectors, reserveExtents, journalAt, dataAt, reserveAt, volumeSectors}
 use Rattle.model.specs.Disk.{Disk, view}
 use Rattle.model.specs.WriteList.{Record, sectorWrite, barrierNumber, stored, Plan, Group, groupsOf, closed}
 use Rattle.model.specs.Superblock.{journalLength, withJournalLength, stateOf, stateOn}
@@ -91,8 +91,7 @@ module _ (g : Geometry) (img0 : List ℕ) (p : Plan) (geo : UsableGeometry g) (o
   unfolding copyContents
   A-in-image =
       let e : volumeSectors g ≡ reserveAt g + reserveExtents g * extentSectors g = volume-is g geo in
-      let few : length (p .targets) ≤ tableSectors g + 2 = ok .few in
-      let holds : tableSectors g + 2 ≤ reserveExtents g * extentSectors g = geo .holds in
+      let few : length (p .targets) ≤ reserveExtents g * extentSectors g = ok .few in
       let sectors : journalSectors (length (p .targets)) ≤ 32 = journal-few g p geo ok in
       subst (All (InImage n)) (sym (A-is g p))
       (all-append (InImage n) (p .dataSectors ++ copyWrites g p) (journalWrites g p)

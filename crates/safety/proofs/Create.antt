@@ -29,8 +29,8 @@ use Rattle.safety.proofs.Searches.{place-found, place-none, or-left-no,
 use Rattle.safety.proofs.Apply.{over-here, over-skip, over-none}
 use Rattle.safety.proofs.Plan.{UsableGeometry, WellFormed, metadata-directory}
 use Rattle.safety.proofs.Commit.{Ready, uncut, ready-uncut}
-use Rattle.safety.proofs.Frame.{Outside, done-at, length-groups}
-use Rattle.safety.proofs.Bounds.{no-extent}
+use Rattle.safety.proofs.Frame.{Outside, Shows, done-shows, length-groups}
+use Rattle.safety.proofs.Bounds.{copies-fit, count-waits, no-extent}
 use Rattle.safety.proofs.Rep.{Rep, rep-geometry}
 use Rattle.safety.proofs.Changing.{Passed, Carries, effect-changing, Decides, same-changing}
 use Rattle.safety.proofs.Preserved.{out-front, out-table, out-data, slotIn, entry-is, table-keep, part-keeps}
@@ -88,7 +88,8 @@ module _ (L : Ledger) (img : List ℕ) (rep : Rep L img) (name : List ℕ) (id m
     new-name : (k : ℕ) → k < L .geometry .files → hasName name (catalogue L .entries k) ≡ false
     unfolding createConditions fileNamed catalogue
     new-name =
-        place-none (λ k. hasName name (c .entries k)) (L .geometry .files) (or-left-no _ (anyBelow (λ k. hasId id (c .entries k)) (L .geometry .files)) (or-left-no _ (eqb id (L .root .id)) (passed .1 .0)))
+        place-none (λ k. hasName name (c .entries k)) (L .geometry .files)
+        (or-left-no _ (anyBelow (λ k. hasId id (c .entries k)) (L .geometry .files)) (or-left-no _ (eqb id (L .root .id)) (passed .1 .0)))
 
     new-id : (k : ℕ) → k < L .geometry .files → hasId id (catalogue L .entries k) ≡ false
     unfolding createConditions catalogue
@@ -117,7 +118,8 @@ module _ (L : Ledger) (img : List ℕ) (rep : Rep L img) (name : List ℕ) (id m
         let l : i < L .geometry .files = free .0 in
         record {
           nonempty = omega arith;
-          few = omega arith;
+          few = copies-fit (L .geometry) (rep .bounded) _ (omega arith);
+          journalled = count-waits (L .geometry) (rep .bounded) _ (omega arith);
           metadata = (metadata-directory (L .geometry) 1 (omega arith) (omega arith), (metadata-directory (L .geometry) (entryAt i) (omega arith) (omega arith), tt));
           rising = (omega arith, (omega arith, tt));
           usable = tt;
@@ -128,90 +130,83 @@ module _ (L : Ledger) (img : List ℕ) (rep : Rep L img) (name : List ℕ) (id m
 
     -- ---- the sectors of the new image
 
-    abbrev out : List ℕ
-    out = uncut (L .geometry) img p
-
     abbrev w1 : Record
     w1 = sectorWrite rootAt (updatedRootSector time (view img rootAt))
 
     abbrev w2 : Record
     w2 = sectorWrite (entryAt i) (newEntrySector name id mode time)
 
-    at-root : view out rootAt ≡ updatedRootSector time (view img rootAt)
-    unfolding createPlan
-    at-root =
-        done-at (L .geometry) p geo fits img (rep .ready) 1 (out-front (L .geometry) geo 1 (omega arith)) (λ e. omega arith)
-        ∙ over-here w1 (w2 ∷ []) _ ∙ over-skip w2 [] 1 _ (λ e. omega arith) ∙ over-none 1 _
+    module _ (out : List ℕ) (ready : Ready (L .geometry) out) (shows : Shows (L .geometry) (w1 ∷ w2 ∷ []) img out) where
+      at-root : view out rootAt ≡ updatedRootSector time (view img rootAt)
+      at-root =
+          shows 1 (out-front (L .geometry) geo 1 (omega arith)) (λ e. omega arith)
+          ∙ over-here w1 (w2 ∷ []) _ ∙ over-skip w2 [] 1 _ (λ e. omega arith) ∙ over-none 1 _
 
-    at-entry : view out (entryAt i) ≡ newEntrySector name id mode time
-    unfolding createPlan
-    at-entry =
-        let l : i < L .geometry .files = free .0 in
-        done-at (L .geometry) p geo fits img (rep .ready) (entryAt i) (out-front (L .geometry) geo (entryAt i) (omega arith)) (λ e. omega arith)
-        ∙ over-skip w1 (w2 ∷ []) (entryAt i) _ (λ e. omega arith) ∙ over-here w2 [] _ ∙ over-none (entryAt i) _
+      at-entry : view out (entryAt i) ≡ newEntrySector name id mode time
+      at-entry =
+          let l : i < L .geometry .files = free .0 in
+          shows (entryAt i) (out-front (L .geometry) geo (entryAt i) (omega arith)) (λ e. omega arith)
+          ∙ over-skip w1 (w2 ∷ []) (entryAt i) _ (λ e. omega arith) ∙ over-here w2 [] _ ∙ over-none (entryAt i) _
 
-    at-other : (j : ℕ) → Outside (L .geometry) j → j ≢ 0 → j ≢ 1 → j ≢ entryAt i → view out j ≡ view img j
-    unfolding createPlan
-    at-other j o n0 n1 ni =
-        done-at (L .geometry) p geo fits img (rep .ready) j o n0 ∙ over-skip w1 (w2 ∷ []) j _ n1 ∙ over-skip w2 [] j _ ni ∙ over-none j _ ∙ over-none j _
+      at-other : (j : ℕ) → Outside (L .geometry) j → j ≢ 0 → j ≢ 1 → j ≢ entryAt i → view out j ≡ view img j
+      at-other j o n0 n1 ni =
+          shows j o n0 ∙ over-skip w1 (w2 ∷ []) j _ n1 ∙ over-skip w2 [] j _ ni ∙ over-none j _
 
-    -- ---- what it says
+      -- ---- what it says
 
-    ready : Ready (L .geometry) out
-    ready = ready-uncut (L .geometry) img p geo fits (rep .ready)
+      entry-new : catalogueOf (view out) .entries i ≡ some (newEntry name id mode time)
+      entry-new =
+          entry-is (L .geometry) (view out) (view out) (ready .volume .geometry) (ready .volume .geometry) i
+          ∙ ap (λ (s : List ℕ). slotIn (L .geometry) s i) at-entry
+          ∙ (λ j. cond (lt-ltb i (L .geometry .files) (free .0) j && new-occupied name id mode time j) (some (new-entry name id mode time good hi hm ht j)) none)
 
-    entry-new : catalogueOf (view out) .entries i ≡ some (newEntry name id mode time)
-    entry-new =
-        entry-is (L .geometry) (view out) (view out) (ready .volume .geometry) (ready .volume .geometry) i
-        ∙ ap (λ (s : List ℕ). slotIn (L .geometry) s i) at-entry
-        ∙ (λ j. cond (lt-ltb i (L .geometry .files) (free .0) j && new-occupied name id mode time j) (some (new-entry name id mode time good hi hm ht j)) none)
+      table-same : (e : ℕ) → catalogueOf (view out) .table e ≡ catalogue (created L i name id mode time) .table e
+      table-same e =
+          let l : i < L .geometry .files = free .0 in
+          table-keep (L .geometry) (view img) (view out) (rep .ready .volume .geometry) (ready .volume .geometry) e
+          (λ q. at-other (tableSectorOf (L .geometry) e) (out-table (L .geometry) geo e q) (λ z. omega arith) (λ z. omega arith) (λ z. omega arith))
+          ∙ rep .says .table e ∙ sym (table-created L i name id mode time empty e)
 
-    table-same : (e : ℕ) → catalogueOf (view out) .table e ≡ catalogue (created L i name id mode time) .table e
-    table-same e =
-        let l : i < L .geometry .files = free .0 in
-        table-keep (L .geometry) (view img) (view out) (rep .ready .volume .geometry) (ready .volume .geometry) e
-        (λ q. at-other (tableSectorOf (L .geometry) e) (out-table (L .geometry) geo e q) (λ z. omega arith) (λ z. omega arith) (λ z. omega arith))
-        ∙ rep .says .table e ∙ sym (table-created L i name id mode time empty e)
+      bytes-new : (x : File) → some (newFile L i name id mode time) ≡ some x → fileBytes (catalogueOf (view out)) (view out) i 0 (x .entry .size) ≡ x .bytes
+      unfolding newEntry
+      bytes-new x e =
+          subst (λ (y : File). fileBytes (catalogueOf (view out)) (view out) i 0 (y .entry .size) ≡ y .bytes) (Option·some-injective _ _ e)
+          (bytes-none (catalogueOf (view out)) (view out) i)
 
-    bytes-new : (x : File) → some (newFile L i name id mode time) ≡ some x → fileBytes (catalogueOf (view out)) (view out) i 0 (x .entry .size) ≡ x .bytes
-    unfolding newEntry
-    bytes-new x e =
-        subst (λ (y : File). fileBytes (catalogueOf (view out)) (view out) i 0 (y .entry .size) ≡ y .bytes) (Option·some-injective _ _ e)
-        (bytes-none (catalogueOf (view out)) (view out) i)
+      sized-new : (x : File) → some (newFile L i name id mode time) ≡ some x → length (x .extents) ≡ extentsFor (L .geometry) (x .entry .size)
+      unfolding newEntry
+      sized-new x e =
+          subst (λ (y : File). length (y .extents) ≡ extentsFor (L .geometry) (y .entry .size)) (Option·some-injective _ _ e) (sym (no-extent (L .geometry) (rep .bounded)))
 
-    sized-new : (x : File) → some (newFile L i name id mode time) ≡ some x → length (x .extents) ≡ extentsFor (L .geometry) (x .entry .size)
-    unfolding newEntry
-    sized-new x e =
-        subst (λ (y : File). length (y .extents) ≡ extentsFor (L .geometry) (y .entry .size)) (Option·some-injective _ _ e) (sym (no-extent (L .geometry) (rep .bounded)))
+      mark-new : fault21 (view out) i ≡ false
+      unfolding fault21
+      mark-new = occupied-mark (view out (entryAt i)) (ap isOccupied at-entry ∙ new-occupied name id mode time)
 
-    mark-new : fault21 (view out) i ≡ false
-    unfolding fault21
-    mark-new = occupied-mark (view out (entryAt i)) (ap isOccupied at-entry ∙ new-occupied name id mode time)
-
-    rewrites : Rewrites L img (updatedRoot time (L .root)) i (some (newFile L i name id mode time)) out
-    rewrites =
-        let l : i < L .geometry .files = free .0 in
-        record {
-          ready = ready;
-          new-root = ap rootIn at-root ∙ root-updated time (view img rootAt) (length-view img rootAt) ht ∙ ap (updatedRoot time) (rep .says .root);
-          mark = mark-new;
-          entry = entry-new;
-          entries = λ k q ne. at-other (entryAt k) (out-front (L .geometry) geo (entryAt k) (omega arith)) (λ z. omega arith) (λ z. omega arith) (λ z. ne (omega arith));
-          table = table-same;
-          bytes = bytes-new;
-          kept = λ k x ne e b q. all-kept L img out rep
-              (λ j u v. at-other j (out-data (L .geometry) geo j u v) (λ z. omega arith) (λ z. omega arith) (λ z. omega arith)) k _;
-          admissible = admissible-new L i name id mode time empty (rep .bounded) good some-id new-name new-id not-root (rep .faultless);
-          disjoint = disjoint-created L i name id mode time empty (rep .disjoint);
-          sized = sized-new;
-        }
+      rewrites : Rewrites L img (updatedRoot time (L .root)) i (some (newFile L i name id mode time)) out
+      rewrites =
+          let l : i < L .geometry .files = free .0 in
+          record {
+            ready = ready;
+            new-root = ap rootIn at-root ∙ root-updated time (view img rootAt) (length-view img rootAt) ht ∙ ap (updatedRoot time) (rep .says .root);
+            mark = mark-new;
+            entry = entry-new;
+            entries = λ k q ne. at-other (entryAt k) (out-front (L .geometry) geo (entryAt k) (omega arith)) (λ z. omega arith) (λ z. omega arith) (λ z. ne (omega arith));
+            table = table-same;
+            bytes = bytes-new;
+            kept = λ k x ne e b q. all-kept L img out rep
+                (λ j u v. at-other j (out-data (L .geometry) geo j u v) (λ z. omega arith) (λ z. omega arith) (λ z. omega arith)) k _;
+            admissible = admissible-new L i name id mode time empty (rep .bounded) good some-id new-name new-id not-root (rep .faultless);
+            disjoint = disjoint-created L i name id mode time empty (rep .disjoint);
+            sized = sized-new;
+          }
 
     carries : Carries L img (create name id mode time room) p
     unfolding step createPlan
     carries = record {
       fits = fits;
-      done = subst (λ (x : Lowest). Rep (created L (indexOf x) name id mode time) out) (sym (slot-is L))
-          (rep-replaced L img rep (updatedRoot time (L .root)) i (some (newFile L i name id mode time)) out rewrites);
+      done = subst (λ (x : Lowest). Rep (created L (indexOf x) name id mode time) (uncut (L .geometry) img p)) (sym (slot-is L))
+          (rep-replaced L img rep (updatedRoot time (L .root)) i (some (newFile L i name id mode time)) _
+          (rewrites _ (ready-uncut (L .geometry) img p geo fits (rep .ready)) (done-shows (L .geometry) p geo fits img (rep .ready))));
       partly = λ k m. part-keeps L img p rep fits refl k m;
     }
 

@@ -1,22 +1,26 @@
--- What a plan's list, or the part of it that landed without the start mark, leaves in each sector outside journal and reserve.
--- Assumes nothing.
+-- What a plan's list, or the part of it that landed without the start mark, leaves in each sector outside journal and reserve; and an
+-- image that writes leave which never stands on the medium. Assumes nothing.
 use Prim.Native.Nat.{ℕ, zero, suc, _+_, _*_, _≤_, _<_}
-use mathlib.Core.Path.{_≡_, refl, sym, ap, _∙_}
+use mathlib.Core.Path.{_≡_, refl, sym, ap, _∙_, subst}
 use mathlib.Core.Logic.{_≢_}
-use mathlib.Core.Bool.{Bool, true, false}
+use mathlib.Core.Bool.{Bool, true, false, true≢false}
 use mathlib.Core.List.{List, [], _∷_, _++_, append-assoc}
 use native.Mathlib.Omega.{arith}
 use lib.ListN.{length, drop, length-append}
 use Rattle.model.specs.declared.Geometry.{Geometry}
-use Rattle.model.specs.Geometry.{superblockAt, journalAt, reserveAt, volumeSectors}
+use Rattle.model.specs.Geometry.{superblockAt, journalAt, dataAt, reserveAt, volumeSectors}
 use Rattle.model.specs.Disk.{Disk, view}
-use Rattle.model.specs.WriteList.{Record, sectorWrite, barrier, stored, Plan, Group, groupsOf, closedAfter, closed, listLength, recordSize, recordCount}
-use Rattle.model.specs.Superblock.{withJournalLength}
+use Rattle.model.specs.WriteList.{Record, sectorWrite, barrierNumber, barrier, stored, Plan, Group, groupsOf, closedAfter, closed, listLength, recordSize, recordCount}
+use Rattle.model.specs.Superblock.{journalLength, withJournalLength, stateOf}
 use Rattle.model.specs.Journal.{journalSectors}
+use Rattle.model.specs.Recovery.{isMetadata}
 use Rattle.model.specs.Cut.{kept}
 use Rattle.laws.proofs.Search.{length-tabulate}
 use Rattle.safety.proofs.Apply.{over, apply, hits, over-append, over-miss, over-skip, over-none, kept-miss, kept-nil, hits-append, stored-view}
-use Rattle.safety.proofs.Plan.{UsableGeometry, WellFormed, A, A-is, copyWrites, journalWrites, journal-miss, copies-miss, mark, clear, committed, final}
+use Rattle.safety.proofs.Apply.{All, all-map, all-miss, InImage, length-stored}
+use Rattle.safety.proofs.Superblock.{Volume, volume-long}
+use Rattle.safety.proofs.Plan.{UsableGeometry, WellFormed, Metadata, Whole, metadata-no, metadata-lt, A, A-is}
+use Rattle.safety.proofs.Plan.{copyWrites, journalWrites, journal-miss, copies-miss, mark, clear, committed, final}
 use Rattle.safety.proofs.Commit.{Ready, partOf, part-in-image, uncut, uncut-shows}
 
 kept-append : (m : List Bool) (a b : Group) → kept m (a ++ b) ≡ kept m a ++ kept (drop (length a) m) b
@@ -29,6 +33,10 @@ kept-append (false ∷ m) (w ∷ a) b = kept-append m a b
 pub record Outside (g : Geometry) (j : ℕ) : Type 0 where
   pub journal : journalAt g ≤ j → j < journalAt g + 32 → ⊥
   pub reserve : reserveAt g ≤ j → j < volumeSectors g → ⊥
+
+-- an image that shows these writes over another one; of the superblock it says nothing
+abbrev pub Shows : Geometry → Group → List ℕ → List ℕ → Type 0
+Shows g ws img out = (j : ℕ) → Outside g j → j ≢ 0 → view out j ≡ over ws j (view img j)
 
 module _ (g : Geometry) (p : Plan) (geo : UsableGeometry g) (ok : WellFormed g p) where
   abbrev staged : Group
@@ -55,16 +63,46 @@ module _ (g : Geometry) (p : Plan) (geo : UsableGeometry g) (ok : WellFormed g p
     part-at k m j o =
         ap (λ (d : Disk). d j) (stored-view (partOf k m (A g p)) img (length img) refl (part-in-image g img p geo ok ready k m)) ∙ over-part k m j (view img j) o
 
-    pub done-at : (j : ℕ) → Outside g j → j ≢ 0 → view (uncut g img p) j ≡ over (p .targets) j (over (p .dataSectors) j (view img j))
+    pub done-shows : Shows g (p .dataSectors ++ p .targets) img (uncut g img p)
     unfolding final committed apply
-    done-at j o ne =
+    done-shows j o ne =
         ap (λ (d : Disk). d j) (uncut-shows g img p geo ok ready)
         ∙ over-skip (clear g (view img) p) [] j _ ne ∙ over-none j _
         ∙ ap (over (p .targets) j) (over-skip (mark g (view img) p) [] j _ ne ∙ over-none j _ ∙ over-part 1 [] j (view img j) o)
+        ∙ sym (over-append (p .dataSectors) (p .targets) j (view img j))
 
     pub done-zero : view (uncut g img p) superblockAt ≡ withJournalLength 0 (view img superblockAt)
     unfolding final apply over
     done-zero = ap (λ (d : Disk). d 0) (uncut-shows g img p geo ok ready)
+
+-- ---- writes of root, directory and table alone, without a journal: a step on the way to the image that a call leaves
+
+module _ (g : Geometry) (img : List ℕ) (ws : Group) (geo : UsableGeometry g) (ready : Ready g img) (metadata : All (Metadata g) ws) (whole : All Whole ws) where
+  all-in-image : (vs : Group) → All (Metadata g) vs → All Whole vs → All (InImage (length img)) vs
+  all-in-image [] h q = tt
+  all-in-image (w ∷ vs) h q =
+      let l : w .sector < dataAt g = metadata-lt g (w .sector) (h .0) in
+      let r : 512 * volumeSectors g ≤ length img = volume-long g (length img) (view img superblockAt) (ready .volume) in
+      let s : volumeSectors g < barrierNumber = geo .small in
+      (record { within = omega arith; number = λ e. omega arith; sector = q .0 }, all-in-image vs (h .1) (q .1))
+
+  shown : (j : ℕ) → view (stored ws img) j ≡ over ws j (view img j)
+  unfolding apply
+  shown j = ap (λ (d : Disk). d j) (stored-view ws img (length img) refl (all-in-image ws metadata whole))
+
+  pub stored-shows : Shows g ws img (stored ws img)
+  stored-shows j o ne = shown j
+
+  pub stored-ready : Ready g (stored ws img)
+  stored-ready =
+      let miss : hits ws 0 ≡ false =
+      all-miss 0 ws (all-map (Metadata g) (λ w. 0 ≢ w .sector)
+      (λ w h q. true≢false (sym h ∙ ap (isMetadata g) (sym q) ∙ metadata-no g 0 (λ a b. omega arith) (λ a b. omega arith))) ws metadata) in
+      let z : view (stored ws img) superblockAt ≡ view img superblockAt = shown 0 ∙ over-miss ws 0 _ miss in
+      record {
+        volume = subst (λ (l : ℕ). Volume g l (view (stored ws img) superblockAt)) (sym (length-stored ws img)) (subst (Volume g (length img)) (sym z) (ready .volume));
+        clean = ap (λ (s : List ℕ). stateOf (journalLength s)) z ∙ ready .clean;
+      }
 
 -- ---- list lengths by the groups
 

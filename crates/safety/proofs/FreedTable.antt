@@ -4,7 +4,7 @@ use Prim.Native.Nat.{ℕ, _+_, _*_, _/_, _%_, _≤_, _<_}
 use mathlib.Core.Path.{_≡_, refl, sym, ap, ap₂, _∙_}
 use mathlib.Core.Logic.{_≢_}
 use mathlib.Core.Bool.{Bool, true, false, cond}
-use mathlib.Core.List.{List}
+use mathlib.Core.List.{List, _++_}
 use mathlib.Core.Option.{Option, none}
 use native.Mathlib.Omega.{arith}
 use lib.Dec.{ltb}
@@ -12,21 +12,24 @@ use lib.ListN.{length}
 use borrow.Author.Tests.{ltb-true}
 use Rattle.model.specs.Bytes.{beAt}
 use Rattle.model.specs.Search.{concatenated, countBelow}
-use Rattle.model.specs.Geometry.{superblockAt, tableAt, dataAt, tableSectors}
+use Rattle.model.specs.Geometry.{superblockAt, journalAt, tableAt, dataAt, tableSectors}
 use Rattle.model.specs.Disk.{view}
 use Rattle.model.specs.Superblock.{geometryIn}
 use Rattle.model.specs.Table.{tableEntryStart, tableSectorOf, tableFile, tableOffset, freedIn, tableEntryBytes}
-use Rattle.model.specs.Catalogue.{Catalogue, Owner, catalogueOf, ownedFrom, holdsFrom, sectorsFrom}
+use Rattle.model.specs.Catalogue.{Catalogue, Owner, catalogueOf, ownedFrom, holdsFrom, sectorsFrom, sectorOf}
 use Rattle.model.specs.WriteList.{Group}
 use Rattle.model.specs.Delete.{freedSector, freedSectors}
 use Rattle.model.specs.Ledger.{Ledger, catalogue}
 use Rattle.laws.proofs.Disk.{length-view}
 use Rattle.safety.proofs.Searches.{anyBelow-none, countBelow-le}
-use Rattle.safety.proofs.Apply.{over, hits, All, all-miss}
+use Rattle.safety.proofs.Apply.{over, hits, over-append, over-miss, All, all-map, all-miss}
 use Rattle.safety.proofs.Journal.{Rising}
 use Rattle.safety.proofs.Plan.{Metadata, Whole, metadata-table}
-use Rattle.safety.proofs.Rep.{Rep}
-use Rattle.safety.proofs.Preserved.{ownerBy, owner-is}
+use Rattle.safety.proofs.Commit.{Ready}
+use Rattle.safety.proofs.Frame.{Shows}
+use Rattle.safety.proofs.Rep.{Rep, rep-geometry}
+use Rattle.safety.proofs.Preserved.{out-front, out-data, ownerBy, owner-is}
+use Rattle.safety.proofs.Rewritten.{all-kept}
 use Rattle.safety.proofs.FreedSectors.{pick, length-picks, all-picks, rising-picks, over-picks, length-freedIn, freed-at, free-file, free-offset}
 
 module _ (L : Ledger) (img : List ℕ) (i n : ℕ) where
@@ -81,11 +84,30 @@ module _ (L : Ledger) (img : List ℕ) (i n : ℕ) where
 
   -- ---- the table
 
-  module _ (rep : Rep L img) (out : List ℕ) (eg : geometryIn (view out superblockAt) ≡ L .geometry)
-      (shows : (t : ℕ) → t < tableSectors (L .geometry) → view out (tableAt (L .geometry) + t) ≡ over freed (tableAt (L .geometry) + t) (view img (tableAt (L .geometry) + t))) where
+  -- on an image that shows these writes behind others, which lie in front of the table
+  module _ (rep : Rep L img) (front : Group) (low : All (λ w. w .sector < tableAt (L .geometry)) front) (out : List ℕ) (ready : Ready (L .geometry) out)
+      (shows : Shows (L .geometry) (front ++ freed) img out) where
+    eg : geometryIn (view out superblockAt) ≡ L .geometry
+    eg = ready .volume .geometry
+
+    front-miss : (j : ℕ) → tableAt (L .geometry) ≤ j → hits front j ≡ false
+    front-miss j h = all-miss j front (all-map (λ w. w .sector < tableAt (L .geometry)) (λ w. j ≢ w .sector) (λ w l e. omega arith) front low)
+
+    pub before-table : (j : ℕ) → j < journalAt (L .geometry) → j ≢ 0 → view out j ≡ over front j (view img j)
+    before-table j l ne =
+        shows j (out-front (L .geometry) (rep-geometry L img rep) j l) ne ∙ over-append front freed j _ ∙ over-miss freed j _ (freed-miss j (λ a b. omega arith))
+
+    pub behind-table : (k s : ℕ) → view out (sectorOf (catalogue L) k s) ≡ view img (sectorOf (catalogue L) k s)
+    behind-table = all-kept L img out rep (λ j u v.
+        shows j (out-data (L .geometry) (rep-geometry L img rep) j u v) (λ e. omega arith) ∙ over-append front freed j _
+        ∙ over-miss freed j _ (freed-miss j (λ a b. omega arith)) ∙ over-miss front j _ (front-miss j (omega arith)))
+
     at-table : (t : ℕ) → t < T → view out (tableAt (L .geometry) + t) ≡ cond (changed t) (contents t) (view img (tableAt (L .geometry) + t))
     at-table t l =
-        shows t l ∙ ap (λ (ws : Group). over ws (tableAt (L .geometry) + t) (view img (tableAt (L .geometry) + t))) freed-is
+        shows (tableAt (L .geometry) + t) (record { journal = λ x y. omega arith; reserve = λ x y. omega arith }) (λ e. omega arith)
+        ∙ over-append front freed (tableAt (L .geometry) + t) _
+        ∙ ap (over freed (tableAt (L .geometry) + t)) (over-miss front (tableAt (L .geometry) + t) _ (front-miss (tableAt (L .geometry) + t) (omega arith)))
+        ∙ ap (λ (ws : Group). over ws (tableAt (L .geometry) + t) (view img (tableAt (L .geometry) + t))) freed-is
         ∙ over-picks (tableAt (L .geometry)) changed contents T t _ l
 
     -- a half of a table entry

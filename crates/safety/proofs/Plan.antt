@@ -15,7 +15,7 @@ use Rattle.model.specs.declared.Geometry.{Geometry}
 use Rattle.model.specs.declared.State.the-variants.{Waiting}
 use Rattle.model.specs.Bytes.{beAt}
 use Rattle.model.specs.Search.{tabulate, scan, anyBelow}
-use Rattle.model.specs.Geometry.{superblockAt, extentSectors, tableSectors, reserveExtents, journalAt, tableAt, dataAt, reserveAt, volumeSectors}
+use Rattle.model.specs.Geometry.{superblockAt, extentSectors, reserveExtents, journalAt, tableAt, dataAt, reserveAt, volumeSectors}
 use Rattle.model.specs.Disk.{Disk}
 use Rattle.model.specs.WriteList.{barrierNumber, sectorsOf, Record, sectorWrite, barrier, Plan, Group, staging, copies, journalOf, groupA}
 use Rattle.model.specs.Superblock.{journalLength, withJournalLength, stateOf, stateOn}
@@ -50,12 +50,9 @@ metadata-lt g t h = go (decLt t (dataAt g))
 
 -- ---- what commits need of a geometry and of a plan
 
--- the reserve lies in the volume and holds a copy of each of the most targets, their count is a waiting one's, and sector numbers fit
--- a record's 8 bytes
+-- the reserve lies in the volume, and sector numbers fit a record's 8 bytes
 pub record UsableGeometry (g : Geometry) : Type 0 where
   pub within : reserveExtents g ≤ g .extents
-  pub holds : tableSectors g + 2 ≤ reserveExtents g * extentSectors g
-  pub few : tableSectors g + 2 ≤ 1024
   pub small : volumeSectors g < barrierNumber
 
 abbrev pub Metadata : Geometry → Record → Type 0
@@ -67,11 +64,12 @@ UsableSector g w = (dataAt g ≤ w .sector) × (w .sector < reserveAt g)
 abbrev pub Whole : Record → Type 0
 Whole w = length (w .contents) ≡ 512
 
--- at least one target and no more than the table's sectors, entry and root; targets in rising order in root, directory and table,
--- data sectors in usable extents, none of them twice; all of 512 bytes
+-- at least one target and no more than the reserve has copies of and a waiting volume's journal entries; targets in rising order in
+-- root, directory and table, data sectors in usable extents, none of them twice; all of 512 bytes
 pub record WellFormed (g : Geometry) (p : Plan) : Type 0 where
   pub nonempty : 0 < length (p .targets)
-  pub few : length (p .targets) ≤ tableSectors g + 2
+  pub few : length (p .targets) ≤ reserveExtents g * extentSectors g
+  pub journalled : length (p .targets) ≤ 1024
   pub metadata : All (Metadata g) (p .targets)
   pub rising : Rising 0 (p .targets)
   pub usable : All (UsableSector g) (p .dataSectors)
@@ -178,10 +176,7 @@ module _ (g : Geometry) (p : Plan) (geo : UsableGeometry g) (ok : WellFormed g p
       (all-map (UsableSector g) (λ w. j ≢ w .sector) (λ w u q. h (omega (arith, u .0)) (omega (arith, u .1))) (p .dataSectors) (ok .usable))
 
   pub journal-few : journalSectors (length (p .targets)) ≤ 32
-  journal-few =
-      let h : length (p .targets) ≤ tableSectors g + 2 = ok .few in
-      let k : tableSectors g + 2 ≤ 1024 = geo .few in
-      omega arith
+  journal-few = let h : length (p .targets) ≤ 1024 = ok .journalled in omega arith
 
   pub journal-miss : (j : ℕ) → (journalAt g ≤ j → j < journalAt g + 32 → ⊥) → hits (journalWrites g p) j ≡ false
   journal-miss j h =
@@ -190,8 +185,7 @@ module _ (g : Geometry) (p : Plan) (geo : UsableGeometry g) (ok : WellFormed g p
 
   pub copies-miss : (j : ℕ) → (reserveAt g ≤ j → j < volumeSectors g → ⊥) → hits (copyWrites g p) j ≡ false
   copies-miss j h =
-      let few : length (p .targets) ≤ tableSectors g + 2 = ok .few in
-      let holds : tableSectors g + 2 ≤ reserveExtents g * extentSectors g = geo .holds in
+      let few : length (p .targets) ≤ reserveExtents g * extentSectors g = ok .few in
       let e : volumeSectors g ≡ reserveAt g + reserveExtents g * extentSectors g = volume-is g geo in
       tabulate-miss (reserveAt g) (copyContents g p) (length (p .targets)) j (λ a b. h a (omega arith))
 
@@ -242,8 +236,7 @@ module _ (g : Geometry) (p : Plan) (geo : UsableGeometry g) (ok : WellFormed g p
 
       reserve-lt : (k : ℕ) → k < length (p .targets) → reserveAt g + k < volumeSectors g
       reserve-lt k h =
-          let few : length (p .targets) ≤ tableSectors g + 2 = ok .few in
-          let holds : tableSectors g + 2 ≤ reserveExtents g * extentSectors g = geo .holds in
+          let few : length (p .targets) ≤ reserveExtents g * extentSectors g = ok .few in
           omega (arith, volume-is g geo)
 
       source-is : (k : ℕ) → k < length (p .targets) → sourceAt g d k ≡ reserveAt g + k
@@ -307,8 +300,7 @@ module _ (g : Geometry) (p : Plan) (geo : UsableGeometry g) (ok : WellFormed g p
       pub recovers-pending : (len : ℕ) → Volume g len (d0 superblockAt) → length (d0 superblockAt) ≡ 512 → Recovers len d (p .targets ∷ (clear g d0 p ∷ []) ∷ [])
       recovers-pending len v sec =
           let n = length (p .targets) in
-          let few : n ≤ tableSectors g + 2 = ok .few in
-          let most : tableSectors g + 2 ≤ 1024 = geo .few in
+          let few : n ≤ 1024 = ok .journalled in
           let len-is : journalLength (d superblockAt) ≡ n = ap journalLength pending-zero ∙ journalLength-with n (d0 superblockAt) sec (omega arith) in
           let st : stateOn d ≡ Waiting n = ap stateOf len-is ∙ state-waiting n (ok .nonempty) (omega arith) in
           let vol : Volume g len (d superblockAt) = rw pending-zero (volume-with g n len (d0 superblockAt) v) in

@@ -4,7 +4,7 @@ use Prim.Native.Nat.{ℕ, suc, _+_, _*_, _/_, _%_, _^_, _≤_, _<_, min}
 use mathlib.Core.Path.{_≡_, refl, sym, ap, ap₂, _∙_, subst, fun-ext}
 use mathlib.Core.Logic.{_≢_}
 use mathlib.Core.Bool.{Bool, true, false, cond, not, _&&_}
-use mathlib.Core.List.{List, _∷_}
+use mathlib.Core.List.{List, [], _∷_}
 use mathlib.Core.Option.{Option, none, some, Option·some-injective}
 use native.Mathlib.Omega.{arith}
 use native.Mathlib.Nat.{zero-add}
@@ -14,7 +14,7 @@ use borrow.Author.Tests.{lt-leb, eqb-true}
 use Rattle.model.specs.declared.Geometry.{Geometry}
 use Rattle.model.specs.Bytes.{bytesFrom}
 use Rattle.model.specs.Search.{tabulate, first, countBelow, indexOf}
-use Rattle.model.specs.Geometry.{extentSectors, extentBytes, usable, rootAt, entryAt, tableAt, dataAt, tableSectors, extentsFor}
+use Rattle.model.specs.Geometry.{extentSectors, extentBytes, usable, rootAt, entryAt, journalAt, tableAt, dataAt, tableSectors, extentsFor}
 use Rattle.model.specs.Disk.{Disk, view}
 use Rattle.model.specs.Root.{rootIn}
 use Rattle.model.specs.Entry.{updatedEntrySector}
@@ -26,20 +26,21 @@ use Rattle.model.specs.Ledger.{Ledger, File, fileOr, catalogue, withFile, shrun
 use Rattle.laws.proofs.Disk.{length-view}
 use Rattle.laws.proofs.Booleans.{and-left, and-yes}
 use Rattle.laws.proofs.Search.{allBelow-yes, allBelow-at, tabulate-ext, countBelow-ext}
-use Rattle.safety.proofs.Apply.{over, over-here, over-skip, over-none, over-miss}
+use Rattle.safety.proofs.Apply.{over, over-here, over-skip, over-none, All}
 use Rattle.safety.proofs.Plan.{UsableGeometry, WellFormed, A, metadata-directory}
 use Rattle.safety.proofs.Commit.{Ready, partOf, uncut, ready-uncut}
-use Rattle.safety.proofs.Frame.{Outside, done-at, length-groups}
+use Rattle.safety.proofs.Frame.{Shows, done-shows, length-groups}
+use Rattle.safety.proofs.Bounds.{copies-fit, count-waits}
 use Rattle.safety.proofs.Rep.{Rep, rep-geometry, cat-is, catalogue-geometry}
-use Rattle.safety.proofs.Preserved.{out-front, out-data, bytes-keep-at, part-keeps}
+use Rattle.safety.proofs.Preserved.{bytes-keep-at, part-keeps}
 use Rattle.safety.proofs.Fields.{length-updatedEntrySector}
 use Rattle.safety.proofs.Replaced.{among-and, replaced, Admissible}
-use Rattle.safety.proofs.Rewritten.{Rewrites, all-kept, rep-replaced}
+use Rattle.safety.proofs.Rewritten.{Rewrites, rep-replaced}
 use Rattle.safety.proofs.Extents.{exactly, extents-mono, sector-held}
 use Rattle.safety.proofs.KeptFile.{entry-of, size-small, usable-owned, entry-updated, mark-updated, admissible-kept}
 use Rattle.safety.proofs.Read.{bytes-from}
 use Rattle.safety.proofs.FreedFile.{table-freed, disjoint-freed, others-freed}
-use Rattle.safety.proofs.FreedTable.{freed, length-freed, freed-few, freed-metadata, freed-whole, freed-rising, freed-miss, table-after}
+use Rattle.safety.proofs.FreedTable.{freed, length-freed, freed-few, freed-metadata, freed-whole, freed-rising, before-table, behind-table, table-after}
 
 -- ---- extents of offset n or more freed
 
@@ -127,7 +128,8 @@ module _ (L : Ledger) (img : List ℕ) (i z time : ℕ) where
         let m : length table-writes ≤ tableSectors (L .geometry) = freed-few L img i n in
         record {
           nonempty = omega arith;
-          few = omega arith;
+          few = copies-fit (L .geometry) (rep .bounded) _ (omega arith);
+          journalled = count-waits (L .geometry) (rep .bounded) _ (omega arith);
           metadata = (metadata-directory (L .geometry) (entryAt i) (omega arith) (omega arith), freed-metadata L img i n);
           rising = (omega arith, freed-rising L img i n (suc (entryAt i)) (omega arith));
           usable = tt;
@@ -135,37 +137,6 @@ module _ (L : Ledger) (img : List ℕ) (i z time : ℕ) where
           wholeData = tt;
           wholeTargets = (length-updatedEntrySector z time (view img (entryAt i)) ∙ length-view img (entryAt i), freed-whole L img i n);
         }
-
-    -- ---- the sectors of the new image
-
-    abbrev out : List ℕ
-    out = uncut (L .geometry) img p
-
-    shows : (j : ℕ) → Outside (L .geometry) j → j ≢ 0 → view out j ≡ over (w1 ∷ table-writes) j (view img j)
-    unfolding shrinkPlan catalogue
-    shows j o ne =
-        done-at (L .geometry) p geo shrink-fits img (rep .ready) j o ne ∙ ap (over (w1 ∷ table-writes) j) (over-none j (view img j))
-
-    at-entry : view out (entryAt i) ≡ updatedEntrySector z time (view img (entryAt i))
-    at-entry =
-        shows (entryAt i) (out-front (L .geometry) geo (entryAt i) (omega arith)) (λ e. omega arith)
-        ∙ over-here w1 table-writes _ ∙ over-miss table-writes (entryAt i) _ (freed-miss L img i n (entryAt i) (λ a b. omega arith))
-
-    at-other : (j : ℕ) → Outside (L .geometry) j → j ≢ 0 → j ≢ entryAt i → (tableAt (L .geometry) ≤ j → j < dataAt (L .geometry) → ⊥) → view out j ≡ view img j
-    at-other j o n0 ni nt = shows j o n0 ∙ over-skip w1 table-writes j _ ni ∙ over-miss table-writes j _ (freed-miss L img i n j nt)
-
-    at-table : (t : ℕ) → t < tableSectors (L .geometry) → view out (tableAt (L .geometry) + t) ≡ over table-writes (tableAt (L .geometry) + t) (view img (tableAt (L .geometry) + t))
-    at-table t l =
-        shows (tableAt (L .geometry) + t) (record { journal = λ x y. omega arith; reserve = λ x y. omega arith }) (λ e. omega arith)
-        ∙ over-skip w1 table-writes (tableAt (L .geometry) + t) _ (λ e. omega arith)
-
-    at-data : (k s : ℕ) → view out (sectorOf (catalogue L) k s) ≡ view img (sectorOf (catalogue L) k s)
-    at-data = all-kept L img out rep (λ j u v. at-other j (out-data (L .geometry) geo j u v) (λ y. omega arith) (λ y. omega arith) (λ x y. omega arith))
-
-    -- ---- what it says
-
-    ready : Ready (L .geometry) out
-    ready = ready-uncut (L .geometry) img p geo shrink-fits (rep .ready)
 
     size-most : z ≤ usable (L .geometry) * extentBytes (L .geometry)
     size-most = let s : old .entry .size ≤ usable (L .geometry) * extentBytes (L .geometry) = size-small L img rep i old there in omega arith
@@ -206,50 +177,73 @@ module _ (L : Ledger) (img : List ℕ) (i z time : ℕ) where
     admissible =
         admissible-kept L img rep i old there (shrunk L i z time) refl refl size-most (others-freed L (L .root) i n (some new) firsts (rep .disjoint)) owned-new exact-new
 
-    -- ---- the bytes
+    -- ---- the sectors of the new image
 
-    bytes-new : fileBytes (catalogueOf (view out)) (view out) i 0 z ≡ bytesFrom (old .bytes) 0 z
-    unfolding catalogueOf catalogue
-    bytes-new =
-        bytes-of-read c (catalogueOf (view out)) (view out) i z (ready .volume .geometry ∙ sym (catalogue-geometry L))
-        (λ k e l. ap (isPart i _) (table-after L img i n rep out (ready .volume .geometry) at-table e)
-        ∙ part-freed i n _ (c .table e) (sector-held (L .geometry) (rep .bounded) z (k / 512) (omega arith)))
-        ∙ bytes-keep-at c (view img) (view out) i 0 z (λ k l. at-data i _)
-        ∙ sym (bytes-from c (view img) i (old .entry .size) 0 z (omega arith))
-        ∙ ap (λ (x : Catalogue). bytesFrom (fileBytes x (view img) i 0 (old .entry .size)) 0 z) (sym (cat-is L img rep))
-        ∙ ap (λ (b : List ℕ). bytesFrom b 0 z) (rep .says .bytes i old there)
+    low : All (λ w. w .sector < tableAt (L .geometry)) (w1 ∷ [])
+    low = (omega arith, tt)
 
-    bytes-are : (x : File) → some (shrunk L i z time) ≡ some x → fileBytes (catalogueOf (view out)) (view out) i 0 (x .entry .size) ≡ x .bytes
-    unfolding shrunk updatedEntry
-    bytes-are x e = subst (λ (y : File). fileBytes (catalogueOf (view out)) (view out) i 0 (y .entry .size) ≡ y .bytes) (Option·some-injective _ _ e) bytes-new
+    module _ (out : List ℕ) (ready : Ready (L .geometry) out) (shows : Shows (L .geometry) (w1 ∷ table-writes) img out) where
+      at : (j : ℕ) → j < journalAt (L .geometry) → j ≢ 0 → view out j ≡ over (w1 ∷ []) j (view img j)
+      at = before-table L img i n rep (w1 ∷ []) low out ready shows
 
-    sized-new : (x : File) → some (shrunk L i z time) ≡ some x → length (x .extents) ≡ extentsFor (L .geometry) (x .entry .size)
-    unfolding shrunk updatedEntry
-    sized-new x e =
-        subst (λ (y : File). length (y .extents) ≡ extentsFor (L .geometry) (y .entry .size)) (Option·some-injective _ _ e)
-        (length-take n (old .extents) ∙ (let h : min n (length (old .extents)) ≡ n = omega (arith, rep .sized i old there, fewer) in h))
+      at-entry : view out (entryAt i) ≡ updatedEntrySector z time (view img (entryAt i))
+      at-entry = at (entryAt i) (omega arith) (λ e. omega arith) ∙ over-here w1 [] _ ∙ over-none (entryAt i) _
 
-    -- ---- the ledger in which slot i shrank
+      at-front : (j : ℕ) → j < journalAt (L .geometry) → j ≢ 0 → j ≢ entryAt i → view out j ≡ view img j
+      at-front j l n0 ni = at j l n0 ∙ over-skip w1 [] j _ ni ∙ over-none j _
 
-    rewrites : Rewrites L img (L .root) i (some (shrunk L i z time)) out
-    unfolding shrunk
-    rewrites = record {
-      ready = ready;
-      new-root = ap rootIn (at-other rootAt (out-front (L .geometry) geo 1 (omega arith)) (λ e. omega arith) (λ e. omega arith) (λ x y. omega arith)) ∙ rep .says .root;
-      mark = mark-updated L img rep i old there z time out (ready .volume .geometry) at-entry;
-      entry = entry-updated L img rep i old there z time out (ready .volume .geometry) at-entry size-most ht;
-      entries = λ k q ne.
-          at-other (entryAt k) (out-front (L .geometry) geo (entryAt k) (omega arith)) (λ y. omega arith) (λ y. ne (omega arith)) (λ x y. omega arith);
-      table = λ e. table-after L img i n rep out (ready .volume .geometry) at-table e ∙ sym (table-new e);
-      bytes = bytes-are;
-      kept = λ k x ne e b q. at-data k _;
-      admissible = admissible;
-      disjoint = disjoint-freed L (L .root) i n (some new) firsts (rep .disjoint);
-      sized = sized-new;
-    }
+      at-data : (k s : ℕ) → view out (sectorOf (catalogue L) k s) ≡ view img (sectorOf (catalogue L) k s)
+      at-data = behind-table L img i n rep (w1 ∷ []) low out ready shows
+
+      table-is : (e : ℕ) → catalogueOf (view out) .table e ≡ cond (ownedFrom i n (c .table e)) none (c .table e)
+      table-is = table-after L img i n rep (w1 ∷ []) low out ready shows
+
+      -- ---- the bytes
+
+      bytes-new : fileBytes (catalogueOf (view out)) (view out) i 0 z ≡ bytesFrom (old .bytes) 0 z
+      unfolding catalogueOf catalogue
+      bytes-new =
+          bytes-of-read c (catalogueOf (view out)) (view out) i z (ready .volume .geometry ∙ sym (catalogue-geometry L))
+          (λ k e l. ap (isPart i _) (table-is e)
+          ∙ part-freed i n _ (c .table e) (sector-held (L .geometry) (rep .bounded) z (k / 512) (omega arith)))
+          ∙ bytes-keep-at c (view img) (view out) i 0 z (λ k l. at-data i _)
+          ∙ sym (bytes-from c (view img) i (old .entry .size) 0 z (omega arith))
+          ∙ ap (λ (x : Catalogue). bytesFrom (fileBytes x (view img) i 0 (old .entry .size)) 0 z) (sym (cat-is L img rep))
+          ∙ ap (λ (b : List ℕ). bytesFrom b 0 z) (rep .says .bytes i old there)
+
+      bytes-are : (x : File) → some (shrunk L i z time) ≡ some x → fileBytes (catalogueOf (view out)) (view out) i 0 (x .entry .size) ≡ x .bytes
+      unfolding shrunk updatedEntry
+      bytes-are x e = subst (λ (y : File). fileBytes (catalogueOf (view out)) (view out) i 0 (y .entry .size) ≡ y .bytes) (Option·some-injective _ _ e) bytes-new
+
+      sized-new : (x : File) → some (shrunk L i z time) ≡ some x → length (x .extents) ≡ extentsFor (L .geometry) (x .entry .size)
+      unfolding shrunk updatedEntry
+      sized-new x e =
+          subst (λ (y : File). length (y .extents) ≡ extentsFor (L .geometry) (y .entry .size)) (Option·some-injective _ _ e)
+          (length-take n (old .extents) ∙ (let h : min n (length (old .extents)) ≡ n = omega (arith, rep .sized i old there, fewer) in h))
+
+      -- ---- the ledger in which slot i shrank
+
+      rewrites : Rewrites L img (L .root) i (some (shrunk L i z time)) out
+      unfolding shrunk
+      rewrites = record {
+        ready = ready;
+        new-root = ap rootIn (at-front rootAt (omega arith) (λ e. omega arith) (λ e. omega arith)) ∙ rep .says .root;
+        mark = mark-updated L img rep i old there z time out (ready .volume .geometry) at-entry;
+        entry = entry-updated L img rep i old there z time out (ready .volume .geometry) at-entry size-most ht;
+        entries = λ k q ne. at-front (entryAt k) (omega arith) (λ y. omega arith) (λ y. ne (omega arith));
+        table = λ e. table-is e ∙ sym (table-new e);
+        bytes = bytes-are;
+        kept = λ k x ne e b q. at-data k _;
+        admissible = admissible;
+        disjoint = disjoint-freed L (L .root) i n (some new) firsts (rep .disjoint);
+        sized = sized-new;
+      }
 
     pub shrink-done : Rep (withFile L i (shrunk L i z time)) (uncut (L .geometry) img p)
-    shrink-done = rep-replaced L img rep (L .root) i (some (shrunk L i z time)) out rewrites
+    unfolding shrinkPlan catalogue
+    shrink-done =
+        rep-replaced L img rep (L .root) i (some (shrunk L i z time)) (uncut (L .geometry) img p)
+        (rewrites _ (ready-uncut (L .geometry) img p geo shrink-fits (rep .ready)) (done-shows (L .geometry) p geo shrink-fits img (rep .ready)))
 
     -- a cut before the start mark
     pub shrink-partly : (k : ℕ) (m : List Bool) → Rep L (stored (partOf k m (A (L .geometry) p)) img)

@@ -4,7 +4,7 @@ use Prim.Native.Nat.{ℕ, suc, _+_, _-_, _/_, _%_, _^_, _≤_, _<_}
 use mathlib.Core.Path.{_≡_, refl, sym, ap, ap₂, _∙_, subst}
 use mathlib.Core.Logic.{_≢_}
 use mathlib.Core.Bool.{Bool, true, false, cond, _&&_, true≢false}
-use mathlib.Core.List.{List, [], _∷_}
+use mathlib.Core.List.{List, [], _∷_, _++_}
 use mathlib.Core.Option.{some, Option·some-injective}
 use native.Mathlib.Omega.{arith}
 use native.Mathlib.Decide.{decLt}
@@ -14,7 +14,7 @@ use lib.ListN.{length, getD}
 use lib.Seq.{ext-getD}
 use borrow.Author.Tests.{eqb-true, eqb-false, eq-eqb, ne-eqb}
 use Rattle.model.specs.Bytes.{bytesFrom}
-use Rattle.model.specs.Geometry.{extentSectors, usable, entryAt, journalAt, dataAt, reserveAt, tableSectors, extentsFor}
+use Rattle.model.specs.Geometry.{extentSectors, usable, entryAt, journalAt, dataAt, reserveAt, tableSectors, mostTargets, extentsFor}
 use Rattle.model.specs.Disk.{view}
 use Rattle.model.specs.Root.{rootIn}
 use Rattle.model.specs.Entry.{updatedEntrySector}
@@ -27,11 +27,12 @@ use Rattle.laws.proofs.Booleans.{range-yes}
 use Rattle.laws.proofs.Bytes.{length-put, length-bytesFrom, getD-put, getD-bytesFrom}
 use Rattle.laws.proofs.Search.{length-tabulate, getD-tab0}
 use Rattle.laws.proofs.Disk.{length-view}
-use Rattle.safety.proofs.Apply.{over, over-here, over-skip, over-miss, All}
+use Rattle.safety.proofs.Apply.{over, over-append, over-here, over-skip, over-miss, All}
 use Rattle.safety.proofs.Journal.{Rising}
 use Rattle.safety.proofs.Plan.{UsableGeometry, WellFormed, Metadata, Whole, metadata-directory, metadata-table}
 use Rattle.safety.proofs.Commit.{Ready, uncut, ready-uncut}
-use Rattle.safety.proofs.Frame.{Outside, done-at}
+use Rattle.safety.proofs.Frame.{Outside, Shows, done-shows}
+use Rattle.safety.proofs.Bounds.{copies-fit, count-waits}
 use Rattle.safety.proofs.Rep.{Rep, rep-geometry}
 use Rattle.safety.proofs.Preserved.{out-front, out-table, out-data, sector-data}
 use Rattle.safety.proofs.Fields.{length-updatedEntrySector}
@@ -84,7 +85,8 @@ module _ (L : Ledger) (img : List ℕ) (rep : Rep L img) (i : ℕ) (f : File) (o
       let l : i < L .geometry .files = here in
       record {
         nonempty = omega arith;
-        few = few b;
+        few = copies-fit (L .geometry) (rep .bounded) _ (few b);
+        journalled = count-waits (L .geometry) (rep .bounded) _ (few b);
         metadata = (metadata-directory (L .geometry) (entryAt i) (omega arith) (omega arith), metadata b refl);
         rising = (omega arith, rising b);
         usable = writes-usable L img rep i f offset bytes w;
@@ -93,7 +95,7 @@ module _ (L : Ledger) (img : List ℕ) (rep : Rep L img) (i : ℕ) (f : File) (o
         wholeTargets = (length-updatedEntrySector z time (view img (entryAt i)) ∙ length-view img (entryAt i), whole b);
       }
     where
-      few : (t : Bool) → length (w1 ∷ cond t (w2 ∷ []) []) ≤ tableSectors (L .geometry) + 2
+      few : (t : Bool) → length (w1 ∷ cond t (w2 ∷ []) []) ≤ mostTargets (L .geometry)
       few true = omega arith
       few false = omega arith
 
@@ -111,152 +113,151 @@ module _ (L : Ledger) (img : List ℕ) (rep : Rep L img) (i : ℕ) (f : File) (o
 
   -- ---- the sectors of the new image
 
-  abbrev out : List ℕ
-  out = uncut (L .geometry) img plan
+  module _ (out : List ℕ) (ready : Ready (L .geometry) out) (shows : Shows (L .geometry) (ds ++ (w1 ∷ cond b (w2 ∷ []) [])) img out) where
+    shown : (j : ℕ) → Outside (L .geometry) j → j ≢ 0 → view out j ≡ over (w1 ∷ cond b (w2 ∷ []) []) j (over ds j (view img j))
+    shown j o ne = shows j o ne ∙ over-append ds (w1 ∷ cond b (w2 ∷ []) []) j (view img j)
 
-  shows : (j : ℕ) → Outside (L .geometry) j → j ≢ 0 → view out j ≡ over (w1 ∷ cond b (w2 ∷ []) []) j (over ds j (view img j))
-  unfolding writePlan catalogue
-  shows j o ne = done-at (L .geometry) plan geo fits img (rep .ready) j o ne
+    -- the table sector's record, if there is one
+    over-table : (t : Bool) (j : ℕ) (v : List ℕ) → over (cond t (w2 ∷ []) []) j v ≡ cond (t && eqb j (tableSectorOf (L .geometry) x)) (w2 .contents) v
+    unfolding over
+    over-table true j v = refl
+    over-table false j v = refl
 
-  -- the table sector's record, if there is one
-  over-table : (t : Bool) (j : ℕ) (v : List ℕ) → over (cond t (w2 ∷ []) []) j v ≡ cond (t && eqb j (tableSectorOf (L .geometry) x)) (w2 .contents) v
-  unfolding over
-  over-table true j v = refl
-  over-table false j v = refl
+    table-skip : (j : ℕ) (v : List ℕ) → (b ≡ true → j ≢ tableSectorOf (L .geometry) x) → over (cond b (w2 ∷ []) []) j v ≡ v
+    table-skip j v h = over-table b j v ∙ go b refl
+      where
+        go : (t : Bool) → b ≡ t → cond (t && eqb j (tableSectorOf (L .geometry) x)) (w2 .contents) v ≡ v
+        go true e = ap (λ (q : Bool). cond q (w2 .contents) v) (ne-eqb j (tableSectorOf (L .geometry) x) (h e))
+        go false e = refl
 
-  table-skip : (j : ℕ) (v : List ℕ) → (b ≡ true → j ≢ tableSectorOf (L .geometry) x) → over (cond b (w2 ∷ []) []) j v ≡ v
-  table-skip j v h = over-table b j v ∙ go b refl
-    where
-      go : (t : Bool) → b ≡ t → cond (t && eqb j (tableSectorOf (L .geometry) x)) (w2 .contents) v ≡ v
-      go true e = ap (λ (q : Bool). cond q (w2 .contents) v) (ne-eqb j (tableSectorOf (L .geometry) x) (h e))
-      go false e = refl
+    at-low : (j : ℕ) → Outside (L .geometry) j → j ≢ 0 → j < dataAt (L .geometry) → view out j ≡ over (w1 ∷ cond b (w2 ∷ []) []) j (view img j)
+    at-low j o ne l = shown j o ne ∙ ap (over (w1 ∷ cond b (w2 ∷ []) []) j) (over-miss ds j (view img j) (low-miss L img rep i f offset bytes w j l))
 
-  at-low : (j : ℕ) → Outside (L .geometry) j → j ≢ 0 → j < dataAt (L .geometry) → view out j ≡ over (w1 ∷ cond b (w2 ∷ []) []) j (view img j)
-  at-low j o ne l = shows j o ne ∙ ap (over (w1 ∷ cond b (w2 ∷ []) []) j) (over-miss ds j (view img j) (low-miss L img rep i f offset bytes w j l))
+    at-entry : view out (entryAt i) ≡ updatedEntrySector z time (view img (entryAt i))
+    at-entry =
+        let l : i < L .geometry .files = here in
+        at-low (entryAt i) (out-front (L .geometry) geo (entryAt i) (omega arith)) (λ e. omega arith) (omega arith)
+        ∙ over-here w1 (cond b (w2 ∷ []) []) _ ∙ table-skip (entryAt i) _ (λ t e. omega arith)
 
-  at-entry : view out (entryAt i) ≡ updatedEntrySector z time (view img (entryAt i))
-  at-entry =
-      let l : i < L .geometry .files = here in
-      at-low (entryAt i) (out-front (L .geometry) geo (entryAt i) (omega arith)) (λ e. omega arith) (omega arith)
-      ∙ over-here w1 (cond b (w2 ∷ []) []) _ ∙ table-skip (entryAt i) _ (λ t e. omega arith)
+    at-front : (j : ℕ) → j < journalAt (L .geometry) → j ≢ 0 → j ≢ entryAt i → view out j ≡ view img j
+    at-front j l n0 ni =
+        at-low j (out-front (L .geometry) geo j l) n0 (omega arith) ∙ over-skip w1 (cond b (w2 ∷ []) []) j _ ni ∙ table-skip j _ (λ t e. omega arith)
 
-  at-front : (j : ℕ) → j < journalAt (L .geometry) → j ≢ 0 → j ≢ entryAt i → view out j ≡ view img j
-  at-front j l n0 ni =
-      at-low j (out-front (L .geometry) geo j l) n0 (omega arith) ∙ over-skip w1 (cond b (w2 ∷ []) []) j _ ni ∙ table-skip j _ (λ t e. omega arith)
+    at-data : (j : ℕ) → dataAt (L .geometry) ≤ j → j < reserveAt (L .geometry) → view out j ≡ over ds j (view img j)
+    at-data j u v =
+        let l : i < L .geometry .files = here in
+        shown j (out-data (L .geometry) geo j u v) (λ e. omega arith) ∙ over-skip w1 (cond b (w2 ∷ []) []) j _ (λ e. omega arith)
+        ∙ table-skip j _ (λ t e. let q : x / 128 < tableSectors (L .geometry) = tabled t in omega arith)
 
-  at-data : (j : ℕ) → dataAt (L .geometry) ≤ j → j < reserveAt (L .geometry) → view out j ≡ over ds j (view img j)
-  at-data j u v =
-      let l : i < L .geometry .files = here in
-      shows j (out-data (L .geometry) geo j u v) (λ e. omega arith) ∙ over-skip w1 (cond b (w2 ∷ []) []) j _ (λ e. omega arith)
-      ∙ table-skip j _ (λ t e. let q : x / 128 < tableSectors (L .geometry) = tabled t in omega arith)
+    at-table : (e : ℕ) → e < L .geometry .extents
+        → view out (tableSectorOf (L .geometry) e)
+        ≡ cond (b && eqb (e / 128) (x / 128)) (takenIn x i (length (f .extents)) (view img (tableSectorOf (L .geometry) x))) (view img (tableSectorOf (L .geometry) e))
+    at-table e l =
+        let m : i < L .geometry .files = here in
+        at-low (tableSectorOf (L .geometry) e) (out-table (L .geometry) geo e l) (λ q. omega arith) (omega arith)
+        ∙ over-skip w1 (cond b (w2 ∷ []) []) (tableSectorOf (L .geometry) e) _ (λ q. omega arith) ∙ over-table b (tableSectorOf (L .geometry) e) _
+        ∙ ap₂ (λ (q : Bool) (m : ℕ). cond (b && q) (takenIn x i m (view img (tableSectorOf (L .geometry) x))) (view img (tableSectorOf (L .geometry) e))) same (held-is L img rep i f offset bytes w)
+      where
+        same : eqb (tableSectorOf (L .geometry) e) (tableSectorOf (L .geometry) x) ≡ eqb (e / 128) (x / 128)
+        same = go (eqb (e / 128) (x / 128)) refl
+          where
+            go : (t : Bool) → eqb (e / 128) (x / 128) ≡ t → eqb (tableSectorOf (L .geometry) e) (tableSectorOf (L .geometry) x) ≡ eqb (e / 128) (x / 128)
+            go true q = eq-eqb (tableSectorOf (L .geometry) e) (tableSectorOf (L .geometry) x) (let u : e / 128 ≡ x / 128 = eqb-true (e / 128) (x / 128) q in omega arith) ∙ sym q
+            go false q = ne-eqb (tableSectorOf (L .geometry) e) (tableSectorOf (L .geometry) x) (λ r. eqb-false (e / 128) (x / 128) q (omega arith)) ∙ sym q
 
-  at-table : (e : ℕ) → e < L .geometry .extents
-      → view out (tableSectorOf (L .geometry) e) ≡ cond (b && eqb (e / 128) (x / 128)) (takenIn x i (length (f .extents)) (view img (tableSectorOf (L .geometry) x))) (view img (tableSectorOf (L .geometry) e))
-  at-table e l =
-      let m : i < L .geometry .files = here in
-      at-low (tableSectorOf (L .geometry) e) (out-table (L .geometry) geo e l) (λ q. omega arith) (omega arith)
-      ∙ over-skip w1 (cond b (w2 ∷ []) []) (tableSectorOf (L .geometry) e) _ (λ q. omega arith) ∙ over-table b (tableSectorOf (L .geometry) e) _
-      ∙ ap₂ (λ (q : Bool) (m : ℕ). cond (b && q) (takenIn x i m (view img (tableSectorOf (L .geometry) x))) (view img (tableSectorOf (L .geometry) e))) same (held-is L img rep i f offset bytes w)
-    where
-      same : eqb (tableSectorOf (L .geometry) e) (tableSectorOf (L .geometry) x) ≡ eqb (e / 128) (x / 128)
-      same = go (eqb (e / 128) (x / 128)) refl
-        where
-          go : (t : Bool) → eqb (e / 128) (x / 128) ≡ t → eqb (tableSectorOf (L .geometry) e) (tableSectorOf (L .geometry) x) ≡ eqb (e / 128) (x / 128)
-          go true q = eq-eqb (tableSectorOf (L .geometry) e) (tableSectorOf (L .geometry) x) (let u : e / 128 ≡ x / 128 = eqb-true (e / 128) (x / 128) q in omega arith) ∙ sym q
-          go false q = ne-eqb (tableSectorOf (L .geometry) e) (tableSectorOf (L .geometry) x) (λ r. eqb-false (e / 128) (x / 128) q (omega arith)) ∙ sym q
+    -- ---- what it says
 
-  -- ---- what it says
+    abbrev y : File
+    y = writtenFile L i f offset bytes time
 
-  abbrev y : File
-  y = writtenFile L i f offset bytes time
+    few-extents : length (f .extents) < 65536
+    few-extents =
+        let h : length (f .extents) ≤ usable (L .geometry) = subst (λ (m : ℕ). m ≤ usable (L .geometry)) (sym (rep .sized i f (w .has)))
+        (extents-le (L .geometry) (rep .bounded) (f .entry .size) (usable (L .geometry)) (size-small L img rep i f (w .has))) in
+        omega (arith, rep .bounded .extents-high)
 
-  ready : Ready (L .geometry) out
-  ready = ready-uncut (L .geometry) img plan geo fits (rep .ready)
+    table-new : (e : ℕ) → catalogueOf (view out) .table e ≡ catalogue (replaced L (L .root) i (some y)) .table e
+    table-new e =
+        let l : i < L .geometry .files = here in
+        table-changed L img out rep (ready .volume .geometry) b x i (length (f .extents)) (λ t. let q : x < usable (L .geometry) = taken L img rep i f offset bytes w t .0 in omega arith)
+        (omega (arith, rep .bounded .files-high)) few-extents at-table e
+        ∙ sym (table-written L img rep i f offset bytes w time e)
 
-  few-extents : length (f .extents) < 65536
-  few-extents =
-      let h : length (f .extents) ≤ usable (L .geometry) = subst (λ (m : ℕ). m ≤ usable (L .geometry)) (sym (rep .sized i f (w .has)))
-      (extents-le (L .geometry) (rep .bounded) (f .entry .size) (usable (L .geometry)) (size-small L img rep i f (w .has))) in
-      omega (arith, rep .bounded .extents-high)
+    -- ---- the bytes
 
-  table-new : (e : ℕ) → catalogueOf (view out) .table e ≡ catalogue (replaced L (L .root) i (some y)) .table e
-  table-new e =
-      let l : i < L .geometry .files = here in
-      table-changed L img out rep (ready .volume .geometry) b x i (length (f .extents)) (λ t. let q : x < usable (L .geometry) = taken L img rep i f offset bytes w t .0 in omega arith)
-      (omega (arith, rep .bounded .files-high)) few-extents at-table e
-      ∙ sym (table-written L img rep i f offset bytes w time e)
+    all-landed : (t : Bool) → (t && true) ≡ t
+    all-landed true = refl
+    all-landed false = refl
 
-  -- ---- the bytes
+    abbrev inside : ℕ → Bool
+    inside q = leb offset q && ltb q (offset + length bytes)
 
-  all-landed : (t : Bool) → (t && true) ≡ t
-  all-landed true = refl
-  all-landed false = refl
+    -- what the span misses is a byte of the old file
+    old-part : (q : ℕ) → q < z → (inside q && true) ≡ false → q < f .entry .size
+    old-part q l e = go (decLt q (f .entry .size))
+      where
+        go : Dec (q < f .entry .size) → q < f .entry .size
+        go (yes h) = h
+        go (no h) =
+            let s : entryOf (catalogue L) i .size ≡ f .entry .size = size-is L img rep i f offset bytes w in
+            let o : offset ≤ f .entry .size = w .start in
+            absurd (true≢false (sym (range-yes offset (offset + length bytes) q (omega arith) (omega arith)) ∙ sym (all-landed (inside q)) ∙ e))
 
-  abbrev inside : ℕ → Bool
-  inside q = leb offset q && ltb q (offset + length bytes)
+    new-byte : (q : ℕ) → q < z → getD (y .bytes) q 0 ≡ cond (inside q && true) (getD bytes (q - offset) 0) (getD (f .bytes) q 0)
+    new-byte q l =
+        getD-put (bytesFrom (f .bytes) 0 z) offset bytes q (rw (length-bytesFrom (f .bytes) 0 z) l)
+        ∙ ap₂ (λ (t : Bool) (v : ℕ). cond t (getD bytes (q - offset) 0) v) (sym (all-landed (inside q))) (getD-bytesFrom (f .bytes) 0 z q l ∙ ap (λ k. getD (f .bytes) k 0) (zero-add q))
 
-  -- what the span misses is a byte of the old file
-  old-part : (q : ℕ) → q < z → (inside q && true) ≡ false → q < f .entry .size
-  old-part q l e = go (decLt q (f .entry .size))
-    where
-      go : Dec (q < f .entry .size) → q < f .entry .size
-      go (yes h) = h
-      go (no h) =
-          let s : entryOf (catalogue L) i .size ≡ f .entry .size = size-is L img rep i f offset bytes w in
-          let o : offset ≤ f .entry .size = w .start in
-          absurd (true≢false (sym (range-yes offset (offset + length bytes) q (omega arith) (omega arith)) ∙ sym (all-landed (inside q)) ∙ e))
+    abbrev M : Ledger
+    M = replaced L (L .root) i (some (writtenFile L i f offset bytes time))
 
-  new-byte : (q : ℕ) → q < z → getD (y .bytes) q 0 ≡ cond (inside q && true) (getD bytes (q - offset) 0) (getD (f .bytes) q 0)
-  new-byte q l =
-      getD-put (bytesFrom (f .bytes) 0 z) offset bytes q (rw (length-bytesFrom (f .bytes) 0 z) l)
-      ∙ ap₂ (λ (t : Bool) (v : ℕ). cond t (getD bytes (q - offset) 0) v) (sym (all-landed (inside q))) (getD-bytesFrom (f .bytes) 0 z q l ∙ ap (λ k. getD (f .bytes) k 0) (zero-add q))
+    byte-new : (q : ℕ) → q < z → fileByte (catalogue M) (view out) i q ≡ getD (y .bytes) q 0
+    unfolding fileByte
+    byte-new q l =
+        let h : q / 512 / extentSectors (L .geometry) < extentsFor (L .geometry) z = sector-held (L .geometry) (rep .bounded) z (q / 512) (omega arith) in
+        let u = place-usable L img rep i f offset bytes w (q / 512) h in
+        ap (λ k. getD (view out k) (q % 512) 0) (sector-new L img rep i f offset bytes w time (q / 512) h)
+        ∙ ap (λ (v : List ℕ). getD v (q % 512) 0) (at-data (fileSectorAt (catalogue L) i (q / 512)) (u .0) (u .1))
+        ∙ byte-landed L img rep i f offset bytes w 1 [] q l (old-part q l) ∙ sym (new-byte q l)
 
-  abbrev M : Ledger
-  M = replaced L (L .root) i (some (writtenFile L i f offset bytes time))
+    bytes-new : fileBytes (catalogueOf (view out)) (view out) i 0 z ≡ y .bytes
+    unfolding fileBytes catalogueOf catalogue
+    bytes-new =
+        bytes-of (catalogue M) (catalogueOf (view out)) (view out) i 0 z (ready .volume .geometry) (λ o e. ap (isPart i o) (table-new e))
+        ∙ ext-getD 0 (fileBytes (catalogue M) (view out) i 0 z) (y .bytes)
+        (length-tabulate (fileByte (catalogue M) (view out) i) 0 z ∙ sym (length-put (bytesFrom (f .bytes) 0 z) offset bytes ∙ length-bytesFrom (f .bytes) 0 z))
+        (λ q l. let h : q < z = rw (length-tabulate (fileByte (catalogue M) (view out) i) 0 z) at l in getD-tab0 (fileByte (catalogue M) (view out) i) z q 0 h ∙ byte-new q h)
 
-  byte-new : (q : ℕ) → q < z → fileByte (catalogue M) (view out) i q ≡ getD (y .bytes) q 0
-  unfolding fileByte
-  byte-new q l =
-      let h : q / 512 / extentSectors (L .geometry) < extentsFor (L .geometry) z = sector-held (L .geometry) (rep .bounded) z (q / 512) (omega arith) in
-      let u = place-usable L img rep i f offset bytes w (q / 512) h in
-      ap (λ k. getD (view out k) (q % 512) 0) (sector-new L img rep i f offset bytes w time (q / 512) h)
-      ∙ ap (λ (v : List ℕ). getD v (q % 512) 0) (at-data (fileSectorAt (catalogue L) i (q / 512)) (u .0) (u .1))
-      ∙ byte-landed L img rep i f offset bytes w 1 [] q l (old-part q l) ∙ sym (new-byte q l)
+    -- other files' sectors
+    kept : (k : ℕ) (v : File) → k ≢ i → L .slots k ≡ some v → (q : ℕ) → q < v .entry .size
+        → view out (sectorOf (catalogue L) k (q / 512)) ≡ view img (sectorOf (catalogue L) k (q / 512))
+    unfolding catalogue
+    kept k v ne has q l =
+        let u = sector-data (catalogue L) k (q / 512) (rep .bounded) in
+        at-data (sectorOf (catalogue L) k (q / 512)) (u .0) (u .1)
+        ∙ over-miss ds (sectorOf (catalogue L) k (q / 512)) _
+        (writes-miss L img rep i f offset bytes w (sectorOf (catalogue L) k (q / 512)) (λ s h. place-other L img rep i f offset bytes w k v (q / 512) s ne has (omega arith) h))
 
-  bytes-new : fileBytes (catalogueOf (view out)) (view out) i 0 z ≡ y .bytes
-  unfolding fileBytes catalogueOf catalogue
-  bytes-new =
-      bytes-of (catalogue M) (catalogueOf (view out)) (view out) i 0 z (ready .volume .geometry) (λ o e. ap (isPart i o) (table-new e))
-      ∙ ext-getD 0 (fileBytes (catalogue M) (view out) i 0 z) (y .bytes)
-      (length-tabulate (fileByte (catalogue M) (view out) i) 0 z ∙ sym (length-put (bytesFrom (f .bytes) 0 z) offset bytes ∙ length-bytesFrom (f .bytes) 0 z))
-      (λ q l. let h : q < z = rw (length-tabulate (fileByte (catalogue M) (view out) i) 0 z) at l in getD-tab0 (fileByte (catalogue M) (view out) i) z q 0 h ∙ byte-new q h)
+    -- ---- the image represents the ledger afterwards
 
-  -- other files' sectors
-  kept : (k : ℕ) (v : File) → k ≢ i → L .slots k ≡ some v → (q : ℕ) → q < v .entry .size
-      → view out (sectorOf (catalogue L) k (q / 512)) ≡ view img (sectorOf (catalogue L) k (q / 512))
-  unfolding catalogue
-  kept k v ne has q l =
-      let u = sector-data (catalogue L) k (q / 512) (rep .bounded) in
-      at-data (sectorOf (catalogue L) k (q / 512)) (u .0) (u .1)
-      ∙ over-miss ds (sectorOf (catalogue L) k (q / 512)) _
-      (writes-miss L img rep i f offset bytes w (sectorOf (catalogue L) k (q / 512)) (λ s h. place-other L img rep i f offset bytes w k v (q / 512) s ne has (omega arith) h))
-
-  -- ---- the image represents the ledger afterwards
+    shown-done : time < 2 ^ 32 → Rep (withFile L i (written L i offset bytes time)) out
+    unfolding updatedEntry
+    shown-done ht =
+        subst (λ (v : File). Rep (withFile L i v) out) (sym (written-is L img rep i f offset bytes w time))
+        (rep-replaced L img rep (L .root) i (some y) out (record {
+          ready = ready;
+          new-root = ap rootIn (at-front 1 (omega arith) (λ e. omega arith) (λ e. omega arith)) ∙ rep .says .root;
+          mark = mark-updated L img rep i f (w .has) z time out (ready .volume .geometry) at-entry;
+          entry = entry-updated L img rep i f (w .has) z time out (ready .volume .geometry) at-entry (size-bounded L img rep i f offset bytes w) ht;
+          entries = λ k l ne. at-front (entryAt k) (omega arith) (λ e. omega arith) (λ e. ne (omega arith));
+          table = table-new;
+          bytes = λ v e. subst (λ (u : File). fileBytes (catalogueOf (view out)) (view out) i 0 (u .entry .size) ≡ u .bytes) (Option·some-injective y v e) bytes-new;
+          kept = kept;
+          sized = λ v e. subst (λ (u : File). length (u .extents) ≡ extentsFor (L .geometry) (u .entry .size)) (Option·some-injective y v e) (sized-written L img rep i f offset bytes w time);
+          admissible = admissible-written L img rep i f offset bytes w time;
+          disjoint = disjoint-written L img rep i f offset bytes w time;
+        }))
 
   pub done : time < 2 ^ 32 → Rep (withFile L i (written L i offset bytes time)) (uncut (L .geometry) img plan)
-  unfolding updatedEntry
-  done ht =
-      subst (λ (v : File). Rep (withFile L i v) out) (sym (written-is L img rep i f offset bytes w time))
-      (rep-replaced L img rep (L .root) i (some y) out (record {
-        ready = ready;
-        new-root = ap rootIn (at-front 1 (omega arith) (λ e. omega arith) (λ e. omega arith)) ∙ rep .says .root;
-        mark = mark-updated L img rep i f (w .has) z time out (ready .volume .geometry) at-entry;
-        entry = entry-updated L img rep i f (w .has) z time out (ready .volume .geometry) at-entry (size-bounded L img rep i f offset bytes w) ht;
-        entries = λ k l ne. at-front (entryAt k) (omega arith) (λ e. omega arith) (λ e. ne (omega arith));
-        table = table-new;
-        bytes = λ v e. subst (λ (u : File). fileBytes (catalogueOf (view out)) (view out) i 0 (u .entry .size) ≡ u .bytes) (Option·some-injective y v e) bytes-new;
-        kept = kept;
-        sized = λ v e. subst (λ (u : File). length (u .extents) ≡ extentsFor (L .geometry) (u .entry .size)) (Option·some-injective y v e) (sized-written L img rep i f offset bytes w time);
-        admissible = admissible-written L img rep i f offset bytes w time;
-        disjoint = disjoint-written L img rep i f offset bytes w time;
-      }))
+  unfolding writePlan catalogue
+  done ht = shown-done (uncut (L .geometry) img plan) (ready-uncut (L .geometry) img plan geo fits (rep .ready)) (done-shows (L .geometry) plan geo fits img (rep .ready)) ht

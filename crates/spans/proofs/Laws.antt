@@ -65,7 +65,7 @@ found-below p n Nowhere h q = h
 
 pub usable-some : (g : Geometry) → Bounded g → 0 < usable g
 usable-some g b =
-    let r : reserveExtents g < g .extents = reserve-small (g .extents) (extentSectors g) (b .extents-low) (b .extents-high) (b .extent-low) in
+    let r : reserveExtents g < g .extents = reserve-small g b in
     omega arith
 
 pub extent-below : (img : List ℕ) (g : Geometry) → Opened img g → (i o : ℕ) → extentOf (catalogueOf (view img)) i o < usable g

@@ -11,8 +11,7 @@ reserve-extents-requires c κs = search needs
 sub-result : tie.Need-sub-result
 sub-result c =
     let d = c .before .before in
-    let a = d .args .self in
-    omega (arith, reserve-small (a .extents) (a .«extent_sectors») (d .pre .extents-low) (d .pre .extents-high) (d .pre .extent-low))
+    omega (arith, reserve-small (d .args .self) (d .pre))
 
 returns : tie.Need-returns
 returns c = search needs

@@ -1,30 +1,15 @@
-//! The five ways in which the half-copied journal happens, and the imposters of "Promises tight enough", as definitions.
+//! The gate's choice of wrong definitions: each must be refused by a proof. A harness of its own, since the edits are read from files.
 
-use definition_edits::refused;
+use definition_edits::{edits, try_all, Outcome};
 
-macro_rules! edits {
-    ($($name:ident by $crate_name:literal;)*) => {
-        $(#[test] fn $name() { refused(stringify!($name), $crate_name); })*
-    };
-}
-
-edits! {
-    target_before_start_mark by "safety";
-    staging_in_a_file_extent by "safety";
-    recovery_resets_first by "safety";
-    freeing_forgets_a_sector by "safety";
-    journal_fields_crossed by "safety";
-    recovery_does_nothing by "safety";
-    create_writes_at_once by "safety";
-    format_stops_at_position_0 by "safety";
-    made_up_size by "safety";
-    made_up_extent by "safety";
-    create_refuses_always by "safety";
-    list_refuses_always by "safety";
-    read_refuses_always by "safety";
-    find_gives_no_fields by "safety";
-    list_copies_no_name by "safety";
-    missing_name_is_10 by "safety";
-    no_name_is_found by "safety";
-    format_refuses_always by "cases";
+fn main() {
+    let chosen: Vec<_> = edits().into_iter().filter(|e| e.gate).collect();
+    assert!(!chosen.is_empty(), "no edit is marked 'gate'");
+    let (passed, failed) = try_all(&chosen, |edit, outcome| {
+        let word = if matches!(outcome, Outcome::Refused(_)) { "ok" } else { "FAILED" };
+        println!("test {} ... {word} ({outcome})", edit.name);
+    });
+    let word = if failed == 0 { "ok" } else { "FAILED" };
+    println!("test result: {word}. {passed} passed; {failed} failed; 0 ignored; 0 measured; 0 filtered out");
+    std::process::exit(if failed == 0 { 0 } else { 101 });
 }

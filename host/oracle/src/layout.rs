@@ -193,9 +193,10 @@ impl Geometry {
     }
 }
 
-/// Whether the directory may have this many entries.
+/// Whether the directory may have this many entries. The table's 65,535 stands for no file, so
+/// 65,534 is the last index.
 pub fn files_in_bounds(files: u64) -> bool {
-    (255..=1_024).contains(&files)
+    (255..=65_535).contains(&files)
 }
 
 /// The contents of a sector that lies in the image.

@@ -121,8 +121,9 @@ fn random_run(subject: &dyn Subject, seed: u64, counts: &mut Counts) {
 }
 
 fn draw_small_geometry(draw: &mut Draw) -> Option<Geometry> {
-    let files = match draw.below(8) {
-        0 => draw.between(255, 1_024),
+    let files = match draw.below(128) {
+        0 => draw.between(1_025, 5_000),
+        1..=16 => draw.between(256, 1_024),
         _ => 255,
     };
     let extents = draw.between(2, 9);

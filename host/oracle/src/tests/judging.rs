@@ -34,7 +34,7 @@ fn plain_check(image: &[u8]) -> CheckAnswer {
     let [files, extents, extent_sectors] =
         [(0, 2), (2, 2), (4, 4)].map(|(at, n)| number(image, at, n));
     let bounds =
-        (255..=1_024).contains(&files) && (2..=65_535).contains(&extents) && extent_sectors >= 128;
+        (255..=65_535).contains(&files) && (2..=65_535).contains(&extents) && extent_sectors >= 128;
     let table_sectors = extents.div_ceil(128);
     if !bounds
         || (34 + files + table_sectors + extents * extent_sectors) * 512 > image.len() as u128
@@ -255,7 +255,7 @@ fn any_format() {
     for _ in 0..20_000 {
         let request = FormatRequest {
             sectors: draw.number() >> draw.below(64),
-            files: *draw.pick(&[0, 254, 255, 256, 1_024, 1_025, u64::MAX]),
+            files: *draw.pick(&[0, 254, 255, 256, 1_025, 65_535, 65_536, u64::MAX]),
             id: draw.number(),
             mode: draw.number() as u32,
             time: draw.number() as u32,
@@ -271,7 +271,7 @@ fn any_format() {
             .map(|power| 1_u64 << power)
             .find(|size| room / size <= 65_535);
         let expected = match size {
-            Some(size) if (255..=1_024).contains(&request.files) && room / size >= 2 => {
+            Some(size) if (255..=65_535).contains(&request.files) && room / size >= 2 => {
                 let extents = room / size;
                 let geometry = request.geometry().expect("there is one");
                 assert_eq!(

@@ -4,6 +4,7 @@
 mod cases;
 mod comparison;
 mod cuts;
+mod directories;
 mod journals;
 mod judging;
 mod refusals;

@@ -238,7 +238,7 @@ fn reserves() {
     assert_eq!(reserve(2, u64::from(u32::MAX)), 1);
     for (files, extents, extent_sectors) in [
         (254, 2, 128),
-        (1_025, 2, 128),
+        (65_536, 2, 128),
         (255, 1, 128),
         (255, 65_536, 128),
         (255, 2, 127),
@@ -349,7 +349,7 @@ fn format_records() {
         (9, request, u64::MAX, RECORD),
         (14, request, 307, RECORD - 1),
         (8, of_files(254), 308, 0),
-        (8, of_files(1_025), 0, RECORD),
+        (8, of_files(65_536), 0, RECORD),
         (8, of_files(u64::MAX), 0, RECORD),
         (8, of_sectors(0), 0, RECORD),
         (8, of_sectors(845), 0, RECORD),

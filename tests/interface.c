@@ -661,8 +661,10 @@ static void geometries(void)
     geometry_is(UINT64_C(140737488356128), 255, 65535, 2147483648); /* 2^47 + 800: G = 2^47 - 1, so S = 2^31 */
     no_geometry(UINT64_C(140737488356129), 255);                    /* G = 2^47: 65,536 extents of 2^31, the last S */
     geometry_is(1826, 1024, 2, 128);                                /* G = 1826 - 546 - 1024 = 256 */
+    geometry_is(66337, 65535, 2, 128);                              /* G = 66337 - 546 - 65535 = 256 */
+    no_geometry(66336, 65535);
     no_geometry(1313, 254);
-    no_geometry(1000000, 1025);
+    no_geometry(1000000, 65536);
     no_geometry(1313, UINT64_C(4294967551)); /* 2^32 + 255: not cut to 32 bits */
     no_geometry(0, 255);
     no_geometry(UINT64_MAX, 255);

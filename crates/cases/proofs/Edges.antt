@@ -30,6 +30,7 @@ unfolding beAt beBytes bytesFrom put onesSector zeroSector scan anyBelow allBelo
 edges = record {
   table-sectors = refl;
   files = refl;
+  most-files = refl;
   most-sectors = refl;
   positions = refl;
   superblocks = refl;

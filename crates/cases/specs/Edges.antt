@@ -87,8 +87,9 @@ carries list = carryAnswer zeroSector list .number
 pub record Edges : Type 0 where
   -- T = (N + 127) / 128
   pub table-sectors : (tableSectors (shape 128 128) ∷ tableSectors (shape 129 128) ∷ []) ≡ (1 ∷ 2 ∷ [])
-  -- F 255 to 1,024
-  pub files : (formats 254 1312 ∷ formats 255 1313 ∷ formats 1024 2082 ∷ formats 1025 2083 ∷ []) ≡ (8 ∷ 0 ∷ 0 ∷ 8 ∷ [])
+  -- F 255 to 65,535: what format answers, and the summary of a superblock, whose two bytes say no more
+  pub files : (formats 254 1312 ∷ formats 255 1313 ∷ formats 1025 2083 ∷ formats 65535 66593 ∷ formats 65536 66594 ∷ []) ≡ (8 ∷ 0 ∷ 0 ∷ 0 ∷ 8 ∷ [])
+  pub most-files : (ofSuperblock (superblockOf 254 4 128) .number ∷ ofSuperblock (superblockOf 65535 4 128) .number ∷ []) ≡ (3 ∷ 0 ∷ [])
   -- "up to 2^31": the most sectors, and one more
   pub most-sectors : (formats 255 (2 ^ 47 + 800) ∷ formats 255 (2 ^ 47 + 801) ∷ []) ≡ (0 ∷ 8 ∷ [])
   -- the last record of the sample's format, and the position after it

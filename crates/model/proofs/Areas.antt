@@ -7,7 +7,7 @@ use native.Mathlib.Omega.{arith}
 use lib.Dec.{leb}
 use borrow.Author.Tests.{leb-true}
 use Rattle.model.specs.declared.Geometry.{Geometry}
-use Rattle.model.specs.Geometry.{extentSectors, mostTargets, reserveExtents, inBounds}
+use Rattle.model.specs.Geometry.{extentSectors, mostTargets, reserveExtents, mostFiles, inBounds}
 use Rattle.model.specs.Opened.{Bounded}
 
 and-true : (a b : Bool) → (a && b) ≡ true → (a ≡ true) × (b ≡ true)
@@ -17,13 +17,13 @@ and-true false b h = absurd (false≢true h)
 pub bounds : (g : Geometry) → inBounds g ≡ true → extentSectors g ≤ 4294967295 → Bounded g
 unfolding inBounds
 bounds g h s =
-    let p4 = and-true (leb 255 (g .files) && leb (g .files) 1024 && leb 2 (g .extents) && leb (g .extents) 65535) (leb 128 (extentSectors g)) h in
-    let p3 = and-true (leb 255 (g .files) && leb (g .files) 1024 && leb 2 (g .extents)) (leb (g .extents) 65535) (p4 .0) in
-    let p2 = and-true (leb 255 (g .files) && leb (g .files) 1024) (leb 2 (g .extents)) (p3 .0) in
-    let p1 = and-true (leb 255 (g .files)) (leb (g .files) 1024) (p2 .0) in
+    let p4 = and-true (leb 255 (g .files) && leb (g .files) mostFiles && leb 2 (g .extents) && leb (g .extents) 65535) (leb 128 (extentSectors g)) h in
+    let p3 = and-true (leb 255 (g .files) && leb (g .files) mostFiles && leb 2 (g .extents)) (leb (g .extents) 65535) (p4 .0) in
+    let p2 = and-true (leb 255 (g .files) && leb (g .files) mostFiles) (leb 2 (g .extents)) (p3 .0) in
+    let p1 = and-true (leb 255 (g .files)) (leb (g .files) mostFiles) (p2 .0) in
     record {
       files-low = leb-true 255 (g .files) (p1 .0);
-      files-high = leb-true (g .files) 1024 (p1 .1);
+      files-high = leb-true (g .files) mostFiles (p1 .1);
       extents-low = leb-true 2 (g .extents) (p2 .1);
       extents-high = leb-true (g .extents) 65535 (p3 .1);
       extent-low = leb-true 128 (extentSectors g) (p4 .1);

@@ -69,12 +69,12 @@ volumeSectors g = extentAt g (g .extents)
 abbrev pub extentsFor : Geometry → ℕ → ℕ
 extentsFor g z = (z + (extentBytes g - 1)) / extentBytes g
 
--- "Bounds: F 255 to 1,024 in this edition; N 2 to 65,535; S at least 128."
+-- "Bounds: N 2 to 65,535; S at least 128"; F 255 to 65,535, the most that its two bytes say (request T-03)
 abbrev pub leastFiles : ℕ
 leastFiles = 255
 
 abbrev pub mostFiles : ℕ
-mostFiles = 1024
+mostFiles = 65535
 
 unfoldable pub inBounds : Geometry → Bool
 inBounds g =

@@ -150,7 +150,7 @@ impl Geometry {
         ensures { λ r. ⌜ r ≡ inBounds self ⌝ }
     {
         if 255 <= self.files {
-            if self.files <= 1024 {
+            if self.files <= 65535 {
                 if 2 <= self.extents {
                     if self.extents <= 65535 {
                         return 128 <= self.extent_sectors;

@@ -13,7 +13,7 @@ use borrow.Author.Tests.{eqb-true, eqb-false, eq-eqb, ne-eqb, leb-true, ltb-true
 use Rattle.model.specs.declared.Geometry.{Geometry}
 use Rattle.model.specs.declared.Verdict.{Verdict}
 use Rattle.model.specs.declared.State.the-variants.{Clean, Waiting, Damaged, Unfinished}
-use Rattle.model.specs.Geometry.{superblockAt, extentSectors, journalAt, tableAt, dataAt, volumeSectors, inBounds}
+use Rattle.model.specs.Geometry.{superblockAt, extentSectors, journalAt, tableAt, dataAt, volumeSectors, mostFiles, inBounds}
 use Rattle.model.specs.Disk.{Disk, view}
 use Rattle.model.specs.Superblock.{geometryIn, stateOn, stateOf, journalLength, withJournalLength}
 use Rattle.model.specs.Journal.{sourceAt, targetAt}
@@ -41,10 +41,10 @@ use Rattle.safety.proofs.Replayed.{replayed-by, target-metadata, target
 use Rattle.safety.proofs.Replayed.{good-again, replayed-same}
 
 -- in bounds, F and N are small, whatever S is
-few-sectors : (g : Geometry) → inBounds g ≡ true → (g .files ≤ 1024) × (g .extents ≤ 65535)
+few-sectors : (g : Geometry) → inBounds g ≡ true → (g .files ≤ mostFiles) × (g .extents ≤ 65535)
 unfolding inBounds
 few-sectors g h =
-    let most = leb 255 (g .files) && leb (g .files) 1024 && leb 2 (g .extents) && leb (g .extents) 65535 in
+    let most = leb 255 (g .files) && leb (g .files) mostFiles && leb 2 (g .extents) && leb (g .extents) 65535 in
     let b = bounds (record { files = g .files; extents = g .extents; «extent_sectors» = 128 }) (and-yes most (leb 128 128) (and-left most (leb 128 (extentSectors g)) h) refl) (omega arith) in
     (b .files-high, b .extents-high)
 

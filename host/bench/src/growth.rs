@@ -26,6 +26,10 @@ pub fn print(comparisons: &mut Comparisons) {
         (1_024, 1),
         (1_024, 64),
         (1_024, 1_023),
+        (4_096, 1),
+        (4_096, 4_095),
+        (65_535, 1),
+        (65_535, 65_534),
     ] {
         let fill = Fill {
             geometry: geometry(files, 4),

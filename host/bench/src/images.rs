@@ -10,7 +10,7 @@ pub const SAMPLE_SECTORS: u64 = 1_313;
 
 /// The most files and extents that a volume has.
 pub fn largest() -> Geometry {
-    geometry(1_024, 65_535)
+    geometry(65_535, 65_535)
 }
 
 /// A geometry with the shortest extents.
@@ -19,13 +19,13 @@ pub fn geometry(files: u64, extents: u64) -> Geometry {
 }
 
 pub fn short_name(index: u64) -> Vec<u8> {
-    format!("calibration {index:04}.dat").into_bytes()
+    format!("calibration {index:05}.dat").into_bytes()
 }
 
 /// A name of 476 bytes; only the last ones differ.
 pub fn long_name(index: u64) -> Vec<u8> {
     let mut name = vec![b'n'; 476];
-    name[472..].copy_from_slice(format!("{index:04}").as_bytes());
+    name[471..].copy_from_slice(format!("{index:05}").as_bytes());
     name
 }
 

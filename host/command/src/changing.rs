@@ -101,20 +101,20 @@ pub fn format(arguments: &Arguments) -> Result<(), Failure> {
 fn of_format<'f>(card: &'f OsStr, request: &'f Format) -> impl Fn(Refusal) -> Failure + 'f {
     move |refusal| {
         let Format { sectors, files, .. } = *request;
-        let least = TAKEN_OFF + files.min(1_024) + 2 * LEAST_EXTENT;
+        let least = TAKEN_OFF + files.min(65_535) + 2 * LEAST_EXTENT;
         let detail = match files {
             _ if refusal != Refusal::BadArgument => None,
-            255..=1_024 if sectors < least => Some(Detail::with_next(
+            255..=65_535 if sectors < least => Some(Detail::with_next(
                 format!("{sectors} sectors are too few for {files} files"),
                 &format!("take a card of at least {least} sectors, or give so many with --sectors"),
             )),
-            255..=1_024 => Some(Detail::with_next(
+            255..=65_535 => Some(Detail::with_next(
                 format!("{sectors} sectors are too many for a volume"),
                 "give fewer with --sectors",
             )),
             _ => Some(Detail::with_next(
                 format!("--files {files}"),
-                "give 255 to 1024 files",
+                "give 255 to 65535 files",
             )),
         };
         Failure::Card {

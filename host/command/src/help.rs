@@ -128,7 +128,7 @@ goofs format CARD [--sectors N] [--files F] [--id ID] [--mode M] [--time T] [--s
 Makes an empty volume. A CARD that isn't there is made, as an image file; then --sectors is needed.
   --sectors N  the sectors of 512 bytes, 2048 for each MiB; at least 1057 for 255 files; else all of
                CARD. An image file that is shorter is made longer.
-  --files F    the most files it can hold, 255 to 1024; else 255
+  --files F    the most files it can hold, 255 to 65535; else 255
   --id ID      the root's id; else 1
   --mode M     the root's mode, octal; else 755
   --time T     the root's time, in seconds since 1970; else now

@@ -327,7 +327,7 @@ fn errors_say_what_to_do_next() {
             &card,
             &["--yes", "--files=254"],
             "refused (8)",
-            "255 to 1024",
+            "255 to 65535",
         ),
     ];
     for (command, card, rest, what, next) in cases {

@@ -10,6 +10,8 @@ use std::time::{Duration, Instant};
 use goofs::change::Change;
 use goofs::device::Disk;
 use goofs::image::Image;
+use oracle::layout::Geometry;
+use oracle::testing::images::{blank, put_file};
 use shared::{good, on, with_limit, Folder};
 
 /// The first bytes of a card, past its metadata. The whole of it is too long to be compared.
@@ -168,6 +170,73 @@ fn a_format_of_a_sparse_image() {
     good("format", &card, &["--sectors=600000000", "--sparse"]);
     // Reading 300 GiB of zeros takes far longer.
     assert!(begun.elapsed() < Duration::from_secs(15));
+}
+
+/// The largest directory, full. No command makes a judgement, or a pass over the directory, for each
+/// file: `check` and `ls` would take hours then. What they take here is far below a second of work.
+#[test]
+fn a_directory_of_65535_files() {
+    const MOST: Duration = Duration::from_secs(20);
+    let folder = Folder::new("directory");
+    let geometry = Geometry::new(65_535, 4, 128).unwrap();
+    let mut image = blank(geometry, geometry.end().0);
+    for index in 0..65_535 {
+        let (size, extents) = match index {
+            65_534 => (600, &[2][..]),
+            _ => (0, &[][..]),
+        };
+        let name = format!("transect {index}").into_bytes();
+        put_file(&mut image, geometry, index, &name, size, extents);
+    }
+    let card = folder.write("card", &image);
+    let timed = |command: &str, words: &[&str]| {
+        let begun = Instant::now();
+        let said = on(command, &card, words);
+        let time = begun.elapsed();
+        assert!(time < MOST, "{command} took {time:?}");
+        said
+    };
+    assert_eq!(timed("check", &[]).text(), "sound, 65535 files\n");
+    let listed = timed("ls", &[]).text().lines().count();
+    assert!(listed >= 65_535, "{listed} lines");
+    assert_eq!(timed("info", &[]).status, 0);
+    assert_eq!(timed("get", &["transect 65534"]).out.len(), 600);
+    let source = folder.write("source", &[1; 700]);
+    let source = source.to_str().unwrap();
+    let full = timed("put", &[source, "--as", "new"]);
+    assert!(
+        full.status == 1 && full.err.contains("refused (11)"),
+        "{full:?}"
+    );
+    for (command, words) in [
+        ("put", &[source, "--as", "transect 65534"][..]),
+        ("resize", &["transect 65534", "10"]),
+        ("rm", &["transect 7"]),
+        ("put", &[source, "--as", "new"]),
+        ("trial", &["rm", "transect 65534"]),
+    ] {
+        let said = timed(command, words);
+        assert_eq!(said.status, 0, "{command}: {}", said.err);
+    }
+    assert_eq!(timed("check", &[]).text(), "sound, 65535 files\n");
+}
+
+#[test]
+fn a_format_for_65535_files() {
+    let folder = Folder::new("most-files");
+    let card = folder.file("card");
+    let words = ["--sectors=66593", "--files=65535", "--time=1"];
+    let said = good("format", &card, &words);
+    assert!(said.starts_with("formatted: 65535 files at most, "), "{said}");
+    assert_eq!(good("check", &card, &[]), "sound, 0 files\n");
+    for (files, sectors) in [("65536", "66594"), ("254", "1312")] {
+        let words = ["--sectors", sectors, "--files", files, "--yes"];
+        let said = on("format", &card, &words);
+        assert!(
+            said.status == 1 && said.err.contains("give 255 to 65535 files"),
+            "{said:?}"
+        );
+    }
 }
 
 #[test]

@@ -260,7 +260,6 @@ impl Format {
 #[cfg(test)]
 mod tests {
     use super::*;
-    use crate::image::State;
 
     /// The lengths that the rules of the volume name: a first create, the longest delete, and a write
     /// of 65,536 bytes into an empty file.
@@ -274,7 +273,7 @@ mod tests {
 
     #[test]
     fn records_of_formats() {
-        for (sectors, files) in [(1_313, 255), (8_389_408, 255), (8_390_177, 1_024)] {
+        for (sectors, files) in [(1_313, 255), (8_389_408, 255), (8_390_177, 1_024), (8_454_688, 65_535)] {
             let format = Format {
                 sectors,
                 files,
@@ -286,13 +285,5 @@ mod tests {
             assert!(format.record(records - 1).unwrap().is_some());
             assert!(format.record(records).unwrap().is_none());
         }
-        // More files than a format takes today: no bound of them stands in the count.
-        let geometry = Summary {
-            files: 65_535,
-            extents: 65_535,
-            extent_sectors: 128,
-            state: State::Clean,
-        };
-        assert_eq!(records_of_format(&geometry), 6 + 65_535 + 512);
     }
 }

@@ -330,15 +330,15 @@ impl Device for Endless {
 #[test]
 fn a_volume_that_no_memory_holds() {
     let _alone = alone();
-    let sectors = 546 + 1_024 + (65_535 << 31);
-    let mut memory = Memory::of_sectors(2_000);
+    let sectors = 546 + 65_535 + (65_535 << 31);
+    let mut memory = Memory::of_sectors(67_000);
     let mut position = 0;
-    while let Some(record) = request(sectors, 1_024).record(position).unwrap() {
+    while let Some(record) = request(sectors, 65_535).record(position).unwrap() {
         let code = goofs::carry_out(&mut memory.bytes, &record);
         assert_eq!(code, 0);
         position += 1;
     }
-    assert_eq!(request(sectors, 1_024).records(), Ok(position));
+    assert_eq!(request(sectors, 65_535).records(), Ok(position));
     let outcome = Image::load(&Endless(memory.bytes));
     assert!(matches!(outcome, Err(Error::TooLarge { bytes }) if bytes > 1 << 55));
 }

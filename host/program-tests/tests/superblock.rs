@@ -54,7 +54,7 @@ fn sample() {
 #[test]
 fn geometries_at_their_bounds() {
     let sizes = [128, 129, 255, 256, 257, 514, 515, 1 << 31, u32::MAX];
-    for files in [255, 256, 1024] {
+    for files in [255, 256, 1024, 1025, 65534, 65535] {
         for extents in [2, 127, 128, 129, 65535] {
             for extent_sectors in sizes {
                 let s = Superblock { files, extents, extent_sectors, ..SAMPLE };
@@ -97,7 +97,7 @@ fn refused_2_for_the_magic_or_the_version() {
 
 #[test]
 fn refused_3_for_the_bounds() {
-    for files in [0, 254, 1025, 65535] {
+    for files in [0, 1, 128, 254] {
         assert_eq!(Superblock { files, ..SAMPLE }.printed(), "refused 3\n");
     }
     for extents in [0, 1] {

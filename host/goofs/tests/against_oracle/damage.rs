@@ -143,7 +143,7 @@ fn of_names_and_ids_in_a_large_directory() {
     let mut draw = Draw::new(24);
     let mut seen = std::collections::BTreeMap::new();
     for round in 0..1_500 {
-        let files = *draw.pick(&[255, 256, 700, 1_024]);
+        let files = *draw.pick(&[255, 256, 700, 1_024, 1_025]);
         let geometry = Geometry::new(files, 3, 128).expect("within the bounds");
         let mut image = blank(geometry, geometry.end().0);
         let occupied = draw.between(1, files);

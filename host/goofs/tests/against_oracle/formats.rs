@@ -10,7 +10,7 @@ use oracle::FormatRequest;
 
 #[test]
 fn every_record() {
-    for (files, extents) in [(255, 2), (255, 4), (300, 129), (1_024, 300), (767, 128)] {
+    for (files, extents) in [(255, 2), (255, 4), (300, 129), (1_024, 300), (767, 128), (4_096, 5)] {
         let request = FormatRequest {
             sectors: 546 + files + 128 * extents + 5,
             files,
@@ -55,7 +55,7 @@ fn sector_counts_at_every_doubling() {
             Both.format_record(&request, position, RECORD);
         }
     };
-    for files in [255, 256, 600, 1_024] {
+    for files in [255, 256, 600, 1_024, 65_534, 65_535] {
         let before_data = 546 + files;
         for sectors in 0..3 {
             try_sectors(sectors, files);
@@ -91,6 +91,8 @@ fn files_out_of_bounds() {
         255,
         1_024,
         1_025,
+        65_534,
+        65_535,
         65_536,
         65_791,
         1 << 32,
@@ -138,7 +140,10 @@ fn random_formats() {
         let bits = draw.below(64);
         let request = FormatRequest {
             sectors: draw.number() >> bits,
-            files: draw.between(250, 1_030),
+            files: match draw.below(4) {
+                0 => draw.between(1_030, 65_540),
+                _ => draw.between(250, 1_030),
+            },
             id: draw.number(),
             mode: draw.number() as u32,
             time: draw.number() as u32,

@@ -1,4 +1,5 @@
-//! The largest directory and table: 1,024 files and 65,535 extents of 128 sectors. Such an image
+//! A long directory and the largest table: 1,024 files and 65,535 extents of 128 sectors; and the
+//! largest directory, 65,535 files. Such an image
 //! has 4.3 GB, of which only the pages that are used take up memory; one stands at a time.
 
 use std::sync::{Mutex, MutexGuard};
@@ -10,6 +11,7 @@ use oracle::layout::{put16, put64, Geometry, SECTOR};
 use oracle::testing::damage::entry_field;
 use oracle::testing::images::{blank, put_file, table_entry};
 use oracle::testing::requests::{create, delete, find, read, resize, write};
+use oracle::testing::volumes::ANY_LIST;
 use oracle::Request;
 
 static ONE_AT_A_TIME: Mutex<()> = Mutex::new(());
@@ -196,4 +198,63 @@ fn one_file_with_everything() {
     }
     put16(&mut image, 18, 1_024);
     assert_eq!(alike(&Request::Check, &image, 0).0.code(), 5);
+}
+
+/// The largest directory: all of its entries but the last, which is then taken, written and freed;
+/// and faults at its last indexes.
+#[test]
+fn largest_directory() {
+    let _alone = alone();
+    let geometry = Geometry::new(65_535, 200, 128).expect("within the bounds");
+    let mut image = blank(geometry, geometry.end().0);
+    for index in 0..65_534 {
+        let extents = [index];
+        let (size, extents) = match index {
+            0..150 => (65_536, &extents[..]),
+            _ => (0, &[][..]),
+        };
+        put_file(&mut image, geometry, index, &name(index), size, extents);
+    }
+    for index in [0, 1, 65_533, 65_534, 65_535, 65_536] {
+        alike(&Request::List { index }, &image, 476);
+        alike(&find(&name(index)), &image, 0);
+    }
+    let last = name(65_534);
+    for (expected, request) in [
+        (0, create(&last, 1)),
+        (11, create(b"none", 2)),
+        (0, write(&last, 0, vec![7; 600])),
+        (0, resize(&last, 10)),
+    ] {
+        assert_eq!(
+            with_each_buffer(&request, &image).0,
+            expected,
+            "{request:?}"
+        );
+        if expected == 0 {
+            let (_, list) = alike(&request, &image, ANY_LIST);
+            assert_eq!(goofs::carry_out(&mut image, &list), 0);
+        }
+    }
+    alike(&find(&last), &image, 0);
+    alike(&read(&last, 0, 20), &image, 20);
+    assert_eq!(alike(&Request::Check, &image, 0).0.code(), 0);
+    let mut place_of = |spoil: &dyn Fn(&mut [u8])| {
+        let held = image[..geometry.data_at().0 as usize * SECTOR].to_vec();
+        spoil(&mut image);
+        count(Compared::DamagedImages, 1);
+        let (answer, _) = alike(&Request::Check, &image, 0);
+        assert_eq!(answer.code(), 7);
+        image[..held.len()].copy_from_slice(&held);
+    };
+    let mark = entry_field(65_534, 0);
+    place_of(&|image| put16(image, mark, 0));
+    place_of(&|image| put16(image, mark, 1));
+    place_of(&|image| put64(image, entry_field(65_534, 14), 0));
+    place_of(&|image| put64(image, entry_field(65_534, 14), 0xfedc_ba98_0000_0000));
+    place_of(&|image| image.copy_within(entry_field(3, 34)..entry_field(4, 0), entry_field(65_534, 34)));
+    place_of(&|image| put16(image, table_entry(geometry, 160), 65_534));
+    let (_, list) = alike(&delete(&last), &image, ANY_LIST);
+    assert_eq!(goofs::carry_out(&mut image, &list), 0);
+    assert_eq!(alike(&Request::Check, &image, 0).0.code(), 0);
 }

@@ -81,7 +81,7 @@ fn write_record(request: &FormatRequest, position: u64, output: &mut [u8]) -> Re
     let directory = 3;
     let table = directory + geometry.files();
     let table_end = table + geometry.table_sectors();
-    let mut writer = ListWriter::new(output);
+    let mut writer = ListWriter::from_position(output, position);
     if position == 0 {
         writer.record(
             Sector(0),

@@ -517,7 +517,7 @@ fn length_by_groups(data_sectors: usize, targets: usize) -> usize {
     let group_c = targets;
     let superblocks = 2;
     let barriers = 4;
-    520 * (group_a + group_c + superblocks + barriers)
+    528 * (group_a + group_c + superblocks + barriers)
 }
 
 fn find_answer(slot: usize, file: &File) -> FindAnswer {

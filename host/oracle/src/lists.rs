@@ -1,5 +1,5 @@
-//! Write lists: records of a sector number and 512 bytes, the barriers between groups, the four
-//! groups of a changing call, and carrying a list out.
+//! Write lists: numbered records of a sector number and 512 bytes, the barriers between groups, the
+//! four groups of a changing call, and carrying a list out.
 
 use crate::answers::code;
 use crate::judge::Volume;
@@ -8,10 +8,12 @@ use crate::layout::{
     SECTOR,
 };
 
-/// Bytes of a record: the sector number, then the contents.
-pub const RECORD: usize = NUMBER + SECTOR;
-/// Bytes of the sector number.
+/// Bytes of a record: its position in the list, counted from 0, the sector number, the contents.
+pub const RECORD: usize = CONTENTS + SECTOR;
+/// Byte offsets in a record.
+pub const POSITION: usize = 0;
 pub const NUMBER: usize = 8;
+pub const CONTENTS: usize = 16;
 /// The sector number of a barrier; its contents are zero.
 pub const BARRIER: u64 = u64::MAX;
 
@@ -37,11 +39,22 @@ pub fn recovery_length(targets: usize) -> usize {
 pub struct ListWriter<'l> {
     list: &'l mut [u8],
     filled: usize,
+    /// The next record's.
+    position: u64,
 }
 
 impl<'l> ListWriter<'l> {
     pub fn new(list: &'l mut [u8]) -> ListWriter<'l> {
-        ListWriter { list, filled: 0 }
+        ListWriter::from_position(list, 0)
+    }
+
+    /// For a part of a list that starts with the record of this position.
+    pub fn from_position(list: &'l mut [u8], position: u64) -> ListWriter<'l> {
+        ListWriter {
+            list,
+            filled: 0,
+            position,
+        }
     }
 
     /// Bytes filled so far.
@@ -52,9 +65,11 @@ impl<'l> ListWriter<'l> {
     /// Adds a record and hands out its contents, which still hold what was in the buffer.
     pub fn add(&mut self, sector: Sector) -> &mut [u8] {
         let record = &mut self.list[self.filled..self.filled + RECORD];
+        put64(record, POSITION, self.position);
+        put64(record, NUMBER, sector.0);
         self.filled += RECORD;
-        put64(record, 0, sector.0);
-        &mut record[NUMBER..]
+        self.position += 1;
+        &mut record[CONTENTS..]
     }
 
     pub fn record(&mut self, sector: Sector, contents: &[u8; SECTOR]) {
@@ -113,22 +128,22 @@ pub fn carry_out(image: &mut [u8], list: &[u8]) -> u64 {
         return code::BAD_ARGUMENT;
     }
     let sectors = (image.len() / SECTOR) as u64;
-    for record in list.chunks_exact(RECORD) {
-        let (number, contents) = (get64(record, 0), &record[NUMBER..]);
+    for (position, record) in (0..).zip(list.chunks_exact(RECORD)) {
+        let (number, contents) = (get64(record, NUMBER), &record[CONTENTS..]);
         let good = if number == BARRIER {
             contents == [0; SECTOR]
         } else {
             number < sectors
         };
-        if !good {
+        if !good || get64(record, POSITION) != position {
             return code::BAD_ARGUMENT;
         }
     }
     for record in list.chunks_exact(RECORD) {
-        let number = get64(record, 0);
+        let number = get64(record, NUMBER);
         if number != BARRIER {
             let at = number as usize * SECTOR;
-            image[at..at + SECTOR].copy_from_slice(&record[NUMBER..]);
+            image[at..at + SECTOR].copy_from_slice(&record[CONTENTS..]);
         }
     }
     code::DONE

@@ -4,7 +4,7 @@
 use crate::draw::Draw;
 use crate::layout::{get64, JOURNAL_ENTRIES_IN_SECTOR, SECTOR};
 use crate::ledger::CutReport;
-use crate::lists::{BARRIER, NUMBER, RECORD};
+use crate::lists::{BARRIER, CONTENTS, NUMBER, RECORD};
 
 /// One sector write of a list.
 #[derive(Clone, Copy, Debug, PartialEq, Eq)]
@@ -22,13 +22,13 @@ pub fn groups(list: &[u8]) -> Vec<Group<'_>> {
     let mut groups = Vec::new();
     let mut open = Vec::new();
     for record in list.chunks_exact(RECORD) {
-        let sector = get64(record, 0);
+        let sector = get64(record, NUMBER);
         if sector == BARRIER {
             groups.push(std::mem::take(&mut open));
         } else {
             open.push(Record {
                 sector,
-                contents: &record[NUMBER..],
+                contents: &record[CONTENTS..],
             });
         }
     }
@@ -41,7 +41,7 @@ pub fn groups(list: &[u8]) -> Vec<Group<'_>> {
 /// The sector numbers of a list, barriers included.
 pub fn sector_numbers(list: &[u8]) -> Vec<u64> {
     let records = list.chunks_exact(RECORD);
-    records.map(|record| get64(record, 0)).collect()
+    records.map(|record| get64(record, NUMBER)).collect()
 }
 
 /// What lands of a list.

@@ -3,7 +3,7 @@
 
 use crate::layout::{get64, put16, put32, put64, Extent, Geometry, SECTOR};
 use crate::ledger::{File, Ledger};
-use crate::lists::RECORD;
+use crate::lists::{BARRIER, RECORD};
 use crate::power::{groups, Group, Record};
 use crate::request::Request;
 
@@ -15,7 +15,7 @@ pub fn audit(request: &Request, before: &Ledger, after: &Ledger, image: &[u8], l
     assert_eq!(groups.len(), 4);
     let records: usize = groups.iter().map(Vec::len).sum();
     assert_eq!(list.len(), (records + 4) * RECORD);
-    assert_eq!(list[list.len() - RECORD..], barrier());
+    audit_records(list);
 
     let targets = &groups[2];
     assert_eq!(target_sectors(targets), expected_targets(before, after));
@@ -36,10 +36,15 @@ pub fn audit(request: &Request, before: &Ledger, after: &Ledger, image: &[u8], l
     audit_data(request, before, after, image, data);
 }
 
-fn barrier() -> [u8; RECORD] {
-    let mut record = [0; RECORD];
-    record[..8].fill(255);
-    record
+/// Every record tells its position, a barrier's contents are zero, and the last one is a barrier.
+fn audit_records(list: &[u8]) {
+    let mut last = 0;
+    for (position, record) in list.chunks(RECORD).enumerate() {
+        assert_eq!(get64(record, 0), position as u64);
+        last = get64(record, 8);
+        assert!(last != BARRIER || record[16..] == [0; SECTOR]);
+    }
+    assert_eq!(last, BARRIER);
 }
 
 fn target_sectors(targets: &Group) -> Vec<u64> {

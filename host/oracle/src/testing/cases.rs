@@ -6,7 +6,7 @@ use super::Subject;
 use crate::answers::code;
 use crate::draw::Draw;
 use crate::layout::{get16, get32, superblock, SECTOR};
-use crate::lists::{BARRIER, NUMBER, RECORD};
+use crate::lists::{BARRIER, CONTENTS, RECORD};
 use crate::power::sector_numbers;
 use crate::request::{Answer, Request};
 use crate::FormatRequest;
@@ -55,10 +55,10 @@ pub fn p2_to_p5_formats(subject: &dyn Subject) {
         (8_389_409, 256, 32_768),
     ] {
         let (answer, record) = first_record(sectors);
-        assert_eq!((answer.code, answer.length), (0, 520));
-        let number = get32(&record, NUMBER + superblock::EXTENT_SECTORS);
+        assert_eq!((answer.code, answer.length), (0, 528));
+        let number = get32(&record, CONTENTS + superblock::EXTENT_SECTORS);
         assert_eq!(number, extent_sectors, "{sectors}");
-        let number = get16(&record, NUMBER + superblock::EXTENTS);
+        let number = get16(&record, CONTENTS + superblock::EXTENTS);
         assert_eq!(number, extents, "{sectors}");
     }
     let (refused, _) = first_record(1_056);
@@ -68,7 +68,7 @@ pub fn p2_to_p5_formats(subject: &dyn Subject) {
 pub fn p6_first_create(subject: &dyn Subject) {
     let mut sample = Sample::new(subject);
     let list = sample.call(0, &create(b"first", 1));
-    assert_eq!(list.len(), 5_720);
+    assert_eq!(list.len(), 5_808);
     let expected = [
         674, 675, 257, BARRIER, 0, BARRIER, 1, 2, BARRIER, 0, BARRIER,
     ];

@@ -8,6 +8,7 @@ pub mod cases;
 pub mod cuts;
 pub mod damage;
 pub mod images;
+pub mod records;
 pub mod requests;
 pub mod runs;
 pub mod volumes;
@@ -83,6 +84,8 @@ pub struct Counts {
     /// Changes while some file had several extents, and those with several table sectors.
     pub several_extents: usize,
     pub several_table_sectors: usize,
+    /// Lists that lost a record on the way and were not carried out.
+    pub lost_records: usize,
 }
 
 impl Counts {

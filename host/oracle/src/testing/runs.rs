@@ -61,6 +61,7 @@ impl Counts {
             self.cut_recoveries,
             self.short_recoveries,
             self.several_extents,
+            self.lost_records,
         ] {
             assert!(reached > least, "too rare: {self:?}");
         }
@@ -232,6 +233,9 @@ impl Run<'_> {
         }
         audit(request, &before, &after, &self.volume.image, &filled);
         self.count_targets(&filled);
+        if self.draw.one_in(20) {
+            self.drop_a_record(&filled);
+        }
         if self.draw.one_in(3) {
             self.cut(request, buffer_length, &filled);
         } else {
@@ -240,6 +244,15 @@ impl Run<'_> {
             self.volume.ledger = after;
         }
         self.volume.compare();
+    }
+
+    /// A list that lost a record before its last is refused and nothing is written.
+    fn drop_a_record(&mut self, list: &[u8]) {
+        let lost = self.draw.below((list.len() / RECORD - 1) as u64) as usize;
+        let shorter = [&list[..lost * RECORD], &list[(lost + 1) * RECORD..]].concat();
+        let carried = self.subject.carry_out(&mut self.volume.image, &shorter);
+        assert_eq!(carried, code::BAD_ARGUMENT);
+        self.counts.lost_records += 1;
     }
 
     /// The power fails while the list is carried out; recoveries follow until one is completed.

@@ -9,14 +9,15 @@ use crate::recover;
 use crate::testing::damage::{
     draw_journal, journal_field, journal_of_all_targets, set_journal, JournalEntry,
 };
+use crate::testing::records::list_of;
 use crate::testing::volumes::Volume;
 use crate::testing::{Oracle, Subject};
 
 /// The list by the rule: the lowest target left, again and again; or nothing.
 fn plain_recovery(image: &[u8], entries: &[JournalEntry]) -> Option<Vec<u8>> {
     let mut left = entries.to_vec();
-    let mut list = Vec::new();
-    let contents = |sector: u64| &image[sector as usize * SECTOR..][..SECTOR];
+    let mut records = Vec::new();
+    let contents = |sector: u64| image[sector as usize * SECTOR..][..SECTOR].to_vec();
     let mut last_target = 0;
     while !left.is_empty() {
         let lowest = (0..left.len()).min_by_key(|k| left[*k].1).unwrap();
@@ -26,14 +27,13 @@ fn plain_recovery(image: &[u8], entries: &[JournalEntry]) -> Option<Vec<u8>> {
             return None;
         }
         last_target = target;
-        list.extend(target.to_be_bytes());
-        list.extend(contents(source));
+        records.push((target, contents(source)));
     }
-    let mut superblock = contents(0).to_vec();
+    let mut superblock = contents(0);
     put16(&mut superblock, 18, 0);
-    let barrier = [&[255; 8][..], &[0; SECTOR]].concat();
-    list.extend([&barrier, &[0; 8][..], &superblock, &barrier].concat());
-    Some(list)
+    let barrier = (u64::MAX, vec![0; SECTOR]);
+    records.extend([barrier.clone(), (0, superblock), barrier]);
+    Some(list_of(&records))
 }
 
 fn recovered_alike(image: &[u8], entries: &[JournalEntry], draw: &mut Draw) -> u64 {

@@ -260,7 +260,7 @@ fn any_format() {
             mode: draw.number() as u32,
             time: draw.number() as u32,
         };
-        let mut record = [0; 520];
+        let mut record = [0; 528];
         let position = draw.number() >> draw.below(64);
         let answer = format_record(&request, position, &mut record);
         // The geometry by the definition: the first size of an extent that is large enough.

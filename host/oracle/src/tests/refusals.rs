@@ -3,8 +3,9 @@
 use crate::answers::{code, state, FormatRecordAnswer, SummaryAnswer};
 use crate::draw::Draw;
 use crate::layout::{get32, get64, put16, put32, Geometry, SECTOR};
-use crate::lists::{BARRIER, NUMBER, RECORD};
+use crate::lists::{BARRIER, CONTENTS, NUMBER, POSITION, RECORD};
 use crate::request::Request;
+use crate::testing::records::{filled_with, list_of};
 use crate::testing::requests::{create, delete, find, read, resize, write};
 use crate::testing::volumes::{Volume, ANY_LIST, SAMPLE};
 use crate::testing::{Oracle, Subject};
@@ -257,11 +258,6 @@ fn reserves() {
 
 #[test]
 fn carrying_out() {
-    let record = |number: u64, byte: u8| {
-        let mut record = number.to_be_bytes().to_vec();
-        record.extend([byte; SECTOR]);
-        record
-    };
     let lent = Draw::new(61).bytes(3 * SECTOR);
     let after = |list: &[u8]| {
         let mut image = lent.clone();
@@ -269,33 +265,76 @@ fn carrying_out() {
         (code, image)
     };
     assert_eq!(after(&[]), (0, lent.clone()));
-    assert_eq!(after(&record(BARRIER, 0)), (0, lent.clone()));
+    let barrier = list_of(&[filled_with(BARRIER, 0)]);
+    assert_eq!(after(&barrier), (0, lent.clone()));
     // A later write to the same sector wins.
-    let twice = [record(2, 1), record(BARRIER, 0), record(2, 5), record(0, 6)].concat();
+    let twice = list_of(&[
+        filled_with(2, 1),
+        filled_with(BARRIER, 0),
+        filled_with(2, 5),
+        filled_with(0, 6),
+    ]);
     let mut expected = lent.clone();
     expected[..SECTOR].fill(6);
     expected[2 * SECTOR..].fill(5);
     assert_eq!(after(&twice), (0, expected));
     // A good record before the bad one is not carried out either.
-    let good = record(0, 1);
+    let refused = (code::BAD_ARGUMENT, lent.clone());
+    let good = filled_with(0, 1);
     let bad = [
-        record(3, 0),
-        record(BARRIER - 1, 0),
-        record(1 << 55, 0),
-        record(BARRIER, 1),
-        [&BARRIER.to_be_bytes()[..], &[0; SECTOR - 1], &[1]].concat(),
-        record(1, 0)[..RECORD - 1].to_vec(),
-        vec![0],
+        filled_with(3, 0),
+        filled_with(BARRIER - 1, 0),
+        filled_with(1 << 55, 0),
+        filled_with(BARRIER, 1),
+        (BARRIER, [&[0; SECTOR - 1][..], &[1]].concat()),
     ];
     for bad in bad {
-        assert_eq!(
-            after(&[good.clone(), bad.clone()].concat()),
-            (8, lent.clone())
-        );
-        assert_eq!(after(&bad), (8, lent.clone()));
+        assert_eq!(after(&list_of(&[good.clone(), bad.clone()])), refused);
+        assert_eq!(after(&list_of(&[bad])), refused);
+    }
+    let good = list_of(&[good]);
+    for length in [1, RECORD - 8, RECORD - 1, RECORD + 1, 2 * RECORD - 1] {
+        assert_eq!(after(&good.repeat(2)[..length]), refused);
     }
     assert_eq!(carry_out(&mut [], &[1]), 1);
     assert_eq!(carry_out(&mut [0; 513], &good), 1);
+}
+
+/// Positions other than 0, 1, 2 and so on. What is lost at the end doesn't show.
+#[test]
+fn positions_of_records() {
+    let image = vec![0; 3 * SECTOR];
+    let list = list_of(&[filled_with(0, 1), filled_with(1, 2), filled_with(2, 3)]);
+    let after = |positions: &[usize]| {
+        let records = positions.iter().map(|k| &list[k * RECORD..][..RECORD]);
+        let mut after = image.clone();
+        let code = carry_out(&mut after, &records.collect::<Vec<_>>().concat());
+        assert_eq!(after != image, code == 0 && !positions.is_empty());
+        code
+    };
+    for good in [&[][..], &[0], &[0, 1], &[0, 1, 2]] {
+        assert_eq!(after(good), 0);
+    }
+    for bad in [
+        &[1][..],
+        &[2],
+        &[1, 2],
+        &[0, 2],
+        &[0, 0],
+        &[1, 0, 2],
+        &[0, 2, 1],
+        &[0, 1, 2, 2],
+    ] {
+        assert_eq!(after(bad), code::BAD_ARGUMENT);
+    }
+    // Each byte of a position counts.
+    for at in 0..8 {
+        let mut spoilt = list.clone();
+        spoilt[2 * RECORD + at] ^= 128;
+        let mut after = image.clone();
+        assert_eq!(carry_out(&mut after, &spoilt), code::BAD_ARGUMENT);
+        assert!(after == image);
+    }
 }
 
 #[test]
@@ -312,7 +351,8 @@ fn format_records() {
     let record = |position| {
         let (answer, output) = Oracle.format_record(&request, position, RECORD + 3);
         assert_eq!((answer.code, output.len()), (0, RECORD));
-        (get64(&output, 0), output[NUMBER..].to_vec())
+        assert_eq!(get64(&output, POSITION), position);
+        (get64(&output, NUMBER), output[CONTENTS..].to_vec())
     };
     let contents = |start: &[u8]| [start, &vec![0; SECTOR - start.len()]].concat();
     let superblock = |length: &[u8]| {

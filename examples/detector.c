@@ -121,11 +121,11 @@ static void land(const struct card *card, const uint8_t *record)
     int i;
 
     for (i = 0; i < 8; i++)
-        sector = sector << 8 | record[i];
+        sector = sector << 8 | record[GOOFS_NUMBER + i];
     if (sector == GOOFS_BARRIER)
         barrier(card);
     else
-        write_sector(card, sector, record + 8);
+        write_sector(card, sector, record + GOOFS_CONTENTS);
 }
 
 /* Does a list on the file, record by record, and then on the image in memory, so that the next call sees the change. */

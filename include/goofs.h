@@ -7,10 +7,15 @@
  * `code` is a number of `enum goofs_code`; the lowest whose condition holds is given. With any code but 0 all other result numbers
  * are 0 (except fault and place with 7) and no byte of a buffer has changed.
  *
- * A changing call reads the image and fills a write list with records of GOOFS_RECORD bytes: a big-endian sector number (8),
- * contents (512). Number 2^64 - 1 with 512 zero bytes is a barrier: nothing behind it may reach the medium before all that stands
- * before it has. Between two barriers the order is free, and sectors that follow one another may go out in one write. `length` is the
- * list's length in bytes; 0 means that nothing is to be written. Bytes past it stay.
+ * A changing call reads the image and fills a write list with records of GOOFS_RECORD bytes: the record's position in the list, from
+ * 0 on (8), a sector number (8), contents (512); numbers are big-endian. Number 2^64 - 1 with 512 zero bytes is a barrier: nothing
+ * behind it may reach the medium before all that stands before it has. Between two barriers the order is free, and sectors that follow
+ * one another may go out in one write. `length` is the list's length in bytes; 0 means that nothing is to be written. Bytes past it
+ * stay.
+ *
+ * Positions tell a record that was dropped, doubled or swapped on the way to the medium: goofs_carry_out refuses such a list before it
+ * writes anything, and so should a writer of its own. They don't tell that records at the end were dropped, as the rest is numbered 0,
+ * 1, 2 and so on: compare what arrived with `length`.
  *
  * A list belongs to the image that it was asked for: it lands whole before the next call, which is given the image with it
  * (goofs_carry_out does that to an image in memory). Its first write of the superblock is the start mark: a change that is cut
@@ -45,7 +50,10 @@ extern "C" {
 #define GOOFS_VERSION 100
 
 #define GOOFS_SECTOR 512
-#define GOOFS_RECORD (8 + GOOFS_SECTOR)
+#define GOOFS_POSITION 0  /* where in a record its position stands, */
+#define GOOFS_NUMBER 8    /* its sector number, */
+#define GOOFS_CONTENTS 16 /* and its contents */
+#define GOOFS_RECORD (GOOFS_CONTENTS + GOOFS_SECTOR)
 #define GOOFS_LONGEST_NAME 476
 #define GOOFS_LONGEST_TRANSFER 65536
 #define GOOFS_BARRIER UINT64_MAX
@@ -170,12 +178,13 @@ goofs_change_result goofs_write(const uint8_t *image, size_t image_length, const
 goofs_length_result goofs_recover(const uint8_t *image, size_t image_length, uint8_t *list, size_t list_length);
 
 /* Record `position`, from 0 on, of the format of a medium of so many sectors, to `out` (GOOFS_RECORD bytes); all of them, landed in
- * order, are the format. Gives 0, 8, 9 (past the last record) and 14. */
+ * order, are the format. The record carries this position, so that all of them, joined in order, are a list for goofs_carry_out; one
+ * alone is none, but the first. Gives 0, 8, 9 (past the last record) and 14. */
 goofs_length_result goofs_format_record(uint64_t sectors, uint64_t files, uint64_t id, uint32_t mode, uint32_t time,
                                         uint64_t position, uint8_t *out, size_t out_length);
 
-/* All writes of a list, in order, on an image in memory. Gives 0, 1 and 8 (a part of a record, a sector outside the image, a barrier
- * with other bytes); anything but 0 has written nothing. */
+/* All writes of a list, in order, on an image in memory. Gives 0, 1 and 8 (a part of a record, positions that aren't 0, 1, 2 and so on,
+ * a sector outside the image, a barrier with other bytes); anything but 0 has written nothing. */
 uint64_t goofs_carry_out(uint8_t *image, size_t image_length, const uint8_t *list, size_t list_length);
 
 #ifdef __cplusplus

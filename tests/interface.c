@@ -206,11 +206,12 @@ static struct {
 
 static void want(uint64_t sector, const uint8_t *contents)
 {
-    if (wanted.length + 520 > sizeof wanted.bytes)
+    if (wanted.length + 528 > sizeof wanted.bytes)
         abort();
-    put(wanted.bytes + wanted.length, 8, sector);
-    memcpy(wanted.bytes + wanted.length + 8, contents, 512);
-    wanted.length += 520;
+    put(wanted.bytes + wanted.length, 8, wanted.length / 528);
+    put(wanted.bytes + wanted.length + 8, 8, sector);
+    memcpy(wanted.bytes + wanted.length + 16, contents, 512);
+    wanted.length += 528;
 }
 
 static void want_barrier(void)
@@ -255,13 +256,13 @@ static void land(uint8_t *image, size_t records)
     static const uint8_t barrier[8] = {255, 255, 255, 255, 255, 255, 255, 255};
     size_t at, i, sector;
 
-    for (at = 0; at < records * 520; at += 520) {
-        if (memcmp(wanted.bytes + at, barrier, 8) == 0)
+    for (at = 0; at < records * 528; at += 528) {
+        if (memcmp(wanted.bytes + at + 8, barrier, 8) == 0)
             continue;
         sector = 0;
         for (i = 0; i < 8; i++)
-            sector = sector << 8 | wanted.bytes[at + i];
-        memcpy(image + sector * 512, wanted.bytes + at + 8, 512);
+            sector = sector << 8 | wanted.bytes[at + 8 + i];
+        memcpy(image + sector * 512, wanted.bytes + at + 16, 512);
     }
 }
 
@@ -335,7 +336,7 @@ static void gives(struct change c)
     }
     held_is(__LINE__);
     NUMBER(goofs_carry_out(medium.bytes, IMAGE, lent.bytes, wanted.length), 0);
-    land(held.bytes, wanted.length / 520);
+    land(held.bytes, wanted.length / 528);
     held_is(__LINE__);
     IS(goofs_check_result, goofs_check(medium.bytes, IMAGE), .code = 0);
 }
@@ -495,6 +496,7 @@ static void want_format_record(uint64_t position)
         memset(sector, 255, 512);
         want(289, sector);
     }
+    put(wanted.bytes, 8, position);
 }
 
 static goofs_length_result sample_record(uint64_t position, uint8_t *out, size_t room)
@@ -506,7 +508,8 @@ static void blank_medium(void) { memset(&medium, MEDIUM, sizeof medium); }
 
 static void sample(void)
 {
-    uint64_t position;
+    static uint8_t list[262 * 528]; /* all records of the format, joined */
+    size_t position;
 
     volume.files = 255;
     volume.extents = 4;
@@ -514,8 +517,9 @@ static void sample(void)
     volume.journal_at = 257;
     volume.reserve_at = 674;
     blank_medium();
-    for (position = 0; sample_record(position, lent.bytes, 520).code == 0; position++)
-        NUMBER(goofs_carry_out(medium.bytes, IMAGE, lent.bytes, 520), 0);
+    for (position = 0; position < 262; position++)
+        NUMBER(sample_record(position, list + position * 528, 528).code, 0);
+    NUMBER(goofs_carry_out(medium.bytes, IMAGE, list, sizeof list), 0);
 }
 
 /* 65,536 bytes, of which no sector is like another. */
@@ -554,7 +558,10 @@ static void sizes_of_results(void)
 static void macros(void)
 {
     NUMBER(GOOFS_SECTOR, 512);
-    NUMBER(GOOFS_RECORD, 520);
+    NUMBER(GOOFS_RECORD, 528);
+    NUMBER(GOOFS_POSITION, 0);
+    NUMBER(GOOFS_NUMBER, 8);
+    NUMBER(GOOFS_CONTENTS, 16);
     NUMBER(GOOFS_LONGEST_NAME, 476);
     NUMBER(GOOFS_LONGEST_TRANSFER, 65536);
     NUMBER(GOOFS_BARRIER, UINT64_C(18446744073709551615));
@@ -584,11 +591,11 @@ static void macros(void)
     NUMBER(GOOFS_STATE_WAITING, 1);
     NUMBER(GOOFS_STATE_DAMAGED, 2);
     NUMBER(GOOFS_STATE_UNFINISHED, 3);
-    NUMBER(GOOFS_CREATE_LIST, 5720);    /* 2 copies, journal, start mark, 2 targets, end mark, 4 barriers: 11 records */
-    NUMBER(GOOFS_DELETE_LIST, 546520);  /* 514 copies, 17 journal sectors, 2 marks, 514 targets, 4 barriers: 1,051 */
-    NUMBER(GOOFS_RESIZE_LIST, 545480);  /* 513 copies, 17 journal sectors, 2 marks, 513 targets, 4 barriers: 1,049 */
-    NUMBER(GOOFS_WRITE_LIST, 72800);    /* 129 data sectors, 2 copies, journal, 2 marks, 2 targets, 4 barriers: 140 */
-    NUMBER(GOOFS_RECOVER_LIST, 534040); /* 1,024 targets, end mark, 2 barriers: 1,027 */
+    NUMBER(GOOFS_CREATE_LIST, 5808);    /* 2 copies, journal, start mark, 2 targets, end mark, 4 barriers: 11 records */
+    NUMBER(GOOFS_DELETE_LIST, 554928);  /* 514 copies, 17 journal sectors, 2 marks, 514 targets, 4 barriers: 1,051 */
+    NUMBER(GOOFS_RESIZE_LIST, 553872);  /* 513 copies, 17 journal sectors, 2 marks, 513 targets, 4 barriers: 1,049 */
+    NUMBER(GOOFS_WRITE_LIST, 73920);    /* 129 data sectors, 2 copies, journal, 2 marks, 2 targets, 4 barriers: 140 */
+    NUMBER(GOOFS_RECOVER_LIST, 542256); /* 1,024 targets, end mark, 2 barriers: 1,027 */
 }
 
 static void format_position_by_position(void)
@@ -602,13 +609,18 @@ static void format_position_by_position(void)
     for (position = 0; position < 262; position++) { /* 1 + 1 + 1 + 255 + 1 + 1 + 1 + 1 records */
         want_format_record(position);
         lend();
-        IS(goofs_length_result, sample_record(position, lent.bytes, 519), .code = 14);
+        IS(goofs_length_result, sample_record(position, lent.bytes, 527), .code = 14);
         IS(goofs_length_result, sample_record(position, NULL, 0), .code = 14);
         lent_is(__LINE__, NULL, 0);
-        IS(goofs_length_result, sample_record(position, lent.bytes, position % 2 == 0 ? 520 : sizeof lent.bytes), .code = 0,
-           .length = 520);
-        lent_is(__LINE__, wanted.bytes, 520);
-        NUMBER(goofs_carry_out(medium.bytes, IMAGE, lent.bytes, 520), 0);
+        IS(goofs_length_result, sample_record(position, lent.bytes, position % 2 == 0 ? 528 : sizeof lent.bytes), .code = 0,
+           .length = 528);
+        lent_is(__LINE__, wanted.bytes, 528);
+        if (position > 0) { /* alone it is no list, until it is numbered anew */
+            NUMBER(goofs_carry_out(medium.bytes, IMAGE, lent.bytes, 528), 8);
+            held_is(__LINE__);
+            put(lent.bytes, 8, 0);
+        }
+        NUMBER(goofs_carry_out(medium.bytes, IMAGE, lent.bytes, 528), 0);
         land(held.bytes, 1);
         held_is(__LINE__);
         if (position == 1 || position == 259) { /* from the first superblock on until the second, the volume is unfinished */
@@ -639,8 +651,8 @@ static void geometry_is(uint64_t sectors, uint64_t files, uint64_t extents, uint
     wanted.length = 0;
     want(0, (superblock(held.bytes, 65535), held.bytes));
     lend();
-    IS(goofs_length_result, goofs_format_record(sectors, files, 0, 0, 0, 0, lent.bytes, 520), .code = 0, .length = 520);
-    lent_is(__LINE__, wanted.bytes, 520);
+    IS(goofs_length_result, goofs_format_record(sectors, files, 0, 0, 0, 0, lent.bytes, 528), .code = 0, .length = 528);
+    lent_is(__LINE__, wanted.bytes, 528);
 }
 
 static void no_geometry(uint64_t sectors, uint64_t files)
@@ -673,7 +685,7 @@ static void geometries(void)
 static void first_create(void)
 {
     static const uint64_t order[11] = {674, 675, 257, UINT64_MAX, 0, UINT64_MAX, 1, 2, UINT64_MAX, 0, UINT64_MAX}; /* P6 */
-    uint8_t contents[2][512], sector[8];
+    uint8_t contents[2][512], front[16];
     size_t k;
 
     sample();
@@ -681,11 +693,12 @@ static void first_create(void)
     root(contents[0], 1, 1001);
     entry(contents[1], (struct entry){.id = BEAM_ID, .mode = BEAM_MODE, .access_time = 1001, .change_time = 1001, .name = "beam"});
     want_commit(2, (const uint64_t[]){1, 2}, contents);
-    NUMBER(wanted.length, 5720);
+    NUMBER(wanted.length, 5808);
     GIVES(CREATE, "beam", .id = BEAM_ID, .mode = BEAM_MODE, .time = 1001);
     for (k = 0; k < 11; k++) {
-        put(sector, 8, order[k]);
-        bytes(__LINE__, "the sector of a record", lent.bytes + 520 * k, sector, 8);
+        put(front, 8, k);
+        put(front + 8, 8, order[k]);
+        bytes(__LINE__, "the position and sector of a record", lent.bytes + 528 * k, front, 16);
     }
     ENTRY_IS(0, .id = BEAM_ID, .mode = BEAM_MODE, .access_time = 1001, .change_time = 1001, .name = "beam");
     READS("beam", 0, 65536, NULL, 0);
@@ -738,7 +751,7 @@ static void writes_and_reads(void)
     entry(contents[0], (struct entry){.size = 3050, .version = 2, .id = BEAM_ID, .mode = BEAM_MODE, .access_time = 1001,
                                       .change_time = 900, .name = "beam"}); /* the clock may go back */
     want_commit(1, (const uint64_t[]){2}, contents);
-    NUMBER(wanted.length, 5200);
+    NUMBER(wanted.length, 5280);
     GIVES(WRITE, "beam", .at = 2950, .data = data + 40000, .data_length = 100, .time = 900);
 
     memcpy(expected, data, 2950);
@@ -781,7 +794,7 @@ static void longest_write(void)
                                       .change_time = 1004, .name = "gain"});
     table(contents[1], 0, FREE, FREE, FREE);
     want_commit(2, (const uint64_t[]){2, 289}, contents);
-    NUMBER(wanted.length, 139 * 520);
+    NUMBER(wanted.length, 139 * 528);
     GIVES(WRITE, "gain", .at = 0, .data = data, .data_length = 65536, .time = 1004);
     READS("gain", 0, 65536, data, 65536);
 
@@ -800,7 +813,7 @@ static void longest_write(void)
                                       .change_time = 1005, .name = "gain"});
     table(contents[1], 0, 1, FREE, FREE);
     want_commit(2, (const uint64_t[]){2, 289}, contents);
-    NUMBER(wanted.length, 140 * 520);
+    NUMBER(wanted.length, 140 * 528);
     GIVES(WRITE, "gain", .at = 1, .data = data, .data_length = 65536, .time = 1005);
     READS("gain", 1, 65536, data, 65536); /* over the extents' edge */
 }
@@ -839,7 +852,7 @@ static void resizes(void)
                                       .change_time = 1004, .name = "gain"});
     table(contents[1], 0, UINT64_C(0x00010000), FREE, FREE);
     want_commit(2, (const uint64_t[]){3, 289}, contents);
-    NUMBER(wanted.length, 139 * 520);
+    NUMBER(wanted.length, 139 * 528);
     GIVES(RESIZE, "gain", .at = 65536, .time = 1004);
     READS("gain", 0, 65536, expected, 65536);
 
@@ -859,7 +872,7 @@ static void resizes(void)
                                       .change_time = 1006, .name = "beam"});
     table(contents[1], FREE, UINT64_C(0x00010000), FREE, FREE);
     want_commit(2, (const uint64_t[]){2, 289}, contents);
-    NUMBER(wanted.length, 5720);
+    NUMBER(wanted.length, 5808);
     GIVES(RESIZE, "beam", .at = 0, .time = 1006);
     ENTRY_IS(0, .size = 0, .version = 3, .id = BEAM_ID, .mode = BEAM_MODE, .access_time = 1001, .change_time = 1006,
              .name = "beam");
@@ -883,7 +896,7 @@ static void deletes(void)
     memset(contents[1], 0, 512);
     table(contents[2], FREE, FREE, FREE, FREE);
     want_commit(3, (const uint64_t[]){1, 2, 289}, contents);
-    NUMBER(wanted.length, 6760);
+    NUMBER(wanted.length, 6864);
     GIVES(DELETE, "beam", .time = 1004);
     IS(goofs_find_result, goofs_find(medium.bytes, IMAGE, (const uint8_t *)"beam", 4), .code = 9);
     lend();
@@ -899,7 +912,7 @@ static void deletes(void)
     wanted.length = 0;
     root(contents[0], 4, 1005);
     want_commit(2, (const uint64_t[]){1, 3}, contents);
-    NUMBER(wanted.length, 5720);
+    NUMBER(wanted.length, 5808);
     GIVES(DELETE, "gain", .time = 1005);
 }
 
@@ -913,7 +926,7 @@ static void cut_before_the_start_mark(void)
     root(contents[0], 3, 1004);
     entry(contents[1], (struct entry){.id = 77, .access_time = 1004, .change_time = 1004, .name = "new"});
     want_commit(2, (const uint64_t[]){1, 4}, contents);
-    NUMBER(goofs_carry_out(medium.bytes, IMAGE, wanted.bytes, 4 * 520), 0); /* 2 copies, journal, barrier */
+    NUMBER(goofs_carry_out(medium.bytes, IMAGE, wanted.bytes, 4 * 528), 0); /* 2 copies, journal, barrier */
     IS(goofs_summary_result, goofs_summary(medium.bytes, IMAGE), .files = 255, .extents = 4, .extent_sectors = 128);
     IS(goofs_check_result, goofs_check(medium.bytes, IMAGE), .code = 0);
     lend();
@@ -927,7 +940,7 @@ static void cut_before_the_start_mark(void)
 /* A delete of "beam" whose groups A and B landed. */
 static void cut_after_the_start_mark(void)
 {
-    static uint8_t whole[IMAGE], tail[3120];
+    static uint8_t whole[IMAGE], tail[3168];
     uint8_t contents[3][512];
     int landed;
 
@@ -938,32 +951,34 @@ static void cut_after_the_start_mark(void)
     table(contents[2], FREE, FREE, FREE, FREE);
     want_commit(3, (const uint64_t[]){1, 2, 289}, contents);
     lend();
-    IS(goofs_change_result, goofs_delete(medium.bytes, IMAGE, (const uint8_t *)"beam", 4, 1004, lent.bytes, 6760), .length = 6760);
-    lent_is(__LINE__, wanted.bytes, 6760);
+    IS(goofs_change_result, goofs_delete(medium.bytes, IMAGE, (const uint8_t *)"beam", 4, 1004, lent.bytes, 6864), .length = 6864);
+    lent_is(__LINE__, wanted.bytes, 6864);
     memcpy(whole, medium.bytes, IMAGE);
     land(whole, 13);
 
     /* 3 copies, a journal sector, a barrier, the start mark, a barrier: 7 records landed. The other 6, which are 3 targets, a
-     * barrier, the end mark and a barrier, are what recovery gives: 3,120 bytes. */
-    memcpy(tail, wanted.bytes + 7 * 520, 3120);
+     * barrier, the end mark and a barrier, are what recovery gives: 3,168 bytes. */
+    memcpy(tail, wanted.bytes + 7 * 528, 3168);
+    for (landed = 0; landed < 6; landed++)
+        put(tail + landed * 528, 8, (uint64_t)landed);
     for (landed = 0; landed <= 3; landed++) { /* so many targets too, of the change or of a recovery that was cut */
-        NUMBER(goofs_carry_out(medium.bytes, IMAGE, wanted.bytes, (size_t)(7 + landed) * 520), 0);
+        NUMBER(goofs_carry_out(medium.bytes, IMAGE, wanted.bytes, (size_t)(7 + landed) * 528), 0);
         IS(goofs_summary_result, goofs_summary(medium.bytes, IMAGE), .files = 255, .extents = 4, .extent_sectors = 128, .state = 1,
            .entries = 3);
         ALL_REFUSE(NOT_THESE, medium.bytes, IMAGE, 5, 0, 0);
         hold();
         lend();
-        IS(goofs_length_result, goofs_recover(medium.bytes, IMAGE, lent.bytes, 3119), .code = 14);
+        IS(goofs_length_result, goofs_recover(medium.bytes, IMAGE, lent.bytes, 3167), .code = 14);
         IS(goofs_length_result, goofs_recover(medium.bytes, IMAGE, NULL, 0), .code = 14);
         lent_is(__LINE__, NULL, 0);
-        IS(goofs_length_result, goofs_recover(medium.bytes, IMAGE, lent.bytes, 3120), .code = 0, .length = 3120);
-        lent_is(__LINE__, tail, 3120);
+        IS(goofs_length_result, goofs_recover(medium.bytes, IMAGE, lent.bytes, 3168), .code = 0, .length = 3168);
+        lent_is(__LINE__, tail, 3168);
         lend();
-        IS(goofs_length_result, goofs_recover(medium.bytes, IMAGE, lent.bytes, GOOFS_RECOVER_LIST), .code = 0, .length = 3120);
-        lent_is(__LINE__, tail, 3120);
+        IS(goofs_length_result, goofs_recover(medium.bytes, IMAGE, lent.bytes, GOOFS_RECOVER_LIST), .code = 0, .length = 3168);
+        lent_is(__LINE__, tail, 3168);
         held_is(__LINE__);
     }
-    NUMBER(goofs_carry_out(medium.bytes, IMAGE, lent.bytes, 3120), 0);
+    NUMBER(goofs_carry_out(medium.bytes, IMAGE, lent.bytes, 3168), 0);
     bytes(__LINE__, "the image after recovery", medium.bytes, whole, IMAGE);
     IS(goofs_check_result, goofs_check(medium.bytes, IMAGE), .code = 0);
     IS(goofs_find_result, goofs_find(medium.bytes, IMAGE, (const uint8_t *)"beam", 4), .code = 9);
@@ -1161,12 +1176,27 @@ static void carrying_out(void)
     NUMBER(goofs_carry_out(medium.bytes, IMAGE, wanted.bytes, wanted.length - 1), 8); /* a part of a record; the rest is good */
     want(1313, first);                                                                /* the first sector behind the image */
     NUMBER(goofs_carry_out(medium.bytes, IMAGE, wanted.bytes, wanted.length), 8);
-    wanted.length -= 520;
+    wanted.length -= 528;
     want(UINT64_C(36028797018963968), first); /* 2^55: its place in bytes is 2^64 */
     NUMBER(goofs_carry_out(medium.bytes, IMAGE, wanted.bytes, wanted.length), 8);
-    wanted.bytes[2 * 520 - 1] = 1; /* the barrier's last byte */
-    NUMBER(goofs_carry_out(medium.bytes, IMAGE, wanted.bytes, 2 * 520), 8);
-    held_is(__LINE__); /* none has written anything */
+    wanted.bytes[2 * 528 - 1] = 1; /* the barrier's last byte */
+    NUMBER(goofs_carry_out(medium.bytes, IMAGE, wanted.bytes, 2 * 528), 8);
+    wanted.length = 0;
+    want(1312, first);
+    want_barrier();
+    want(7, second);
+    put(wanted.bytes + 528, 8, 2); /* positions 0, 2, 2 */
+    NUMBER(goofs_carry_out(medium.bytes, IMAGE, wanted.bytes, wanted.length), 8);
+    put(wanted.bytes + 2 * 528, 8, 1); /* 0, 2, 1: swapped */
+    NUMBER(goofs_carry_out(medium.bytes, IMAGE, wanted.bytes, wanted.length), 8);
+    put(wanted.bytes + 528, 8, 0); /* 0, 0, 1: doubled */
+    NUMBER(goofs_carry_out(medium.bytes, IMAGE, wanted.bytes, wanted.length), 8);
+    put(wanted.bytes + 528, 8, UINT64_C(4294967297)); /* 2^32 + 1: not cut to 32 bits */
+    put(wanted.bytes + 2 * 528, 8, 2);
+    NUMBER(goofs_carry_out(medium.bytes, IMAGE, wanted.bytes, wanted.length), 8);
+    NUMBER(goofs_carry_out(medium.bytes, IMAGE, wanted.bytes + 2 * 528, 528), 8); /* the first two dropped */
+    NUMBER(goofs_carry_out(medium.bytes, 511, wanted.bytes, wanted.length), 1);   /* 1 goes before 8 */
+    held_is(__LINE__);                                                            /* none has written anything */
 
     wanted.length = 0;
     want(1312, first);
@@ -1213,18 +1243,18 @@ static void longest_recovery(void)
         superblock(sector, 0);
         want(0, sector);
         want_barrier();
-        NUMBER(wanted.length, 1027 * 520);
+        NUMBER(wanted.length, 1027 * 528);
         NUMBER(wanted.length, GOOFS_RECOVER_LIST);
         IS(goofs_summary_result, goofs_summary(image, sizeof image), .files = 1024, .extents = 2, .extent_sectors = 128, .state = 1,
            .entries = 1024);
         lend();
         IS(goofs_length_result, goofs_recover(image, sizeof image, lent.bytes, GOOFS_RECOVER_LIST - 1), .code = 14);
         lent_is(__LINE__, NULL, 0);
-        IS(goofs_length_result, goofs_recover(image, sizeof image, lent.bytes, GOOFS_RECOVER_LIST), .code = 0, .length = 534040);
-        lent_is(__LINE__, wanted.bytes, 534040);
+        IS(goofs_length_result, goofs_recover(image, sizeof image, lent.bytes, GOOFS_RECOVER_LIST), .code = 0, .length = 542256);
+        lent_is(__LINE__, wanted.bytes, 542256);
         /* After the list has landed the volume is clean. The entries 0 to 3 are full of 255, so they have the mark of an occupied
          * one; entry 4 is full of 254, and that is no mark. */
-        NUMBER(goofs_carry_out(image, sizeof image, lent.bytes, 534040), 0);
+        NUMBER(goofs_carry_out(image, sizeof image, lent.bytes, 542256), 0);
         IS(goofs_summary_result, goofs_summary(image, sizeof image), .files = 1024, .extents = 2, .extent_sectors = 128);
         IS(goofs_check_result, goofs_check(image, sizeof image), .code = 7, .fault = 21, .place = 4);
     }
@@ -1269,30 +1299,30 @@ static int longest_delete_and_resize(void)
     }
     wanted.length = 0;
     want_commit(514, targets, contents); /* the entry's contents are zeros */
-    NUMBER(wanted.length, 1051 * 520);
+    NUMBER(wanted.length, 1051 * 528);
     NUMBER(wanted.length, GOOFS_DELETE_LIST);
     lend();
     IS(goofs_change_result, goofs_delete(image, length, (const uint8_t *)"beam", 4, 1001, lent.bytes, GOOFS_DELETE_LIST - 1),
        .code = 14);
     lent_is(__LINE__, NULL, 0);
     IS(goofs_change_result, goofs_delete(image, length, (const uint8_t *)"beam", 4, 1001, lent.bytes, GOOFS_DELETE_LIST), .code = 0,
-       .length = 546520);
-    lent_is(__LINE__, wanted.bytes, 546520);
+       .length = 554928);
+    lent_is(__LINE__, wanted.bytes, 554928);
 
     /* To size 0: the entry and the table, and a version of 4,294,967,295 is followed by 0. */
     entry(contents[1], (struct entry){.size = 0, .version = 0, .id = 9, .change_time = 1001, .name = "beam"});
     wanted.length = 0;
     want_commit(513, targets + 1, contents + 1);
-    NUMBER(wanted.length, 1049 * 520);
+    NUMBER(wanted.length, 1049 * 528);
     NUMBER(wanted.length, GOOFS_RESIZE_LIST);
     lend();
     IS(goofs_change_result, goofs_resize(image, length, (const uint8_t *)"beam", 4, 0, 1001, lent.bytes, GOOFS_RESIZE_LIST - 1),
        .code = 14);
     lent_is(__LINE__, NULL, 0);
     IS(goofs_change_result, goofs_resize(image, length, (const uint8_t *)"beam", 4, 0, 1001, lent.bytes, GOOFS_RESIZE_LIST),
-       .code = 0, .length = 545480);
-    lent_is(__LINE__, wanted.bytes, 545480);
-    NUMBER(goofs_carry_out(image, length, lent.bytes, 545480), 0);
+       .code = 0, .length = 553872);
+    lent_is(__LINE__, wanted.bytes, 553872);
+    NUMBER(goofs_carry_out(image, length, lent.bytes, 553872), 0);
     IS(goofs_find_result, goofs_find(image, length, (const uint8_t *)"beam", 4), .code = 0, .id = 9, .change_time = 1001,
        .name_length = 4);
     munmap(image, length);

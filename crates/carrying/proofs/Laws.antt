@@ -1,7 +1,7 @@
 -- Laws of carrying out: writes one after the other, and the answer by the code's tests. Assumes nothing.
 use Prim.Native.Nat.{ℕ, _+_, _*_, _/_, _%_, _<_}
 use mathlib.Core.Path.{_≡_, refl, sym, ap, _∙_}
-use mathlib.Core.Bool.{true, false, cond, not}
+use mathlib.Core.Bool.{Bool, true, false, cond, not, _||_, false≢true}
 use mathlib.Core.List.{List, [], _∷_, _++_}
 use native.Mathlib.Nat.{zero-add}
 use lib.Dec.{eqb, leb}
@@ -10,8 +10,8 @@ use borrow.Author.Tests.{eq-eqb, ne-eqb, leb-false}
 use Rattle.model.specs.Bytes.{beAt, bytesFrom, put}
 use Rattle.model.specs.Search.{anyBelow, allBelow, tabulate}
 use Rattle.model.specs.Refusals.{verdictOf, refusal, isWhole}
-use Rattle.model.specs.WriteList.{Record, barrierNumber, stored, recordSize, contentsStart}
-use Rattle.model.specs.CarryOut.{recordIn, recordsIn, badRecord, carryVerdict, carryAnswer, carryImage}
+use Rattle.model.specs.WriteList.{Record, barrierNumber, stored, recordSize, numberStart, contentsStart}
+use Rattle.model.specs.CarryOut.{positionIn, recordIn, recordsIn, badContents, badRecord, carryVerdict, carryAnswer, carryImage}
 use Rattle.laws.proofs.Bytes.{getD-bytesFrom}
 use Rattle.laws.proofs.Search.{allBelow-ext, tabulate-more}
 
@@ -25,22 +25,35 @@ stored-append (r ∷ a) b img = stored-append a b (cond (eqb (r .sector) barrier
 pub stored-more : (list : List ℕ) (k : ℕ) (img : List ℕ) → stored (tabulate (recordIn list) 0 (k + 1)) img ≡ stored (recordIn list k ∷ []) (stored (tabulate (recordIn list) 0 k) img)
 stored-more list k img = rw (tabulate-more (recordIn list) 0 k, zero-add k) (stored-append (tabulate (recordIn list) 0 k) (recordIn list k ∷ []) img)
 
--- ---- a record, by its number
+-- ---- a record, by its position and number
 
-module _ (list : List ℕ) (k s : ℕ) (is : s ≡ beAt list (k * recordSize) 8) where
-  pub barrier-bad : (sectors : ℕ) → s ≡ barrierNumber → not (allBelow (λ b. eqb (getD list (k * recordSize + contentsStart + b) 0) 0) 512) ≡ badRecord sectors list k
-  unfolding badRecord recordIn
-  barrier-bad sectors e =
-      rw (← is, eq-eqb _ _ e)
+or-right : (a b : Bool) → (a || b) ≡ false → b ≡ false
+or-right true b h = absurd (false≢true (sym h))
+or-right false b h = h
+
+-- a record of another position is bad
+pub position-bad : (list : List ℕ) (k p sectors : ℕ) → p ≡ beAt list (k * recordSize) 8 → (p ≡ k → ⊥) → true ≡ badRecord sectors list k
+unfolding badRecord positionIn
+position-bad list k p sectors is e = rw (← is, ne-eqb _ _ e)
+
+module _ (list : List ℕ) (k s : ℕ) (is : s ≡ beAt list (k * recordSize + numberStart) 8) where
+  pub barrier-bad : (sectors p : ℕ) → p ≡ beAt list (k * recordSize) 8 → p ≡ k → s ≡ barrierNumber
+      → not (allBelow (λ b. eqb (getD list (k * recordSize + contentsStart + b) 0) 0) 512) ≡ badRecord sectors list k
+  unfolding badRecord positionIn recordIn
+  barrier-bad sectors p at h e =
+      rw (← is, ← at, eq-eqb _ _ h, eq-eqb _ _ e)
       (ap not (sym (allBelow-ext _ _ 512 (λ b l. ap (λ x. eqb x 0) (getD-bytesFrom list (k * recordSize + contentsStart) 512 b l)))))
 
-  pub sector-bad : (sectors : ℕ) → (s ≡ barrierNumber → ⊥) → leb sectors s ≡ badRecord sectors list k
-  unfolding badRecord recordIn
-  sector-bad sectors e = rw (← is, ne-eqb _ _ e)
+  pub sector-bad : (sectors p : ℕ) → p ≡ beAt list (k * recordSize) 8 → p ≡ k → (s ≡ barrierNumber → ⊥) → leb sectors s ≡ badRecord sectors list k
+  unfolding badRecord positionIn recordIn
+  sector-bad sectors p at h e = rw (← is, ← at, eq-eqb _ _ h, ne-eqb _ _ e)
 
   -- a good record's sector lies in the image
   pub sector-inside : (sectors : ℕ) → (s ≡ barrierNumber → ⊥) → badRecord sectors list k ≡ false → s < sectors
-  sector-inside sectors e f = leb-false sectors s (sector-bad sectors e ∙ f)
+  unfolding badRecord recordIn
+  sector-inside sectors e f =
+      leb-false sectors s
+      (rw (← is, ne-eqb s barrierNumber e) at (or-right (not (eqb (positionIn list k) k)) (badContents sectors (recordIn list k)) f))
 
   pub barrier-stored : (img : List ℕ) → s ≡ barrierNumber → img ≡ stored (recordIn list k ∷ []) img
   unfolding stored recordIn

@@ -35,17 +35,20 @@ fn has_other(list: &[u8], at: usize) -> bool
     most != 0
 }
 
-// Whether record k is a barrier with other bytes, or lies outside an image of so many sectors.
+// Whether record k has another position, is a barrier with other bytes, or lies outside an image of so many sectors.
 fn is_bad(list: &[u8], k: usize, sectors: u64) -> bool
     requires { ⌜ (k + 1) * recordSize ≤ length (now list) ⌝ }
     ensures { λ r. ⌜ r ≡ badRecord sectors (now (list .entry)) k ⌝ }
 {
     let at = k * lists::RECORD_SIZE;
-    let s = fields::be64(list, at);
-    if s == 18446744073709551615 {
-        return has_other(list, at + lists::CONTENTS_START);
+    if fields::be64(list, at) == k as u64 {
+        let s = fields::be64(list, at + lists::NUMBER_START);
+        if s == 18446744073709551615 {
+            return has_other(list, at + lists::CONTENTS_START);
+        }
+        return sectors <= s;
     }
-    sectors <= s
+    true
 }
 
 // Whether one of the list's records is bad.
@@ -72,7 +75,7 @@ fn put_record(img: &mut [u8], list: &[u8], k: usize)
     ensures { λ _. ⌜ now (img .exit) ≡ stored (recordIn (now (list .entry)) k ∷ []) (now (img .entry)) ⌝ }
 {
     let at = k * lists::RECORD_SIZE;
-    let s = fields::be64(list, at);
+    let s = fields::be64(list, at + lists::NUMBER_START);
     if s == 18446744073709551615 {
         return;
     }

@@ -11,22 +11,22 @@ use Rattle.model.specs.Journal.{sourceAt, targetAt, entriesIn, journalSector}
 use Rattle.model.specs.Catalogue.{catalogueOf, entryOf}
 use Rattle.model.specs.Faults.{fault21, fault22, fault23, fault24, fault25, exact, fault26, firstFault}
 use Rattle.model.specs.Refusals.{verdictOf, isWhole, fitsImage, imageVerdict, soundVerdict, judged}
-use Rattle.model.specs.WriteList.{barrier, recordBytes}
+use Rattle.model.specs.WriteList.{barrier, recordBytes, listBytes}
 use Rattle.model.specs.Summary.{superblockVerdict, superblockAnswer, checkAnswer}
 use Rattle.model.specs.Listing.{listConditions, listedBy, listVerdict, listAnswer}
 use Rattle.model.specs.Recovery.{isData, isMetadata, goodEntry, replayedSector, replayed, recoveryGroups, recoveryVerdict}
 use Rattle.model.specs.Search.{concatenated}
 use Rattle.model.specs.Format.{doubled, geometryFor, canFormat, formatVerdict, formatAnswer}
-use Rattle.model.specs.CarryOut.{recordIn, badRecord, carryVerdict, carryAnswer}
+use Rattle.model.specs.CarryOut.{positionIn, recordIn, badRecord, carryVerdict, carryAnswer}
 use Rattle.cases.specs.Edges.{Edges}
 
 pub edges : Edges
 unfolding beAt beBytes bytesFrom put onesSector zeroSector scan anyBelow allBelow countBelow equalBytes tabulate concatenated inBounds isVolume geometryIn journalLength stateOf newSuperblock
     rootIn newRootSector nameIn entryIn isOccupied hasZero badName newEntrySector updatedEntrySector tableFile tableOffset takenIn sourceAt targetAt
     entriesIn journalSector catalogueOf entryOf fault21 fault22 fault23 fault24 fault25 exact fault26 firstFault
-    verdictOf isWhole fitsImage imageVerdict soundVerdict judged barrier recordBytes superblockVerdict superblockAnswer checkAnswer
+    verdictOf isWhole fitsImage imageVerdict soundVerdict judged barrier recordBytes listBytes superblockVerdict superblockAnswer checkAnswer
     listConditions listedBy listVerdict listAnswer isData isMetadata goodEntry replayedSector replayed recoveryGroups recoveryVerdict
-    doubled geometryFor canFormat formatVerdict formatAnswer recordIn badRecord carryVerdict carryAnswer
+    doubled geometryFor canFormat formatVerdict formatAnswer positionIn recordIn badRecord carryVerdict carryAnswer
 edges = record {
   table-sectors = refl;
   files = refl;
@@ -44,4 +44,5 @@ edges = record {
   table = refl;
   journals = refl;
   lists = refl;
+  numbered = refl;
 }

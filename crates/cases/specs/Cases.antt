@@ -29,7 +29,7 @@ shape extents extentSectors = record { files = 255; extents = extents; «extent_
 
 -- a format that is accepted: its first record is given
 abbrev pub Accepted : ℕ → Type 0
-Accepted sectors = formatAnswer (formatOf sectors) 0 520 ≡ record { number = 0; length = 520 }
+Accepted sectors = formatAnswer (formatOf sectors) 0 528 ≡ record { number = 0; length = 528 }
 
 -- the numbers by which P1 is known: T, K, journal, table, data, reserve
 abbrev pub areas : Geometry → List ℕ
@@ -42,14 +42,14 @@ abbrev pub called : ℕ → List ℕ
 called letter = letter ∷ []
 
 abbrev pub makes : ℕ → Feed
-makes letter = whole (create (called letter) letter 0 0 5720)
+makes letter = whole (create (called letter) letter 0 0 5808)
 
 -- 65,536 bytes, which an extent of the sample holds
 abbrev pub extentful : List ℕ
 extentful = replicate 65536 0
 
 abbrev pub fills : ℕ → Feed
-fills letter = whole (write (called letter) 0 extentful 0 72280)
+fills letter = whole (write (called letter) 0 extentful 0 73392)
 
 -- "three such files full", and one of them deleted; the latest call stands first
 abbrev pub full : List Feed
@@ -97,7 +97,7 @@ pub record Cases : Type 0 where
   -- P2 1,057 sectors give N 2; P3 1,056 refused 8
   pub P2 : geometryFor 1057 255 ≡ shape 2 128
   pub P2-accepted : Accepted 1057
-  pub P3 : formatAnswer (formatOf 1056) 0 520 .number ≡ 8
+  pub P3 : formatAnswer (formatOf 1056) 0 528 .number ≡ 8
   -- P4 8,389,408 give S 128, N 65,535; P5 8,389,409 give S 256, N 32,768
   pub P4 : geometryFor 8389408 255 ≡ shape 65535 128
   pub P4-accepted : Accepted 8389408
@@ -105,14 +105,14 @@ pub record Cases : Type 0 where
   pub P5-accepted : Accepted 8389409
   -- P6 first create in the sample writes sectors 674, 675, 257, barrier, 0, barrier, 1, 2, barrier, 0, barrier: 11 records, 5,720 bytes
   pub P6 : (d : Disk) → order (groups d (createPlan (known []) d (called 97) 97 0 0)) ≡ (674 ∷ 675 ∷ 257 ∷ behind (1 ∷ 2 ∷ []))
-  pub P6-length : (d : Disk) → listLength (groups d (createPlan (known []) d (called 97) 97 0 0)) ≡ 5720
-  pub P6-answer : answer (create (called 97) 97 0 0 5720) (after []) ≡ changed (record { verdict = done; length = 11 * 520 })
+  pub P6-length : (d : Disk) → listLength (groups d (createPlan (known []) d (called 97) 97 0 0)) ≡ 5808
+  pub P6-answer : answer (create (called 97) 97 0 0 5808) (after []) ≡ changed (record { verdict = done; length = 11 * 528 })
   -- P7 65,536 bytes into that empty file: 139 records; 65,537 is refused 8
   pub P7 : (d : Disk) → order (groups d (writePlan (known (makes 97 ∷ [])) 0 d 0 extentful 0))
       ≡ (tabulate (λ k. k) 290 128 ++ (674 ∷ 675 ∷ 257 ∷ behind (2 ∷ 289 ∷ [])))
-  pub P7-length : answer (write (called 97) 0 extentful 0 72280) (after (makes 97 ∷ [])) ≡ changed (record { verdict = done; length = 139 * 520 })
+  pub P7-length : answer (write (called 97) 0 extentful 0 73392) (after (makes 97 ∷ [])) ≡ changed (record { verdict = done; length = 139 * 528 })
   pub P7-table : table (fills 97 ∷ makes 97 ∷ []) ≡ (owned 0 0 ∷ none ∷ none ∷ none ∷ [])
-  pub P7-refused : numberOf (answer (write (called 97) 0 (replicate 65537 0) 0 72280) (after (makes 97 ∷ []))) ≡ 8
+  pub P7-refused : numberOf (answer (write (called 97) 0 (replicate 65537 0) 0 73392) (after (makes 97 ∷ []))) ≡ 8
   -- P8 three such files full, then one byte more: 13
   pub P8 : numberOf (answer oneMore (after full)) ≡ 13
   pub P8-table : table full ≡ (owned 0 0 ∷ owned 1 0 ∷ owned 2 0 ∷ none ∷ [])
@@ -122,7 +122,7 @@ pub record Cases : Type 0 where
   pub P9-after : table (whole oneMore ∷ deleted) ≡ (owned 0 0 ∷ owned 0 1 ∷ owned 2 0 ∷ none ∷ [])
   pub P9-order : (d : Disk) → order (groups d (writePlan (known deleted) 0 d 65536 (1 ∷ []) 0)) ≡ (418 ∷ 674 ∷ 675 ∷ 257 ∷ behind (2 ∷ 289 ∷ []))
   -- P10 name of 476 bytes taken, of 477 refused 8
-  pub P10 : numberOf (answer (create (replicate 476 97) 97 0 0 5720) (after [])) ≡ 0
-  pub P10-refused : numberOf (answer (create (replicate 477 97) 97 0 0 5720) (after [])) ≡ 8
+  pub P10 : numberOf (answer (create (replicate 476 97) 97 0 0 5808) (after [])) ≡ 0
+  pub P10-refused : numberOf (answer (create (replicate 477 97) 97 0 0 5808) (after [])) ≡ 8
   -- longest delete: 514 targets, 17 journal sectors, 1,051 records
   pub longest : recordCount 0 514 ≡ 1051

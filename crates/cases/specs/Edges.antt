@@ -21,7 +21,7 @@ use Rattle.model.specs.Entry.{newEntrySector, updatedEntrySector}
 use Rattle.model.specs.Table.{takenIn}
 use Rattle.model.specs.Journal.{journalSector}
 use Rattle.model.specs.Refusals.{refusal, done}
-use Rattle.model.specs.WriteList.{barrier, sectorWrite, recordBytes}
+use Rattle.model.specs.WriteList.{barrier, sectorWrite, recordBytes, listBytes}
 use Rattle.model.specs.Summary.{superblockAnswer, stateCode, located, areaAt, checkAnswer}
 use Rattle.model.specs.Listing.{listAnswer}
 use Rattle.model.specs.Recovery.{recoveryVerdict}
@@ -34,7 +34,7 @@ use Rattle.cases.specs.Literals.{padded, cleanSuperblock, sampleBytes}
 
 -- what format answers when asked for the first record of a volume of so many files and sectors
 abbrev pub formats : ℕ → ℕ → ℕ
-formats files sectors = formatAnswer (record { sectors = sectors; files = files; id = 1; mode = 0; time = 0 }) 0 520 .number
+formats files sectors = formatAnswer (record { sectors = sectors; files = files; id = 1; mode = 0; time = 0 }) 0 528 .number
 
 -- what the summary answers of a superblock
 abbrev pub ofSuperblock : List ℕ → Summarized
@@ -93,7 +93,7 @@ pub record Edges : Type 0 where
   -- "up to 2^31": the most sectors, and one more
   pub most-sectors : (formats 255 (2 ^ 47 + 800) ∷ formats 255 (2 ^ 47 + 801) ∷ []) ≡ (0 ∷ 8 ∷ [])
   -- the last record of the sample's format, and the position after it
-  pub positions : (formatAnswer sample 261 520 .number ∷ formatAnswer sample 262 520 .number ∷ formatAnswer sample 261 519 .number ∷ []) ≡ (0 ∷ 9 ∷ 14 ∷ [])
+  pub positions : (formatAnswer sample 261 528 .number ∷ formatAnswer sample 262 528 .number ∷ formatAnswer sample 261 527 .number ∷ []) ≡ (0 ∷ 9 ∷ 14 ∷ [])
   -- 2 another magic, version 2; 3 F 254, N 1, S 127; none of the three
   pub superblocks : (ofSuperblock (padded (0 ∷ 255 ∷ 0 ∷ 4 ∷ 0 ∷ 0 ∷ 0 ∷ 128 ∷ 47 ∷ 71 ∷ 79 ∷ 111 ∷ 47 ∷ 70 ∷ 83 ∷ 47 ∷ 0 ∷ 1 ∷ [])) .number
       ∷ ofSuperblock (padded (0 ∷ 255 ∷ 0 ∷ 4 ∷ 0 ∷ 0 ∷ 0 ∷ 128 ∷ 47 ∷ 71 ∷ 111 ∷ 111 ∷ 47 ∷ 70 ∷ 83 ∷ 47 ∷ 0 ∷ 2 ∷ [])) .number
@@ -132,7 +132,11 @@ pub record Edges : Type 0 where
       ∷ recovers (waits 674 1 675 1) ∷ recovers (λ k. newSuperblock (shape 4 128) 1025) ∷ recovers (λ k. newSuperblock (shape 4 128) 65535) ∷ [])
       ≡ (0 ∷ 0 ∷ 6 ∷ 6 ∷ 6 ∷ 6 ∷ 6 ∷ 6 ∷ 6 ∷ 6 ∷ 4 ∷ [])
   -- carrying out: an empty list, one write, a barrier; 8 part of a record, a sector outside the image, a barrier whose last byte is 1; 1
-  pub lists : (carries [] ∷ carries (recordBytes (sectorWrite 0 onesSector)) ∷ carries (recordBytes barrier)
-      ∷ carries (recordBytes barrier ++ (0 ∷ [])) ∷ carries (recordBytes (sectorWrite 1 onesSector))
-      ∷ carries (replicate 8 255 ++ replicate 511 0 ++ (1 ∷ [])) ∷ carryAnswer [] [] .number ∷ [])
+  pub lists : (carries [] ∷ carries (recordBytes 0 (sectorWrite 0 onesSector)) ∷ carries (recordBytes 0 barrier)
+      ∷ carries (recordBytes 0 barrier ++ (0 ∷ [])) ∷ carries (recordBytes 0 (sectorWrite 1 onesSector))
+      ∷ carries (replicate 8 0 ++ replicate 8 255 ++ replicate 511 0 ++ (1 ∷ [])) ∷ carryAnswer [] [] .number ∷ [])
       ≡ (0 ∷ 0 ∷ 0 ∷ 8 ∷ 8 ∷ 8 ∷ 1 ∷ [])
+  -- positions 0, 1 of two barriers; 8 the first dropped, doubled, both swapped, one that starts at 1; the last dropped isn't seen
+  pub numbered : (carries (listBytes 0 (barrier ∷ barrier ∷ [])) ∷ carries (recordBytes 1 barrier) ∷ carries (recordBytes 0 barrier ++ recordBytes 0 barrier)
+      ∷ carries (recordBytes 1 barrier ++ recordBytes 0 barrier) ∷ carries (listBytes 1 (barrier ∷ barrier ∷ [])) ∷ carries (listBytes 0 (barrier ∷ [])) ∷ [])
+      ≡ (0 ∷ 8 ∷ 8 ∷ 8 ∷ 8 ∷ 0 ∷ [])

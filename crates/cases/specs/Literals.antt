@@ -76,9 +76,9 @@ pub record Literals : Type 0 where
   -- journal of the sample's first create: source 674, target 1; source 675, target 2
   pub journal : journalSector (λ k. 674 + k) (λ k. 1 + k) 2 0
       ≡ padded (0 ∷ 0 ∷ 0 ∷ 0 ∷ 0 ∷ 0 ∷ 2 ∷ 162 ∷ 0 ∷ 0 ∷ 0 ∷ 0 ∷ 0 ∷ 0 ∷ 0 ∷ 1 ∷ 0 ∷ 0 ∷ 0 ∷ 0 ∷ 0 ∷ 0 ∷ 2 ∷ 163 ∷ 0 ∷ 0 ∷ 0 ∷ 0 ∷ 0 ∷ 0 ∷ 0 ∷ 2 ∷ [])
-  -- a barrier's 520 bytes: number 18446744073709551615; and a record's, for sector 674
-  pub barrier-bytes : recordBytes barrier ≡ (255 ∷ 255 ∷ 255 ∷ 255 ∷ 255 ∷ 255 ∷ 255 ∷ 255 ∷ []) ++ replicate 512 0
-  pub record-bytes : recordBytes (sectorWrite 674 onesSector) ≡ (0 ∷ 0 ∷ 0 ∷ 0 ∷ 0 ∷ 0 ∷ 2 ∷ 162 ∷ []) ++ replicate 512 255
+  -- a barrier's 528 bytes: position 3, number 18446744073709551615; and a record's, position 258, for sector 674
+  pub barrier-bytes : recordBytes 3 barrier ≡ (0 ∷ 0 ∷ 0 ∷ 0 ∷ 0 ∷ 0 ∷ 0 ∷ 3 ∷ 255 ∷ 255 ∷ 255 ∷ 255 ∷ 255 ∷ 255 ∷ 255 ∷ 255 ∷ []) ++ replicate 512 0
+  pub record-bytes : recordBytes 258 (sectorWrite 674 onesSector) ≡ (0 ∷ 0 ∷ 0 ∷ 0 ∷ 0 ∷ 0 ∷ 1 ∷ 2 ∷ 0 ∷ 0 ∷ 0 ∷ 0 ∷ 0 ∷ 0 ∷ 2 ∷ 162 ∷ []) ++ replicate 512 255
   -- states by the journal's length
   pub states : (stateOf 0 ∷ stateOf 1 ∷ stateOf 1024 ∷ stateOf 1025 ∷ stateOf 65534 ∷ stateOf 65535 ∷ [])
       ≡ (Clean ∷ Waiting 1 ∷ Waiting 1024 ∷ Damaged ∷ Damaged ∷ Unfinished ∷ [])

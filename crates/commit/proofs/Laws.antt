@@ -77,12 +77,12 @@ module _ (g : Geometry) (l : List ℕ) (ds ts : Group) (numbers m : List ℕ) (k
       ∙ ap (λ (r : Record). bytesFrom (r .contents) 0 512) (getD-append-add ds cs j barrier)
       ∙ ap (λ (c : List ℕ). bytesFrom c 0 512) (copy-at (staging g (length ts)) ts j h)
 
-  targets-same : listBytes (stagedTargets m (length ds) numbers (length ts)) ≡ listBytes ts
+  targets-same : (p : ℕ) → listBytes p (stagedTargets m (length ds) numbers (length ts)) ≡ listBytes p ts
   unfolding stagedTargets
-  targets-same =
+  targets-same p =
       bytes-tabulate (λ j. sectorWrite (getD numbers j 0) (bytesFrom m ((length ds + j) * recordSize + contentsStart) 512)) (λ j. getD ts j barrier) (length ts)
-      (λ j h. ap₂ (λ (s : ℕ) (c : List ℕ). recordBytes (sectorWrite s c)) (noted j h) (copied j h) ∙ written (getD ts j barrier .sector) (getD ts j barrier .contents))
-      ∙ ap listBytes (tabulate-list barrier ts)
+      (λ q j h. ap₂ (λ (s : ℕ) (c : List ℕ). recordBytes q (sectorWrite s c)) (noted j h) (copied j h) ∙ written q (getD ts j barrier .sector) (getD ts j barrier .contents)) p
+      ∙ ap (listBytes p) (tabulate-list barrier ts)
 
 length-staged : (list : List ℕ) (from : ℕ) (numbers : List ℕ) (n : ℕ) → length (stagedTargets list from numbers n) ≡ n
 unfolding stagedTargets
@@ -103,12 +103,12 @@ groups-split g d p =
     ap (λ (x : List Record). closedAfter x rest) (append-assoc front journal (barrier ∷ [])) ∙ closed-front front (journal ++ (barrier ∷ [])) rest
 
 -- groups whose third has other records of the same bytes
-module _ (x a b c c′ e : Group) (same : listBytes c ≡ listBytes c′) where
-  bytes-third : listBytes (x ++ closed (a ∷ b ∷ c ∷ e ∷ [])) ≡ listBytes (x ++ closed (a ∷ b ∷ c′ ∷ e ∷ []))
-  bytes-third = simp (listBytes-append, same)
+module _ (x a b c c′ e : Group) (same : (p : ℕ) → listBytes p c ≡ listBytes p c′) (many : length c ≡ length c′) where
+  bytes-third : (p : ℕ) → listBytes p (x ++ closed (a ∷ b ∷ c ∷ e ∷ [])) ≡ listBytes p (x ++ closed (a ∷ b ∷ c′ ∷ e ∷ []))
+  bytes-third p = simp (listBytes-append, length-append, same, many)
 
-  length-third : length c ≡ length c′ → length (x ++ closed (a ∷ b ∷ c ∷ e ∷ [])) ≡ length (x ++ closed (a ∷ b ∷ c′ ∷ e ∷ []))
-  length-third n = simp (length-append, n)
+  length-third : length (x ++ closed (a ∷ b ∷ c ∷ e ∷ [])) ≡ length (x ++ closed (a ∷ b ∷ c′ ∷ e ∷ []))
+  length-third = simp (length-append, many)
 
 module _ {g : Geometry} {l numbers m m′ : List ℕ} {k n j : ℕ} (d : Disk) (p : Plan) where
   -- what was staged and then committed by `put_commit`: the plan's groups, in the list that the call was lent
@@ -122,12 +122,12 @@ module _ {g : Geometry} {l numbers m m′ : List ℕ} {k n j : ℕ} (d : Disk) (
       let journal : Group = journalOf g (staging g (length ts)) (sectorsOf ts) in
       let staged : Group = stagedTargets m (length ds) numbers (length ts) in
       let at : k - n ≡ length ds = omega (arith, staged-count st) in
-      let same : listBytes staged ≡ listBytes ts = targets-same g l ds ts numbers m k st room in
+      let same : (p : ℕ) → listBytes p staged ≡ listBytes p ts = targets-same g l ds ts numbers m k st room in
       let many : length staged ≡ length ts = length-staged m (length ds) numbers (length ts) in
       let behind : Emitted m k (closed (journal ∷ superblockGroup d (length ts) ∷ staged ∷ superblockGroup d 0 ∷ [])) m′ j = rw (at, e, st .numbered) at q in
       rw (groups-split g d p)
       (emitted-same
-      (bytes-third front journal (superblockGroup d (length ts)) staged ts (superblockGroup d 0) same)
+      (bytes-third front journal (superblockGroup d (length ts)) staged ts (superblockGroup d 0) same many 0)
       (length-third front journal (superblockGroup d (length ts)) staged ts (superblockGroup d 0) same many)
       (emitted-then (st .emitted) behind))
 

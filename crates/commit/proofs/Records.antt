@@ -32,22 +32,24 @@ bytesFrom-right a b l o n h =
 
 -- ---- what stands in a list
 
-contents-of : (r : Record) → bytesFrom (recordBytes r) 8 512 ≡ bytesFrom (r .contents) 0 512
+contents-of : (p : ℕ) (r : Record) → bytesFrom (recordBytes p r) contentsStart 512 ≡ bytesFrom (r .contents) 0 512
 unfolding recordBytes
-contents-of r =
-    bytesFrom-right (beBytes 8 (r .sector)) (bytesFrom (r .contents) 0 512) 8 0 512 (length-beBytes 8 (r .sector))
+contents-of p r =
+    let l : length (beBytes 8 p ++ beBytes 8 (r .sector)) ≡ contentsStart = simp (length-append, length-beBytes) in
+    bytesFrom-right (beBytes 8 p ++ beBytes 8 (r .sector)) (bytesFrom (r .contents) 0 512) contentsStart 0 512 l
     ∙ bytesFrom-bytesFrom (r .contents) 0 512 0 512 (omega arith)
 
-contents-in : (rs : List Record) (i : ℕ) → i < length rs → bytesFrom (listBytes rs) (i * recordSize + contentsStart) 512 ≡ bytesFrom (getD rs i barrier .contents) 0 512
+contents-in : (p : ℕ) (rs : List Record) (i : ℕ) → i < length rs
+    → bytesFrom (listBytes p rs) (i * recordSize + contentsStart) 512 ≡ bytesFrom (getD rs i barrier .contents) 0 512
 unfolding listBytes
-contents-in [] i h = absurd (not-suc-le-zero h)
-contents-in (r ∷ rs) zero h =
-    bytesFrom-left (recordBytes r) (listBytes rs) 8 512 (omega (arith, length-recordBytes r)) ∙ contents-of r
-contents-in (r ∷ rs) (suc i) h =
+contents-in p [] i h = absurd (not-suc-le-zero h)
+contents-in p (r ∷ rs) zero h =
+    bytesFrom-left (recordBytes p r) (listBytes (suc p) rs) contentsStart 512 (omega (arith, length-recordBytes p r)) ∙ contents-of p r
+contents-in p (r ∷ rs) (suc i) h =
     let e : suc i * recordSize + contentsStart ≡ recordSize + (i * recordSize + contentsStart) = omega arith in
-    ap (λ o. bytesFrom (recordBytes r ++ listBytes rs) o 512) e
-    ∙ bytesFrom-right (recordBytes r) (listBytes rs) recordSize (i * recordSize + contentsStart) 512 (length-recordBytes r)
-    ∙ contents-in rs i (omega arith)
+    ap (λ o. bytesFrom (recordBytes p r ++ listBytes (suc p) rs) o 512) e
+    ∙ bytesFrom-right (recordBytes p r) (listBytes (suc p) rs) recordSize (i * recordSize + contentsStart) 512 (length-recordBytes p r)
+    ∙ contents-in (suc p) rs i (omega arith)
 
 -- the contents of record i of those that were put in
 pub contents-emitted : (l : List ℕ) (k : ℕ) (rs : List Record) (i : ℕ) → i < length rs → (k + length rs) * recordSize ≤ length l
@@ -55,15 +57,15 @@ pub contents-emitted : (l : List ℕ) (k : ℕ) (rs : List Record) (i : ℕ) →
 unfolding emit
 contents-emitted l k rs i h room =
     let e : (k + i) * recordSize + contentsStart ≡ k * recordSize + (i * recordSize + contentsStart) = omega arith in
-    let n : length (listBytes rs) ≡ length rs * recordSize = length-listBytes rs in
+    let n : length (listBytes k rs) ≡ length rs * recordSize = length-listBytes k rs in
     ap (λ o. bytesFrom (emit l k rs) o 512) e
-    ∙ bytesFrom-put-in l (k * recordSize) (listBytes rs) (i * recordSize + contentsStart) 512 (omega arith) (omega arith)
-    ∙ contents-in rs i h
+    ∙ bytesFrom-put-in l (k * recordSize) (listBytes k rs) (i * recordSize + contentsStart) 512 (omega arith) (omega arith)
+    ∙ contents-in k rs i h
 
 -- what stands before them stays
 pub bytesFrom-before : (l : List ℕ) (k : ℕ) (rs : List Record) (from n : ℕ) → from + n ≤ k * recordSize → bytesFrom (emit l k rs) from n ≡ bytesFrom l from n
 unfolding emit
-bytesFrom-before l k rs from n h = bytesFrom-put-other l (k * recordSize) (listBytes rs) from n (λ i a b c d. omega arith)
+bytesFrom-before l k rs from n h = bytesFrom-put-other l (k * recordSize) (listBytes k rs) from n (λ i a b c d. omega arith)
 
 -- one record more of a list by index
 pub emitted-more : {l m m′ : List ℕ} {k j r : ℕ} (f : ℕ → Record) → Emitted l k (tabulate f 0 j) m (k + j) → Emitted m (k + j) (f j ∷ []) m′ r
@@ -75,24 +77,28 @@ emitted-more {l} {m} {m′} {k} {j} {r} f p q =
 -- ---- records of the same bytes
 
 -- only the contents' first 512 bytes are written
-pub written : (s : ℕ) (c : List ℕ) → recordBytes (sectorWrite s (bytesFrom c 0 512)) ≡ recordBytes (sectorWrite s c)
+pub written : (p s : ℕ) (c : List ℕ) → recordBytes p (sectorWrite s (bytesFrom c 0 512)) ≡ recordBytes p (sectorWrite s c)
 unfolding recordBytes
-written s c = ap (λ (b : List ℕ). beBytes 8 s ++ b) (bytesFrom-bytesFrom c 0 512 0 512 (omega arith))
+written p s c = ap (λ (b : List ℕ). beBytes 8 p ++ beBytes 8 s ++ b) (bytesFrom-bytesFrom c 0 512 0 512 (omega arith))
 
-bytes-one : (r : Record) → listBytes (r ∷ []) ≡ recordBytes r ++ []
+bytes-one : (p : ℕ) (r : Record) → listBytes p (r ∷ []) ≡ recordBytes p r ++ []
 unfolding listBytes
-bytes-one r = refl
+bytes-one p r = refl
 
-pub bytes-tabulate : (f h : ℕ → Record) (n : ℕ) → ((j : ℕ) → j < n → recordBytes (f j) ≡ recordBytes (h j)) → listBytes (tabulate f 0 n) ≡ listBytes (tabulate h 0 n)
+pub bytes-tabulate : (f h : ℕ → Record) (n : ℕ) → ((p j : ℕ) → j < n → recordBytes p (f j) ≡ recordBytes p (h j))
+    → (p : ℕ) → listBytes p (tabulate f 0 n) ≡ listBytes p (tabulate h 0 n)
 unfolding tabulate
-bytes-tabulate f h zero e = refl
-bytes-tabulate f h (suc n) e =
-    let q : recordBytes (f (0 + n)) ≡ recordBytes (h (0 + n)) = e (0 + n) (omega arith) in
-    listBytes-append (tabulate f 0 n) (f (0 + n) ∷ [])
-    ∙ ap₂ (λ (a b : List ℕ). a ++ b) (bytes-tabulate f h n (λ j l. e j (omega arith))) (bytes-one (f (0 + n)) ∙ ap (λ (b : List ℕ). b ++ []) q ∙ sym (bytes-one (h (0 + n))))
-    ∙ sym (listBytes-append (tabulate h 0 n) (h (0 + n) ∷ []))
+bytes-tabulate f h zero e p = refl
+bytes-tabulate f h (suc n) e p =
+    let at = p + length (tabulate f 0 n) in
+    let q : recordBytes at (f (0 + n)) ≡ recordBytes at (h (0 + n)) = e at (0 + n) (omega arith) in
+    let same : p + length (tabulate f 0 n) ≡ p + length (tabulate h 0 n) = ap (λ k. p + k) (length-tabulate f 0 n ∙ sym (length-tabulate h 0 n)) in
+    listBytes-append p (tabulate f 0 n) (f (0 + n) ∷ [])
+    ∙ ap₂ (λ (a b : List ℕ). a ++ b) (bytes-tabulate f h n (λ k j l. e k j (omega arith)) p)
+    (bytes-one at (f (0 + n)) ∙ ap (λ (b : List ℕ). b ++ []) q ∙ sym (bytes-one at (h (0 + n))) ∙ ap (λ k. listBytes k (h (0 + n) ∷ [])) same)
+    ∙ sym (listBytes-append p (tabulate h 0 n) (h (0 + n) ∷ []))
 
-pub emitted-same : {l m : List ℕ} {k j : ℕ} {a b : List Record} → listBytes a ≡ listBytes b → length a ≡ length b → Emitted l k a m j → Emitted l k b m j
+pub emitted-same : {l m : List ℕ} {k j : ℕ} {a b : List Record} → listBytes k a ≡ listBytes k b → length a ≡ length b → Emitted l k a m j → Emitted l k b m j
 unfolding emit
 emitted-same {l} {m} {k} {j} {a} {b} e n p =
     record { holds = p .holds ∙ ap (λ (x : List ℕ). put l (k * recordSize) x) e; next = p .next ∙ ap (λ x. k + x) n }

@@ -11,7 +11,8 @@ use borrow.Author.Tests.{lt-ltb, le-ltb, lt-leb, le-leb}
 use Rattle.model.specs.declared.Geometry.{Geometry}
 use Rattle.model.specs.Geometry.{extentSectors, inBounds}
 use Rattle.model.specs.Refusals.{verdictOf, refusal, done}
-use Rattle.model.specs.WriteList.{recordSize, emit}
+use Rattle.model.specs.Bytes.{put}
+use Rattle.model.specs.WriteList.{recordSize, recordBytes}
 use Rattle.model.specs.Opened.{Bounded}
 use Rattle.model.proofs.Areas.{bounds}
 use Rattle.laws.proofs.Booleans.{and-right}
@@ -86,7 +87,7 @@ module _ (a : Format) (p : ℕ) (out : List ℕ) (g : Geometry) (is : g ≡ geom
     refused-14 h r = refused-as 14 refl (by-tests ∙ rw (can, lt-leb _ _ h, lt-ltb _ _ r))
 
     pub accepted : p < formatCount g → recordSize ≤ length out
-        → (record { number = 0; length = recordSize } ≡ formatAnswer a p (length out)) × (emit out 0 (formatRecord g a p ∷ []) ≡ formatOutput a p out)
+        → (record { number = 0; length = recordSize } ≡ formatAnswer a p (length out)) × (put out 0 (recordBytes p (formatRecord g a p)) ≡ formatOutput a p out)
     unfolding verdictOf formatAnswer formatOutput
     accepted h r =
         let v : formatVerdict a p (length out) ≡ done = by-tests ∙ rw (can, lt-leb _ _ h, le-ltb _ _ r) in

@@ -5,15 +5,14 @@ use model::Geometry;
 use model::Sector;
 ghost use mathlib.Core.Path.{_≡_};
 ghost use mathlib.Core.Bool.{_&&_};
-ghost use mathlib.Core.List.{[], _∷_};
 ghost use Prim.Native.Nat.{_+_, _-_, _≤_, _<_};
 ghost use lib.Dec.{leb};
 ghost use lib.ListN.{length};
-ghost use Rattle.model.specs.Bytes.{zeroSector, onesSector};
+ghost use Rattle.model.specs.Bytes.{put, zeroSector, onesSector};
 ghost use Rattle.model.specs.Geometry.{tableAt, inBounds};
 ghost use Rattle.model.specs.Superblock.{newSuperblock};
 ghost use Rattle.model.specs.Root.{newRootSector};
-ghost use Rattle.model.specs.WriteList.{recordSize, Emitted};
+ghost use Rattle.model.specs.WriteList.{sectorWrite, barrier, recordSize, recordBytes};
 ghost use Rattle.model.specs.Format.{Format, doubled, geometryFor, formatCount, formatRecord, formatAnswer, formatOutput};
 ghost use Rattle.model.specs.Opened.{Bounded};
 
@@ -132,38 +131,54 @@ fn table_sector(g: Geometry, j: u64) -> Sector
     Sector(t.0 + j)
 }
 
-// The record at a position, into the output's front.
-fn put_record(g: Geometry, id: u64, mode: u32, time: u32, p: u64, out: &mut [u8]) -> usize
+// The record of position p at the output's front: a sector's number and its new contents.
+fn put_sector(out: &mut [u8], p: u64, sector: Sector, s: [u8; 512])
+    requires { ⌜ recordSize ≤ length (now out) ⌝ }
+    ensures { λ _. ⌜ now (out .exit) ≡ put (now (out .entry)) 0 (recordBytes p (sectorWrite (sector .0) s)) ⌝ }
+{
+    lists::put_at(out, 0, p, sector, &s, 0)
+}
+
+// The record of position p at the output's front is a barrier.
+fn put_barrier(out: &mut [u8], p: u64)
+    requires { ⌜ recordSize ≤ length (now out) ⌝ }
+    ensures { λ _. ⌜ now (out .exit) ≡ put (now (out .entry)) 0 (recordBytes p barrier) ⌝ }
+{
+    put_sector(out, p, Sector(18446744073709551615), [0u8; 512])
+}
+
+// The record of a position, with this position, at the output's front.
+fn put_record(g: Geometry, id: u64, mode: u32, time: u32, p: u64, out: &mut [u8])
     requires { ⌜ Bounded g ⌝ }
     requires { ⌜ p < formatCount g ⌝ }
     requires { ⌜ recordSize ≤ length (now out) ⌝ }
-    ensures { λ r. ⌜ ((a : Format) → a .id ≡ id → a .mode ≡ mode → a .time ≡ time → Emitted (now (out .entry)) 0 (formatRecord g a p ∷ []) (now (out .exit)) r) ⌝ }
+    ensures { λ _. ⌜ ((a : Format) → a .id ≡ id → a .mode ≡ mode → a .time ≡ time → now (out .exit) ≡ put (now (out .entry)) 0 (recordBytes p (formatRecord g a p))) ⌝ }
 {
     if p == 0 {
-        return lists::put_sector(out, 0, Sector(0), new_superblock(g, 65535));
+        return put_sector(out, p, Sector(0), new_superblock(g, 65535));
     }
     if p == 1 {
-        return lists::put_barrier(out, 0);
+        return put_barrier(out, p);
     }
     if p == 2 {
-        return lists::put_sector(out, 0, Sector(1), new_root(id, mode, time));
+        return put_sector(out, p, Sector(1), new_root(id, mode, time));
     }
     if p < 3 + g.files {
-        return lists::put_sector(out, 0, FileIndex(p - 3).sector(), zero_sector());
+        return put_sector(out, p, FileIndex(p - 3).sector(), zero_sector());
     }
     let table_end = 3 + g.files + g.table_sectors();
     if p < table_end {
-        return lists::put_sector(
+        return put_sector(
             out,
-            0,
+            p,
             table_sector(g, p - 3 - g.files),
             free_table_sector(),
         );
     }
     if p == table_end + 1 {
-        return lists::put_sector(out, 0, Sector(0), new_superblock(g, 0));
+        return put_sector(out, p, Sector(0), new_superblock(g, 0));
     }
-    lists::put_barrier(out, 0)
+    put_barrier(out, p)
 }
 
 // A refusal's other numbers are 0.

@@ -1,27 +1,30 @@
 -- Laws of write lists: a record's bytes, and emissions that follow one another. Assumes nothing.
-use Prim.Native.Nat.{ℕ, _+_, _*_, _≤_}
+use Prim.Native.Nat.{ℕ, suc, _+_, _*_, _≤_}
 use mathlib.Core.Path.{_≡_, refl, ap, sym, _∙_}
 use mathlib.Core.List.{List, [], _∷_, _++_, append-assoc, append-nil}
 use native.Mathlib.Nat.{add-zero}
 use native.Mathlib.Omega.{arith}
 use lib.ListN.{length, length-append}
 use Rattle.model.specs.Bytes.{beBytes, bytesFrom, put}
-use Rattle.model.specs.WriteList.{Record, sectorWrite, recordSize, contentsStart, recordBytes, listBytes, emit, Emitted}
+use Rattle.model.specs.WriteList.{Record, sectorWrite, recordSize, numberStart, contentsStart, recordBytes, listBytes, emit, Emitted}
 use Rattle.laws.proofs.Bytes.{length-beBytes, length-bytesFrom, length-put, bytesFrom-all, put-append, put-nil, put-in}
 
-pub length-recordBytes : (r : Record) → length (recordBytes r) ≡ recordSize
+pub length-recordBytes : (p : ℕ) (r : Record) → length (recordBytes p r) ≡ recordSize
 unfolding recordBytes
-length-recordBytes r = simp (length-append, length-beBytes, length-bytesFrom)
+length-recordBytes p r = simp (length-append, length-beBytes, length-bytesFrom)
 
-pub listBytes-append : (a b : List Record) → listBytes (a ++ b) ≡ listBytes a ++ listBytes b
+pub listBytes-append : (p : ℕ) (a b : List Record) → listBytes p (a ++ b) ≡ listBytes p a ++ listBytes (p + length a) b
 unfolding listBytes
-listBytes-append [] b = refl
-listBytes-append (r ∷ a) b = ap (λ (x : List ℕ). recordBytes r ++ x) (listBytes-append a b) ∙ sym (append-assoc (recordBytes r) (listBytes a) (listBytes b))
+listBytes-append p [] b = ap (λ k. listBytes k b) (sym (add-zero p))
+listBytes-append p (r ∷ a) b =
+    let e : suc p + length a ≡ p + suc (length a) = omega arith in
+    ap (λ (x : List ℕ). recordBytes p r ++ x) (listBytes-append (suc p) a b ∙ ap (λ k. listBytes (suc p) a ++ listBytes k b) e)
+    ∙ sym (append-assoc (recordBytes p r) (listBytes (suc p) a) (listBytes (p + suc (length a)) b))
 
-pub length-listBytes : (a : List Record) → length (listBytes a) ≡ length a * recordSize
+pub length-listBytes : (p : ℕ) (a : List Record) → length (listBytes p a) ≡ length a * recordSize
 unfolding listBytes
-length-listBytes [] = refl
-length-listBytes (r ∷ a) = simp (length-append, length-recordBytes) (omega (arith, length-listBytes a))
+length-listBytes p [] = refl
+length-listBytes p (r ∷ a) = simp (length-append, length-recordBytes) (omega (arith, length-listBytes (suc p) a))
 
 pub emit-nil : (l : List ℕ) (k : ℕ) → emit l k [] ≡ l
 unfolding emit listBytes
@@ -30,13 +33,25 @@ emit-nil l k = put-nil l (k * recordSize)
 pub emit-append : (l : List ℕ) (k : ℕ) (a b : List Record) → emit l k (a ++ b) ≡ emit (emit l k a) (k + length a) b
 unfolding emit
 emit-append l k a b =
-    let e : k * recordSize + length (listBytes a) ≡ (k + length a) * recordSize = omega (arith, length-listBytes a) in
+    let e : k * recordSize + length (listBytes k a) ≡ (k + length a) * recordSize = omega (arith, length-listBytes k a) in
     rw (listBytes-append, put-append, e)
 
--- one record, as a number and then 512 bytes
-pub emit-run : (l : List ℕ) (k s : ℕ) (c : List ℕ) → emit l k (sectorWrite s c ∷ []) ≡ put (put l (k * recordSize) (beBytes 8 s)) (k * recordSize + contentsStart) (bytesFrom c 0 512)
-unfolding emit listBytes recordBytes
-emit-run l k s c = rw (append-nil, put-append, length-beBytes)
+-- one record at a place, as its position, a number and then 512 bytes
+pub record-put : (l : List ℕ) (at p s : ℕ) (c : List ℕ)
+    → put l at (recordBytes p (sectorWrite s c)) ≡ put (put (put l at (beBytes 8 p)) (at + numberStart) (beBytes 8 s)) (at + contentsStart) (bytesFrom c 0 512)
+unfolding recordBytes
+record-put l at p s c =
+    let e : length (beBytes 8 p ++ beBytes 8 s) ≡ contentsStart = simp (length-append, length-beBytes) in
+    rw (put-append l at (beBytes 8 p ++ beBytes 8 s) (bytesFrom c 0 512), put-append l at (beBytes 8 p) (beBytes 8 s), e, length-beBytes)
+
+pub emit-one : (l : List ℕ) (k : ℕ) (r : Record) → emit l k (r ∷ []) ≡ put l (k * recordSize) (recordBytes k r)
+unfolding emit listBytes
+emit-one l k r = rw append-nil
+
+pub emit-run : (l : List ℕ) (k s : ℕ) (c : List ℕ)
+    → emit l k (sectorWrite s c ∷ [])
+    ≡ put (put (put l (k * recordSize) (beBytes 8 k)) (k * recordSize + numberStart) (beBytes 8 s)) (k * recordSize + contentsStart) (bytesFrom c 0 512)
+emit-run l k s c = emit-one l k (sectorWrite s c) ∙ record-put l (k * recordSize) k s c
 
 -- bytes stored into the contents of a record that is emitted already
 pub emit-patched : (l : List ℕ) (k s : ℕ) (c : List ℕ) (o : ℕ) (vs : List ℕ) → length c ≡ 512 → o + length vs ≤ 512
@@ -45,7 +60,7 @@ emit-patched l k s c o vs h r =
     let a : bytesFrom c 0 512 ≡ c = bytesFrom-all c 512 h in
     let b : bytesFrom (put c o vs) 0 512 ≡ put c o vs = bytesFrom-all (put c o vs) 512 (length-put c o vs ∙ h) in
     rw (emit-run l k s c, emit-run l k s (put c o vs), a, b)
-    (put-in (put l (k * recordSize) (beBytes 8 s)) (k * recordSize + contentsStart) c o vs (omega arith))
+    (put-in (put (put l (k * recordSize) (beBytes 8 k)) (k * recordSize + numberStart) (beBytes 8 s)) (k * recordSize + contentsStart) c o vs (omega arith))
 
 -- ---- what emitting calls compose by
 

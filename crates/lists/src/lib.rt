@@ -7,12 +7,14 @@ ghost use lib.ListN.{length};
 ghost use Rattle.model.specs.Bytes.{bytesFrom, put};
 ghost use Rattle.model.specs.Disk.{view};
 ghost use Rattle.model.specs.Superblock.{withJournalLength};
-ghost use Rattle.model.specs.WriteList.{sectorWrite, barrier, recordSize, Emitted};
+ghost use Rattle.model.specs.WriteList.{sectorWrite, barrier, recordSize, recordBytes, Emitted};
 
-// A record's bytes, and where in them its contents start.
-pub const RECORD_SIZE: usize = 520;
+// How many bytes a record has, and where in them its sector's number and its contents start.
+pub const RECORD_SIZE: usize = 528;
 
-pub const CONTENTS_START: usize = 8;
+pub const NUMBER_START: usize = 8;
+
+pub const CONTENTS_START: usize = 16;
 
 // Copies 512 bytes of `src` from `from` to `dst` at `at`. The array between shows the compiler that nothing overlaps: both copies
 // become one memory move.
@@ -24,6 +26,17 @@ pub fn copy_sector(src: &[u8], from: usize, dst: &mut [u8], at: usize)
     let mut a = [0u8; 512];
     fields::copy_bytes(src, from, &mut a, 0, 512);
     fields::copy_bytes(&a, 0, dst, at, 512);
+}
+
+// The record of position p, at any place: a sector's number and its new contents, the 512 bytes of `src` from `from` on.
+pub fn put_at(list: &mut [u8], at: usize, p: u64, sector: Sector, src: &[u8], from: usize)
+    requires { ⌜ at + recordSize ≤ length (now list) ⌝ }
+    requires { ⌜ from + 512 ≤ length (now src) ⌝ }
+    ensures { λ _. ⌜ now (list .exit) ≡ put (now (list .entry)) at (recordBytes p (sectorWrite (sector .0) (bytesFrom (now (src .entry)) from 512))) ⌝ }
+{
+    fields::put_be(list, at, 8, p);
+    fields::put_be(list, at + NUMBER_START, 8, sector.0);
+    copy_sector(src, from, list, at + CONTENTS_START);
 }
 
 // Record k: a sector's number and its new contents. The answer is the next position.
@@ -40,9 +53,7 @@ pub fn put_from(list: &mut [u8], k: usize, sector: Sector, src: &[u8], from: usi
     requires { ⌜ from + 512 ≤ length (now src) ⌝ }
     ensures { λ r. ⌜ Emitted (now (list .entry)) k (sectorWrite (sector .0) (bytesFrom (now (src .entry)) from 512) ∷ []) (now (list .exit)) r ⌝ }
 {
-    let at = k * RECORD_SIZE;
-    fields::put_be(list, at, 8, sector.0);
-    copy_sector(src, from, list, at + CONTENTS_START);
+    put_at(list, k * RECORD_SIZE, k as u64, sector, src, from);
     k + 1
 }
 

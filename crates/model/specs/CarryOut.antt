@@ -1,5 +1,5 @@
 -- "Carrying out: 1 for the image; 8 if the list isn't whole records, a number lies outside the image, or a barrier has other
--- bytes; else all writes in order."
+-- bytes; else all writes in order." And 8 for "a list whose positions aren't 0, 1, 2 and so on, before it writes anything" (T-09).
 use Prim.Native.Nat.{ℕ, _+_, _*_, _/_, _%_}
 use mathlib.Core.Bool.{Bool, cond, not, _||_}
 use mathlib.Core.List.{List, [], _∷_}
@@ -10,20 +10,28 @@ use Rattle.model.specs.declared.Verdict.{Verdict}
 use Rattle.model.specs.Bytes.{beAt, bytesFrom}
 use Rattle.model.specs.Search.{anyBelow, allBelow, tabulate}
 use Rattle.model.specs.Refusals.{verdictOf, given, refusal, isWhole}
-use Rattle.model.specs.WriteList.{Record, barrierNumber, recordSize, stored}
+use Rattle.model.specs.WriteList.{Record, barrierNumber, recordSize, numberStart, contentsStart, stored}
 
--- record k of a list, and all its whole records
+-- the position that record k of a list carries; the record; and all its whole records
+unfoldable pub positionIn : List ℕ → ℕ → ℕ
+positionIn list k = beAt list (k * recordSize) 8
+
 unfoldable pub recordIn : List ℕ → ℕ → Record
-recordIn list k = record { sector = beAt list (k * recordSize) 8; contents = bytesFrom list (k * recordSize + 8) 512 }
+recordIn list k = record {
+  sector = beAt list (k * recordSize + numberStart) 8;
+  contents = bytesFrom list (k * recordSize + contentsStart) 512;
+}
 
 unfoldable pub recordsIn : List ℕ → List Record
 recordsIn list = tabulate (recordIn list) 0 (length list / recordSize)
 
--- record k of a list for an image of so many sectors is bad; a barrier's number is none of a sector
+-- a record for an image of so many sectors is bad, but for its position; a barrier's number is none of a sector
+abbrev pub badContents : ℕ → Record → Bool
+badContents sectors r = cond (eqb (r .sector) barrierNumber) (not (allBelow (λ b. eqb (getD (r .contents) b 0) 0) 512)) (leb sectors (r .sector))
+
+-- record k of a list is bad
 unfoldable pub badRecord : ℕ → List ℕ → ℕ → Bool
-badRecord sectors list k =
-    let r = recordIn list k in
-    cond (eqb (r .sector) barrierNumber) (not (allBelow (λ b. eqb (getD (r .contents) b 0) 0) 512)) (leb sectors (r .sector))
+badRecord sectors list k = not (eqb (positionIn list k) k) || badContents sectors (recordIn list k)
 
 unfoldable pub carryVerdict : List ℕ → List ℕ → Verdict
 carryVerdict img list =

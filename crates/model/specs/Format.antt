@@ -7,13 +7,13 @@ use lib.ListN.{length}
 use Rattle.model.specs.declared.Geometry.{Geometry}
 use Rattle.model.specs.declared.Verdict.{Verdict}
 use Rattle.model.specs.declared.Formatted.{Formatted}
-use Rattle.model.specs.Bytes.{zeroSector, onesSector}
+use Rattle.model.specs.Bytes.{put, zeroSector, onesSector}
 use Rattle.model.specs.Search.{tabulate}
 use Rattle.model.specs.Geometry.{inBounds, tableSectors, superblockAt, rootAt, entryAt, tableAt}
 use Rattle.model.specs.Superblock.{newSuperblock}
 use Rattle.model.specs.Root.{newRootSector}
 use Rattle.model.specs.Refusals.{verdictOf, given, refusal}
-use Rattle.model.specs.WriteList.{Record, sectorWrite, barrier, recordSize, emit, stored}
+use Rattle.model.specs.WriteList.{Record, sectorWrite, barrier, recordSize, recordBytes, stored}
 
 -- a format's arguments: sector count, F, and the root's id, mode and time
 pub record Format : Type 0 where
@@ -63,9 +63,10 @@ formatVerdict a p room =
 unfoldable pub formatAnswer : Format → ℕ → ℕ → Formatted
 formatAnswer a p room = given (formatVerdict a p room) (record { number = 0; length = recordSize }) (λ v. record { number = v .number; length = 0 })
 
+-- the record is put at the output's front and carries its position, so that all of them joined in order are a list (T-09)
 unfoldable pub formatOutput : Format → ℕ → List ℕ → List ℕ
 formatOutput a p out =
-    given (formatVerdict a p (length out)) (emit out 0 (formatRecord (geometryFor (a .sectors) (a .files)) a p ∷ [])) (λ v. out)
+    given (formatVerdict a p (length out)) (put out 0 (recordBytes p (formatRecord (geometryFor (a .sectors) (a .files)) a p))) (λ v. out)
 
 -- the image on which all records of the format landed in order
 unfoldable pub formattedImage : Format → List ℕ → List ℕ

@@ -1,7 +1,7 @@
--- Write lists: "records of 520 bytes, no header: sector number (8), contents (512)"; "A list has four groups, each closed by a
--- barrier: (A) data sectors in file order, then copies, then journal sectors; (B) superblock with length n; (C) the n targets in
+-- Write lists: "Each record becomes 528 bytes: its position in the list, from 0, in 8 bytes, then the 520 as before" (request T-09),
+-- which are "sector number (8), contents (512)"; "A list has four groups, each closed by a barrier: (A) data sectors in file order, then copies, then journal sectors; (B) superblock with length n; (C) the n targets in
 -- rising order; (D) superblock with length 0."
-use Prim.Native.Nat.{ℕ, _+_, _*_, _-_, _^_}
+use Prim.Native.Nat.{ℕ, suc, _+_, _*_, _-_, _^_}
 use mathlib.Core.Path.{_≡_}
 use mathlib.Core.Bool.{cond}
 use mathlib.Core.List.{List, [], _∷_, _++_, map}
@@ -35,23 +35,27 @@ barrierNumber = 2 ^ 64 - 1
 unfoldable pub barrier : Record
 barrier = sectorWrite barrierNumber zeroSector
 
--- a record's bytes, and where in them its contents start
+-- how many bytes a record has, and where in them its sector's number and its contents start
 abbrev pub recordSize : ℕ
-recordSize = 520
+recordSize = 528
+
+abbrev pub numberStart : ℕ
+numberStart = 8
 
 abbrev pub contentsStart : ℕ
-contentsStart = 8
+contentsStart = 16
 
-unfoldable pub recordBytes : Record → List ℕ
-recordBytes r = beBytes 8 (r .sector) ++ bytesFrom (r .contents) 0 512
+-- the bytes of a record at a position, and of records from a position on
+unfoldable pub recordBytes : ℕ → Record → List ℕ
+recordBytes p r = beBytes 8 p ++ beBytes 8 (r .sector) ++ bytesFrom (r .contents) 0 512
 
-unfoldable pub listBytes : List Record → List ℕ
-listBytes [] = []
-listBytes (r ∷ rs) = recordBytes r ++ listBytes rs
+unfoldable pub listBytes : ℕ → List Record → List ℕ
+listBytes p [] = []
+listBytes p (r ∷ rs) = recordBytes p r ++ listBytes (suc p) rs
 
 -- a lent list with records put in from position k: "bytes past the list stay"
 unfoldable pub emit : List ℕ → ℕ → List Record → List ℕ
-emit list k rs = put list (k * recordSize) (listBytes rs)
+emit list k rs = put list (k * recordSize) (listBytes k rs)
 
 -- what a function that emits leaves: the records es in the list from position k, and the next position
 pub record Emitted (l : List ℕ) (k : ℕ) (es : List Record) (m : List ℕ) (j : ℕ) : Type 0 where

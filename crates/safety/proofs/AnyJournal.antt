@@ -237,12 +237,13 @@ module _ (img : List ℕ) (n room : ℕ) (st : stateOn (view img) ≡ Waiting n)
       let P = Carriable (length img) in
       let b = few-sectors g (volume-bounds g (length img) (view img superblockAt) volume) in
       let low : (w : Record) → w .sector < dataAt g → InImage (length img) w → P w = λ w l h. toSector h (omega (arith, b .0, b .1)) in
+      let long : length (closed (C ∷ (last ∷ []) ∷ [])) * recordSize ≡ (n + 3) * recordSize = length-recovery g d n good in
       let c : All P (C ++ (last ∷ [])) =
       all-append P C (last ∷ [])
       (replayed-by g d n P (λ k l. let t = metadata-lt g _ (target-metadata g d n good k l) in low _ t (in-image _ _ t (length-view img _)))) (low last (omega arith) last-in, tt) in
       subst (ListCarries img) (sym (when-done (length img) (view img) _ (begun-recovers img first-begun) room accepted))
       (record {
-        whole = carries-out img (closed (C ∷ (last ∷ []) ∷ [])) (volume .whole) (all-closed P (isBarrier refl) (C ∷ (last ∷ []) ∷ []) c);
+        whole = carries-out img (closed (C ∷ (last ∷ []) ∷ [])) (volume .whole) (all-closed P (isBarrier refl) (C ∷ (last ∷ []) ∷ []) c) (omega (arith, few));
         cut = λ x. cut-bytes x (C ∷ (last ∷ []) ∷ []) img (all-fit (length img) (C ++ (last ∷ [])) c)
             (all-map (InImage (length img)) NoBarrier (λ w h. h .number) (C ++ (last ∷ [])) (all-append (InImage (length img)) C (last ∷ []) C-in (last-in, tt)));
       })

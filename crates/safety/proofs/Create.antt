@@ -124,6 +124,7 @@ module _ (L : Ledger) (img : List ℕ) (rep : Rep L img) (name : List ℕ) (id m
           rising = (omega arith, (omega arith, tt));
           usable = tt;
           own = tt;
+          short = omega arith;
           wholeData = tt;
           wholeTargets = (length-updatedRootSector time (view img rootAt) ∙ length-view img 1, (length-newEntry name id mode time, tt));
         }

@@ -102,6 +102,7 @@ module _ (L : Ledger) (img : List ℕ) (rep : Rep L img) (name : List ℕ) (time
           rising = (omega arith, (omega arith, freed-rising L img i 0 (suc (entryAt i)) (omega arith)));
           usable = tt;
           own = tt;
+          short = omega arith;
           wholeData = tt;
           wholeTargets = (length-updatedRootSector time (view img rootAt) ∙ length-view img 1, (length-zeroSector, freed-whole L img i 0));
         }

@@ -65,7 +65,7 @@ abbrev pub Whole : Record → Type 0
 Whole w = length (w .contents) ≡ 512
 
 -- at least one target and no more than the reserve has copies of and a waiting volume's journal entries; targets in rising order in
--- root, directory and table, data sectors in usable extents, none of them twice; all of 512 bytes
+-- root, directory and table, data sectors in usable extents, none of them twice, and no more than 65,536 bytes can touch; all of 512 bytes
 pub record WellFormed (g : Geometry) (p : Plan) : Type 0 where
   pub nonempty : 0 < length (p .targets)
   pub few : length (p .targets) ≤ reserveExtents g * extentSectors g
@@ -74,6 +74,7 @@ pub record WellFormed (g : Geometry) (p : Plan) : Type 0 where
   pub rising : Rising 0 (p .targets)
   pub usable : All (UsableSector g) (p .dataSectors)
   pub own : Own (p .dataSectors)
+  pub short : length (p .dataSectors) ≤ 129
   pub wholeData : All Whole (p .dataSectors)
   pub wholeTargets : All Whole (p .targets)
 

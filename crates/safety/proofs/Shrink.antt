@@ -134,6 +134,7 @@ module _ (L : Ledger) (img : List ℕ) (i z time : ℕ) where
           rising = (omega arith, freed-rising L img i n (suc (entryAt i)) (omega arith));
           usable = tt;
           own = tt;
+          short = omega arith;
           wholeData = tt;
           wholeTargets = (length-updatedEntrySector z time (view img (entryAt i)) ∙ length-view img (entryAt i), freed-whole L img i n);
         }

@@ -21,7 +21,7 @@ use Rattle.model.specs.Entry.{updatedEntrySector}
 use Rattle.model.specs.Table.{tableSectorOf, takenIn}
 use Rattle.model.specs.Catalogue.{catalogueOf, isPart, entryOf, sectorOf, fileByte, fileBytes}
 use Rattle.model.specs.WriteList.{Plan, Record, Group, sectorWrite}
-use Rattle.model.specs.Write.{heldExtents, fileSectorAt, writePlan}
+use Rattle.model.specs.Write.{heldExtents, fileSectorAt, dataSector, touchedSectors, writePlan}
 use Rattle.model.specs.Ledger.{Ledger, File, catalogue, withFile, updatedEntry, written}
 use Rattle.laws.proofs.Booleans.{range-yes}
 use Rattle.laws.proofs.Bytes.{length-put, length-bytesFrom, getD-put, getD-bytesFrom}
@@ -91,6 +91,10 @@ module _ (L : Ledger) (img : List ℕ) (rep : Rep L img) (i : ℕ) (f : File) (o
         rising = (omega arith, rising b);
         usable = writes-usable L img rep i f offset bytes w;
         own = writes-own L img rep i f offset bytes w;
+        short =
+            let n : length (writes L img i offset bytes) ≡ touchedSectors offset (length bytes) =
+            length-tabulate (dataSector (catalogue L) i (view img) offset bytes) (offset / 512) (touchedSectors offset (length bytes)) in
+            omega (arith, w .short);
         wholeData = writes-whole L img rep i f offset bytes w;
         wholeTargets = (length-updatedEntrySector z time (view img (entryAt i)) ∙ length-view img (entryAt i), whole b);
       }

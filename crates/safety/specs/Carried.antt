@@ -1,5 +1,5 @@
 -- WHAT CARRYING OUT ASKS OF A LIST AND LEAVES: "1 for the image; 8 if the list isn't whole records, a number lies outside the image, or a
--- barrier has other bytes; else all writes in order."
+-- barrier has other bytes; else all writes in order." And 8 for "a list whose positions aren't 0, 1, 2 and so on".
 use Prim.Native.Nat.{ℕ, _/_, _%_, _<_}
 use mathlib.Core.Path.{_≡_}
 use mathlib.Core.Logic.{_≢_}
@@ -7,7 +7,7 @@ use mathlib.Core.List.{List}
 use lib.ListN.{length, getD}
 use Rattle.model.specs.Disk.{view}
 use Rattle.model.specs.WriteList.{barrierNumber, recordSize}
-use Rattle.model.specs.CarryOut.{recordIn}
+use Rattle.model.specs.CarryOut.{positionIn, recordIn}
 
 -- how many records a list has; record p of it is a barrier
 abbrev pub recordsOf : List ℕ → ℕ
@@ -23,10 +23,11 @@ IsWrite list p = recordIn list p .sector ≢ barrierNumber
 abbrev pub WholeSectors : List ℕ → Type 0
 WholeSectors img = (0 < length img) × (length img % 512 ≡ 0)
 
--- an image of whole sectors, and whole records for sectors in it, and barriers of zero bytes
+-- an image of whole sectors; whole records numbered from 0 on, for sectors in it; and barriers of zero bytes
 pub record Acceptable (img list : List ℕ) : Type 0 where
   pub image : WholeSectors img
   pub records : length list % recordSize ≡ 0
+  pub positions : (p : ℕ) → p < recordsOf list → positionIn list p ≡ p
   pub inside : (p : ℕ) → p < recordsOf list → IsWrite list p → recordIn list p .sector < length img / 512
   pub barriers : (p : ℕ) → p < recordsOf list → IsBarrier list p → (b : ℕ) → b < 512 → getD (recordIn list p .contents) b 0 ≡ 0
 

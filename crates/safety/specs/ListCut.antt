@@ -1,6 +1,6 @@
 -- A list of bytes as it is carried out: its groups are what its barriers close, and a cut of it is a cut of these groups. And a
--- format whose records are asked for and carried out one after the other.
-use Prim.Native.Nat.{ℕ, zero, suc}
+-- format whose records are asked for one after the other and joined.
+use Prim.Native.Nat.{ℕ}
 use mathlib.Core.Bool.{cond}
 use mathlib.Core.List.{List, [], _∷_}
 use lib.Dec.{eqb}
@@ -8,7 +8,7 @@ use lib.ListN.{length}
 use Rattle.model.specs.Bytes.{bytesFrom}
 use Rattle.model.specs.Search.{concatenated}
 use Rattle.model.specs.WriteList.{Record, Group, barrierNumber, stored}
-use Rattle.model.specs.CarryOut.{recordsIn, carryImage}
+use Rattle.model.specs.CarryOut.{recordsIn}
 use Rattle.model.specs.Cut.{Cut, landed}
 use Rattle.model.specs.Format.{Format, geometryFor, formatCount, formatAnswer, formatOutput}
 
@@ -27,13 +27,7 @@ groupsIn (r ∷ rs) = let rest = groupsIn rs in cond (eqb (r .sector) barrierNum
 unfoldable pub cutImage : Cut → List ℕ → List ℕ → List ℕ
 cutImage x list img = stored (landed x (groupsIn (recordsIn list))) img
 
--- the image on which a format's first n records were carried out, each as soon as it was asked for with the buffer outs gives
-unfoldable pub formatCarried : Format → (ℕ → List ℕ) → ℕ → List ℕ → List ℕ
-formatCarried a outs zero img = img
-formatCarried a outs (suc n) img =
-    carryImage (formatCarried a outs n img) (bytesFrom (formatOutput a n (outs n)) 0 (formatAnswer a n (length (outs n)) .length))
-
--- the bytes of a format's records, one after the other, each asked for with the buffer outs gives
+-- a format's records joined to a list, in order, each asked for with the buffer outs gives
 unfoldable pub formatList : Format → (ℕ → List ℕ) → List ℕ
 formatList a outs =
     concatenated (λ p. bytesFrom (formatOutput a p (outs p)) 0 (formatAnswer a p (length (outs p)) .length)) 0 (formatCount (geometryFor (a .sectors) (a .files)))

@@ -14,7 +14,7 @@ use crate::write_list::{counts, up_to_start_mark, written_places, Counts};
 /// The most bytes of a read, write or growth.
 const LONGEST_SPAN: usize = 65_536;
 /// The longest list: the format of the largest volume.
-const LONGEST_LIST: usize = 1_542 * RECORD;
+const LONGEST_LIST: usize = 66_053 * RECORD;
 
 const SAMPLE: &str = "sample";
 

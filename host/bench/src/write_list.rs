@@ -3,7 +3,7 @@
 use std::ops::Range;
 
 use oracle::layout::{get64, SECTOR};
-use oracle::lists::{BARRIER, RECORD};
+use oracle::lists::{BARRIER, NUMBER, RECORD};
 
 /// What a list asks for.
 pub struct Counts {
@@ -41,9 +41,9 @@ fn sector_numbers(list: &[u8]) -> impl Iterator<Item = u64> + '_ {
     let records = list.chunks_exact(RECORD);
     records
         .filter(|record| !is_barrier(record))
-        .map(|record| get64(record, 0))
+        .map(|record| get64(record, NUMBER))
 }
 
 fn is_barrier(record: &[u8]) -> bool {
-    get64(record, 0) == BARRIER
+    get64(record, NUMBER) == BARRIER
 }

@@ -25,11 +25,12 @@ fn sample(folder: &Folder) -> PathBuf {
         time: 1_000,
     };
     let mut image = vec![0; 1_313 * 512];
-    let mut record = [0; RECORD];
-    for position in 0..request.records().expect("the sample has a geometry") {
-        oracle::format_record(&request, position, &mut record);
-        oracle::carry_out(&mut image, &record);
+    let records = request.records().expect("the sample has a geometry");
+    let mut format = vec![0; records as usize * RECORD];
+    for (position, record) in (0..).zip(format.chunks_mut(RECORD)) {
+        oracle::format_record(&request, position, record);
     }
+    assert_eq!(oracle::carry_out(&mut image, &format), 0);
     let name = b"dark frame".to_vec();
     for change in [
         Request::Create {

@@ -7,8 +7,11 @@ use crate::image::{
     claimed, Image, Summary, ENTRIES_IN_TABLE_SECTOR, JOURNAL_SECTORS, LONGEST_TRANSFER,
 };
 
-/// Bytes of a list's record: the sector number, then the contents.
-pub const RECORD: usize = 8 + SECTOR;
+/// Bytes of a list's record: its position in the list, from 0 on, the sector number, the contents.
+pub const RECORD: usize = CONTENTS + SECTOR;
+/// Where in a record its sector number and its contents start.
+const NUMBER: usize = 8;
+const CONTENTS: usize = 16;
 const BARRIER: [u8; 8] = [255; 8];
 
 /// Journal entries that stand in a sector, and in the whole journal.
@@ -81,10 +84,10 @@ pub struct Write<'l> {
     pub contents: &'l [u8; SECTOR],
 }
 
-/// A record as a step.
+/// A record as a step, wherever it stands in its list.
 pub(crate) fn step(record: &[u8]) -> Step<'_> {
-    let (number, contents) = record.split_at(8);
-    let number: [u8; 8] = number.try_into().expect("a record starts with eight bytes");
+    let (front, contents) = record.split_at(CONTENTS);
+    let number: [u8; 8] = front[NUMBER..].try_into().expect("a number of eight bytes");
     if number == BARRIER {
         return Step::Barrier;
     }
@@ -228,7 +231,7 @@ impl Format {
     /// The geometry of the volume that it makes, which its first record names.
     pub fn geometry(&self) -> Result<Summary, Refusal> {
         let first = self.record(0)?.expect("a format that has a geometry");
-        Ok(claimed(&first[8..]))
+        Ok(claimed(&first[CONTENTS..]))
     }
 
     /// How many records it has, barriers included: the superblock twice, the root, the directory, the
@@ -237,7 +240,7 @@ impl Format {
         Ok(records_of_format(&self.geometry()?))
     }
 
-    /// The record at this position; none past the last.
+    /// The record at this position, which it carries; none past the last. All of them joined are a list.
     pub fn record(&self, position: u64) -> Result<Option<[u8; RECORD]>, Refusal> {
         let mut record = [0; RECORD];
         let answer = crate::format_record(

@@ -333,11 +333,12 @@ fn a_volume_that_no_memory_holds() {
     let sectors = 546 + 65_535 + (65_535 << 31);
     let mut memory = Memory::of_sectors(67_000);
     let mut position = 0;
+    let mut list = Vec::new();
     while let Some(record) = request(sectors, 65_535).record(position).unwrap() {
-        let code = goofs::carry_out(&mut memory.bytes, &record);
-        assert_eq!(code, 0);
+        list.extend(record);
         position += 1;
     }
+    assert_eq!(goofs::carry_out(&mut memory.bytes, &list), 0);
     assert_eq!(request(sectors, 65_535).records(), Ok(position));
     let outcome = Image::load(&Endless(memory.bytes));
     assert!(matches!(outcome, Err(Error::TooLarge { bytes }) if bytes > 1 << 55));

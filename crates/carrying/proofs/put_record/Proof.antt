@@ -11,6 +11,9 @@ use Rattle.carrying.proofs.put_record.Tie as tie
 mul-at : tie.Need-mul-at
 mul-at c = search needs
 
+add-be64 : tie.Need-add-be64
+add-be64 c = search needs
+
 be64-requires : tie.Need-be64-requires
 be64-requires c κs = search needs
 
@@ -47,6 +50,7 @@ put-record-spec =
     tie.close
     (tie.spec
     mul-at
+    add-be64
     be64-requires
     returns
     add-copy-sector

@@ -27,7 +27,7 @@ returns c =
     let a : Format = record { sectors = s .sectors; files = s .files; id = s .id; mode = s .mode; time = s .time } in
     let g = c .before .before .before .before .before .before .before .before .before .geometry-for in
     let r = accepted a (s .position) (s .out .now) (g .result) (g .ensures) (sym (c .before .before .before .before .before .before .before .before .can-format .ensures) ∙ c .before .before .before .before .before .before .before .if1 .taken) (search needs) (search needs) in
-    (r .0, c .before .before .put-record .ensures a refl refl refl .holds ∙ r .1)
+    (r .0, c .before .before .put-record .ensures a refl refl refl ∙ r .1)
 
 refused-requires : tie.Need-refused-requires
 refused-requires c κs = search needs

@@ -1,5 +1,5 @@
-//! Carrying out: lists of any length, numbers at the image's edges, spoilt barriers, and images
-//! that are not whole sectors.
+//! Carrying out: lists of any length, positions out of order, numbers at the image's edges, spoilt
+//! barriers, and images that are not whole sectors.
 
 use crate::shared::Both;
 use oracle::draw::Draw;
@@ -7,10 +7,22 @@ use oracle::layout::SECTOR;
 use oracle::lists::{BARRIER, RECORD};
 use oracle::testing::Subject;
 
-fn record(number: u64, byte: u8) -> Vec<u8> {
-    let mut record = number.to_be_bytes().to_vec();
-    record.extend([byte; SECTOR]);
-    record
+/// A sector number and what is to stand in the sector.
+type Write = (u64, Vec<u8>);
+
+fn filled(number: u64, byte: u8) -> Write {
+    (number, vec![byte; SECTOR])
+}
+
+/// A record at a position.
+fn record(position: u64, (number, contents): &Write) -> Vec<u8> {
+    let front = [position.to_be_bytes(), number.to_be_bytes()].concat();
+    [&front[..], contents].concat()
+}
+
+fn list_of(writes: &[Write]) -> Vec<u8> {
+    let records = (0..).zip(writes);
+    records.flat_map(|(k, write)| record(k, write)).collect()
 }
 
 #[test]
@@ -21,32 +33,83 @@ fn lists_by_hand() {
         Both.carry_out(&mut image, list)
     };
     assert_eq!(after(&[]), 0);
-    assert_eq!(after(&record(BARRIER, 0)), 0);
-    let twice = [record(2, 1), record(BARRIER, 0), record(2, 5), record(0, 6)].concat();
-    assert_eq!(after(&twice), 0);
-    let good = record(0, 1);
+    assert_eq!(after(&list_of(&[filled(BARRIER, 0)])), 0);
+    let twice = [
+        filled(2, 1),
+        filled(BARRIER, 0),
+        filled(2, 5),
+        filled(0, 6),
+    ];
+    assert_eq!(after(&list_of(&twice)), 0);
+    let good = filled(0, 1);
     for bad in [
-        record(3, 0),
-        record(BARRIER - 1, 0),
-        record(1 << 55, 0),
-        record((1 << 55) + 1, 0),
-        record(1 << 63, 0),
-        record(BARRIER, 1),
-        [&BARRIER.to_be_bytes()[..], &[0; SECTOR - 1], &[1]].concat(),
-        [&BARRIER.to_be_bytes()[..], &[1], &[0; SECTOR - 1]].concat(),
-        record(1, 0)[..RECORD - 1].to_vec(),
-        vec![0],
+        filled(3, 0),
+        filled(BARRIER - 1, 0),
+        filled(1 << 55, 0),
+        filled((1 << 55) + 1, 0),
+        filled(1 << 63, 0),
+        filled(BARRIER, 1),
+        (BARRIER, [&[0; SECTOR - 1][..], &[1]].concat()),
+        (BARRIER, [&[1][..], &[0; SECTOR - 1]].concat()),
     ] {
         // A good record before or after the bad one is not carried out either.
-        assert_eq!(after(&[&good[..], &bad].concat()), 8);
-        assert_eq!(after(&[&bad[..], &good].concat()), 8);
-        assert_eq!(after(&bad), 8);
+        assert_eq!(after(&list_of(&[good.clone(), bad.clone()])), 8);
+        assert_eq!(after(&list_of(&[bad.clone(), good.clone()])), 8);
+        assert_eq!(after(&list_of(&[bad])), 8);
     }
+    for cut in [&list_of(&twice)[..4 * RECORD - 1], &[0]] {
+        assert_eq!(after(cut), 8);
+    }
+}
+
+/// Every record of a list dropped, doubled or given any other position, and every two swapped. Only
+/// the last can be dropped unseen.
+#[test]
+fn positions_out_of_order() {
+    let image = Draw::new(63).bytes(4 * SECTOR);
+    let after = |list: &[u8]| {
+        let mut image = image.clone();
+        Both.carry_out(&mut image, list)
+    };
+    let writes = [
+        filled(2, 1),
+        filled(BARRIER, 0),
+        filled(0, 5),
+        filled(BARRIER, 0),
+        filled(3, 9),
+    ];
+    let records: Vec<Vec<u8>> = (0..).zip(&writes).map(|(k, w)| record(k, w)).collect();
+    assert_eq!(after(&records.concat()), 0);
+    for k in 0..5 {
+        let mut dropped = records.clone();
+        dropped.remove(k);
+        assert_eq!(after(&dropped.concat()), if k == 4 { 0 } else { 8 });
+        let mut doubled = records.clone();
+        doubled.insert(k, records[k].clone());
+        assert_eq!(after(&doubled.concat()), 8);
+        for other in 0..5 {
+            let mut swapped = records.clone();
+            swapped.swap(k, other);
+            assert_eq!(after(&swapped.concat()), if k == other { 0 } else { 8 });
+        }
+        for position in (0..8).chain([1 << 8, 1 << 32, (1 << 32) + k as u64, u64::MAX]) {
+            let mut renumbered = records.clone();
+            renumbered[k] = record(position, &writes[k]);
+            let expected = if position == k as u64 { 0 } else { 8 };
+            assert_eq!(after(&renumbered.concat()), expected);
+        }
+    }
+    // A list that starts anew behind a barrier, and one that starts at 1.
+    let [first, second, ..] = &records[..] else {
+        unreachable!()
+    };
+    assert_eq!(after(&[&first[..], second, first, second].concat()), 8);
+    assert_eq!(after(&records[1..].concat()), 8);
 }
 
 #[test]
 fn images_of_every_length() {
-    let list = [record(0, 1), record(1, 2), record(BARRIER, 0)].concat();
+    let list = list_of(&[filled(0, 1), filled(1, 2), filled(BARRIER, 0)]);
     for length in 0..=3 * SECTOR {
         let mut image = vec![7; length];
         let code = Both.carry_out(&mut image, &list);
@@ -68,7 +131,7 @@ fn images_of_every_length() {
 
 #[test]
 fn lists_of_every_length() {
-    let list = [record(0, 1), record(1, 2)].concat();
+    let list = list_of(&[filled(0, 1), filled(1, 2)]);
     for length in 0..=list.len() {
         let mut image = vec![7; 2 * SECTOR];
         Both.carry_out(&mut image, &list[..length]);
@@ -83,7 +146,7 @@ fn random_lists() {
         let sectors = draw.between(1, 12);
         let mut image = draw.bytes(sectors as usize * SECTOR);
         let mut list = Vec::new();
-        for _ in 0..draw.below(20) {
+        for position in 0..draw.below(20) {
             let number = match draw.below(60) {
                 0 => sectors,
                 1 => draw.number(),
@@ -97,8 +160,11 @@ fn random_lists() {
                     contents[draw.below(SECTOR as u64) as usize] = 1;
                 }
             }
-            list.extend(number.to_be_bytes());
-            list.extend(contents);
+            let position = match draw.below(60) {
+                0 => draw.below(20),
+                _ => position,
+            };
+            list.extend(record(position, &(number, contents)));
         }
         if draw.one_in(20) {
             list.truncate(draw.below(list.len() as u64 + 1) as usize);

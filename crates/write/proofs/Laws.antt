@@ -151,7 +151,7 @@ module _ (img : List ℕ) (ok : judged (length img) (view img) .number ≡ 0) (l
     room-none h = rw (planned-none c i (view img) offset bytes time h) (done-with-nothing (length img) (view img) [] list ok done refl refl)
 
     -- 14, or the list
-    module _ (some : Some (length bytes)) (z : ℕ) (b : Bool) (e : z ≡ sizeAfter c i offset (length bytes)) (h : b ≡ grows c i z) where
+    module _ (nonempty : Some (length bytes)) (z : ℕ) (b : Bool) (e : z ≡ sizeAfter c i offset (length bytes)) (h : b ≡ grows c i z) where
       needs : listLength (groupsFor (view img) (some plan)) ≡ recordCount (touchedSectors offset (length bytes)) (cond b 2 1) * recordSize
       needs = write-needs c i (view img) offset bytes time z b e h
 
@@ -163,7 +163,7 @@ module _ (img : List ℕ) (ok : judged (length img) (view img) .number ≡ 0) (l
       pub room-short : length list < recordCount (touchedSectors offset (length bytes)) (cond b 2 1) * recordSize → Room (refusedBy 14) list
       unfolding roomDecision verdictOf
       room-short l =
-          rw (planned-some c i (view img) offset bytes time some)
+          rw (planned-some c i (view img) offset bytes time nonempty)
           (refused-as-short (length img) (view img) [] (some plan) list ok done refl refl (rw needs l))
 
       pub room-done : {m : List ℕ} {j : ℕ} → recordCount (touchedSectors offset (length bytes)) (cond b 2 1) * recordSize ≤ length list

@@ -25,7 +25,7 @@ module _ (img : List ℕ) (g : Geometry) (o : Opened img g) (i offset : ℕ) (by
   c = catalogueOf (view img)
 
   abbrev Whole : List ℕ → List ℕ → ℕ → Type 0
-  Whole l m j = Emitted l 0 (closed (groupsFor (view img) (some (writePlan c i (view img) offset bytes time)))) m j
+  Whole l m j = Emitted l 0 (closed (groupsFor (view img) (some ((writePlan c i (view img) offset bytes time)))) m j
 
   module _ {l m₀ m₁ n₁ : List ℕ} {k₀ k₁ : ℕ} (n₀ : List ℕ) (s : ℕ) (e : List ℕ) (first : Emitted l 0 (sectorsOut c i (view img) offset bytes time) m₀ k₀)
       (at : s ≡ entryAt i) (is : e ≡ updatedEntrySector z time (view img (entryAt i)))
@@ -39,10 +39,10 @@ module _ (img : List ℕ) (g : Geometry) (o : Opened img g) (i offset : ℕ) (by
     -- no extent is taken
     pub written-kept : {m : List ℕ} {j : ℕ} → grows c i z ≡ false → 0 < length n₀ → k₁ * recordSize ≤ length l
         → Emitted m₁ k₁ (closed (commitGroups g (view img) m₁ (k₁ - 1) n₁ 1)) m j → Whole l m j
-    written-kept q some room behind =
+    written-kept q counted room behind =
         rw (plan-kept c i (view img) offset bytes time z after q)
         (committed-for (view img) (record { dataSectors = sectorsOut c i (view img) offset bytes time; targets = entryOut c i (view img) offset bytes time z ∷ [] }) (o .is)
-        (staged-more {ts = []} (entryAt i) (staged-none {numbers = n₀} first) refl some entry number) refl room behind)
+        (staged-more {ts = []} (entryAt i) (staged-none {numbers = n₀} first) refl counted entry number) refl room behind)
 
     -- extent x is taken behind those that the file has
     pub written-more : {m₂ m n₂ : List ℕ} {k₂ j : ℕ} (x held t : ℕ) (f : List ℕ) → grows c i z ≡ true → 1 < length n₀ → k₂ * recordSize ≤ length l
@@ -50,13 +50,13 @@ module _ (img : List ℕ) (g : Geometry) (o : Opened img g) (i offset : ℕ) (by
         → Emitted m₁ k₁ (sectorWrite (reserveAt g + 1) f ∷ []) m₂ k₂ → n₂ ≡ set n₁ 1 t
         → Emitted m₂ k₂ (closed (commitGroups g (view img) m₂ (k₂ - 2) n₂ 2)) m j → Whole l m j
     unfolding catalogueOf
-    written-more {m₂} {m} {n₂} {k₂} {j} x held t f q some room xe he te fe copied known behind =
+    written-more {m₂} {m} {n₂} {k₂} {j} x held t f q counted room xe he te fe copied known behind =
         let X = indexOf (freeExtent c) in
         let at2 : t ≡ tableSectorOf (c .geometry) X = te ∙ ap (tableSectorOf g) xe ∙ ap (λ (y : Geometry). tableSectorOf y X) (o .is) in
         let is2 : f ≡ takenIn X i (heldExtents c i) (view img (tableSectorOf (c .geometry) X)) =
         fe ∙ ap₂ (λ (y h : ℕ). takenIn y i h (view img (tableSectorOf g y))) xe he ∙ ap (λ (y : Geometry). takenIn X i (heldExtents c i) (view img (tableSectorOf y X))) (o .is) in
         let copied2 : Emitted m₁ k₁ (sectorWrite (reserveAt g + 1) (takenIn X i (heldExtents c i) (view img (tableSectorOf (c .geometry) X))) ∷ []) m₂ k₂ = rw is2 at copied in
-        let long : 1 < length n₁ = rw (number, length-set) some in
+        let long : 1 < length n₁ = rw (number, length-set) counted in
         let staged = staged-more {ts = []} (entryAt i) (staged-none {numbers = n₀} first) refl (let r : 0 < length n₀ = omega arith in r) entry number in
         rw (plan-more c i (view img) offset bytes time z after q)
         (committed-for (view img) (record { dataSectors = sectorsOut c i (view img) offset bytes time; targets = entryOut c i (view img) offset bytes time z ∷ tableOut c i (view img) offset bytes time X ∷ [] }) (o .is)

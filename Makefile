@@ -12,6 +12,7 @@ test:
 
 bench:
 	@rt staticlib goofs > /dev/null
+	@rt staticlib search > /dev/null
 	@cargo run --manifest-path host/Cargo.toml --offline --release -p bench
 
 mutants:

@@ -3,6 +3,7 @@
 
 mod calls;
 mod comparing;
+mod free_search;
 mod growth;
 mod images;
 mod memory;
@@ -10,6 +11,7 @@ mod text;
 mod timing;
 mod write_list;
 
+use std::env;
 use std::process::ExitCode;
 
 use comparing::Comparisons;
@@ -21,17 +23,35 @@ static HEAP: memory::CountedHeap = memory::CountedHeap;
 
 fn main() -> ExitCode {
     let mut comparisons = Comparisons::default();
-    calls::print(&mut comparisons);
-    growth::print(&mut comparisons);
+    // One table alone where its name is given.
+    let only = env::args().nth(1);
+    let wanted = |table: &str| only.as_deref().is_none_or(|name| name == table);
+    if wanted("calls") {
+        calls::print(&mut comparisons);
+    }
+    if wanted("growth") {
+        growth::print(&mut comparisons);
+    }
+    let mut failed = false;
+    if wanted("search") {
+        let ratio = free_search::print(&mut comparisons);
+        if ratio > free_search::MOST {
+            eprintln!("bench: the search for a free extent takes {ratio:.2} times a loop's time");
+            failed = true;
+        }
+    }
     comparisons.print_memory();
     let above = comparisons.above_most_stack();
-    if above.is_empty() {
-        return ExitCode::SUCCESS;
+    if !above.is_empty() {
+        eprintln!(
+            "bench: more than {} bytes of stack on the sample: {}",
+            digits(MOST_STACK as u64),
+            above.join("; ")
+        );
+        failed = true;
     }
-    eprintln!(
-        "bench: more than {} bytes of stack on the sample: {}",
-        digits(MOST_STACK as u64),
-        above.join("; ")
-    );
-    ExitCode::FAILURE
+    if failed {
+        return ExitCode::FAILURE;
+    }
+    ExitCode::SUCCESS
 }

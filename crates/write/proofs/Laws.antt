@@ -170,7 +170,7 @@ module _ (img : List ℕ) (ok : judged (length img) (view img) .number ≡ 0) (l
           → Emitted list 0 (closed (groupsFor (view img) (some plan))) m j → Room (record { verdict = done; length = j * recordSize }) m
       unfolding roomDecision verdictOf
       room-done l q =
-          rw (planned-some c i (view img) offset bytes time some, emitted-length (groupsFor (view img) (some plan)) q)
+          rw (planned-some c i (view img) offset bytes time nonempty, emitted-length (groupsFor (view img) (some plan)) q)
           (done-as-planned (length img) (view img) [] (some plan) list ok done refl refl (rw needs l) q)
 
     -- 12, 13

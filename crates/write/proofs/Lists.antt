@@ -25,7 +25,7 @@ module _ (img : List ℕ) (g : Geometry) (o : Opened img g) (i offset : ℕ) (by
   c = catalogueOf (view img)
 
   abbrev Whole : List ℕ → List ℕ → ℕ → Type 0
-  Whole l m j = Emitted l 0 (closed (groupsFor (view img) (some ((writePlan c i (view img) offset bytes time)))) m j
+  Whole l m j = Emitted l 0 (closed (groupsFor (view img) (some (writePlan c i (view img) offset bytes time)))) m j
 
   module _ {l m₀ m₁ n₁ : List ℕ} {k₀ k₁ : ℕ} (n₀ : List ℕ) (s : ℕ) (e : List ℕ) (first : Emitted l 0 (sectorsOut c i (view img) offset bytes time) m₀ k₀)
       (at : s ≡ entryAt i) (is : e ≡ updatedEntrySector z time (view img (entryAt i)))

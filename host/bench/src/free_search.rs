@@ -39,7 +39,9 @@ fn proved(image: &[u8]) -> u64 {
 /// The same by a loop over the table's entries.
 fn plain(image: &[u8], geometry: Geometry) -> u64 {
     let table = &image[geometry.table_at().0 as usize * SECTOR..];
-    let entries = table.chunks_exact(4).take(geometry.usable_extents() as usize);
+    let entries = table
+        .chunks_exact(4)
+        .take(geometry.usable_extents() as usize);
     for (extent, entry) in (1..).zip(entries) {
         if entry[..2] == NO_FILE {
             return extent;
@@ -53,7 +55,8 @@ pub fn print(comparisons: &mut Comparisons) -> f64 {
     let geometry = geometry(255, 65_535);
     let last = geometry.usable_extents() - 1;
     let mut draw = Draw::new(4);
-    let mut one_in = |free: u64| -> Vec<u64> { (0..last).filter(|_| draw.below(free) == 0).collect() };
+    let mut one_in =
+        |free: u64| -> Vec<u64> { (0..last).filter(|_| draw.below(free) == 0).collect() };
     let fillings = [
         ("only the last usable one free", vec![last]),
         ("none free", Vec::new()),
@@ -72,7 +75,11 @@ pub fn print(comparisons: &mut Comparisons) -> f64 {
     let mut first = None;
     for (filling, free) in fillings {
         for extent in 0..geometry.extents() {
-            put16(&mut image, table_entry(geometry, extent), (extent % 255) as u16);
+            put16(
+                &mut image,
+                table_entry(geometry, extent),
+                (extent % 255) as u16,
+            );
         }
         for extent in free {
             put16(&mut image, table_entry(geometry, extent), u16::MAX);

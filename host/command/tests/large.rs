@@ -227,7 +227,10 @@ fn a_format_for_65535_files() {
     let card = folder.file("card");
     let words = ["--sectors=66593", "--files=65535", "--time=1"];
     let said = good("format", &card, &words);
-    assert!(said.starts_with("formatted: 65535 files at most, "), "{said}");
+    assert!(
+        said.starts_with("formatted: 65535 files at most, "),
+        "{said}"
+    );
     assert_eq!(good("check", &card, &[]), "sound, 0 files\n");
     for (files, sectors) in [("65536", "66594"), ("254", "1312")] {
         let words = ["--sectors", sectors, "--files", files, "--yes"];

@@ -276,7 +276,12 @@ mod tests {
 
     #[test]
     fn records_of_formats() {
-        for (sectors, files) in [(1_313, 255), (8_389_408, 255), (8_390_177, 1_024), (8_454_688, 65_535)] {
+        for (sectors, files) in [
+            (1_313, 255),
+            (8_389_408, 255),
+            (8_390_177, 1_024),
+            (8_454_688, 65_535),
+        ] {
             let format = Format {
                 sectors,
                 files,

@@ -34,12 +34,7 @@ fn lists_by_hand() {
     };
     assert_eq!(after(&[]), 0);
     assert_eq!(after(&list_of(&[filled(BARRIER, 0)])), 0);
-    let twice = [
-        filled(2, 1),
-        filled(BARRIER, 0),
-        filled(2, 5),
-        filled(0, 6),
-    ];
+    let twice = [filled(2, 1), filled(BARRIER, 0), filled(2, 5), filled(0, 6)];
     assert_eq!(after(&list_of(&twice)), 0);
     let good = filled(0, 1);
     for bad in [

@@ -10,7 +10,14 @@ use oracle::FormatRequest;
 
 #[test]
 fn every_record() {
-    for (files, extents) in [(255, 2), (255, 4), (300, 129), (1_024, 300), (767, 128), (4_096, 5)] {
+    for (files, extents) in [
+        (255, 2),
+        (255, 4),
+        (300, 129),
+        (1_024, 300),
+        (767, 128),
+        (4_096, 5),
+    ] {
         let request = FormatRequest {
             sectors: 546 + files + 128 * extents + 5,
             files,

@@ -252,7 +252,12 @@ fn largest_directory() {
     place_of(&|image| put16(image, mark, 1));
     place_of(&|image| put64(image, entry_field(65_534, 14), 0));
     place_of(&|image| put64(image, entry_field(65_534, 14), 0xfedc_ba98_0000_0000));
-    place_of(&|image| image.copy_within(entry_field(3, 34)..entry_field(4, 0), entry_field(65_534, 34)));
+    place_of(&|image| {
+        image.copy_within(
+            entry_field(3, 34)..entry_field(4, 0),
+            entry_field(65_534, 34),
+        )
+    });
     place_of(&|image| put16(image, table_entry(geometry, 160), 65_534));
     let (_, list) = alike(&delete(&last), &image, ANY_LIST);
     assert_eq!(goofs::carry_out(&mut image, &list), 0);

@@ -738,7 +738,7 @@ static void writes_and_reads(void)
                                       .change_time = 1002, .name = "beam"});
     table(contents[1], 0, FREE, FREE, FREE);
     want_commit(2, (const uint64_t[]){2, 289}, contents);
-    NUMBER(wanted.length, 8840);
+    NUMBER(wanted.length, 8976);
     GIVES(WRITE, "beam", .at = 0, .data = data, .data_length = 3000, .time = 1002);
     ENTRY_IS(0, .size = 3000, .version = 1, .id = BEAM_ID, .mode = BEAM_MODE, .access_time = 1001, .change_time = 1002,
              .name = "beam");
@@ -862,7 +862,7 @@ static void resizes(void)
     entry(contents[0], (struct entry){.size = 700, .version = 2, .id = BEAM_ID, .mode = BEAM_MODE, .access_time = 1001,
                                       .change_time = 1005, .name = "beam"});
     want_commit(1, (const uint64_t[]){2}, contents);
-    NUMBER(wanted.length, 4680);
+    NUMBER(wanted.length, 4752);
     GIVES(RESIZE, "beam", .at = 700, .time = 1005);
     READS("beam", 0, 65536, data, 700);
 
@@ -1008,7 +1008,7 @@ static void bad_journals(void)
     put(journal + 16, 8, 675);
     put(journal + 24, 8, 3);
     IS(goofs_length_result, goofs_recover(medium.bytes, IMAGE, lent.bytes, sizeof lent.bytes), .code = 0,
-       .length = 2600); /* 2 targets, the end mark, 2 barriers: 5 records */
+       .length = 2640); /* 2 targets, the end mark, 2 barriers: 5 records */
     for (k = 0; k < sizeof bad / sizeof *bad; k++) {
         put(journal + 16, 8, bad[k][0]);
         put(journal + 24, 8, bad[k][1]);
@@ -1023,7 +1023,7 @@ static void bad_journals(void)
     }
     put(journal + 16, 8, 801); /* the last sector of the data */
     put(journal + 24, 8, 289); /* the table */
-    IS(goofs_length_result, goofs_recover(medium.bytes, IMAGE, lent.bytes, 2600), .code = 0, .length = 2600);
+    IS(goofs_length_result, goofs_recover(medium.bytes, IMAGE, lent.bytes, 2640), .code = 0, .length = 2640);
 }
 
 static void states(void)

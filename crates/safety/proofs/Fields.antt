@@ -5,26 +5,19 @@ use mathlib.Core.Bool.{Bool, true, false, not, _&&_, _||_}
 use mathlib.Core.List.{List, [], _∷_}
 use native.Mathlib.Omega.{arith}
 use native.Mathlib.Nat.{mod-lt}
-use lib.Dec.{eqb, leb, ltb, lit<}
+use lib.Dec.{eqb, leb, lit<}
 use lib.ListN.{length, getD, replicate, getD-replicate}
-use borrow.Author.Tests.{lt-ltb}
 use Rattle.model.specs.declared.Geometry.{Geometry}
 use Rattle.model.specs.Geometry.{extentSectors}
-use Rattle.model.specs.Bytes.{beAt, beBytes, bytesFrom, put, withStores, raised, zeroSector, onesSector}
+use Rattle.model.specs.Bytes.{Field, beAt, beBytes, bytesFrom, numberIn, put, withStores, raised, zeroSector, onesSector}
 use Rattle.model.specs.Search.{allBelow, equalBytes}
-use Rattle.model.specs.Superblock.{magic, newSuperblock, geometryIn, journalLength, isVolume}
-use Rattle.model.specs.Root.{rootIn, updatedRootSector, newRootSector}
-use Rattle.model.specs.Entry.{nameIn, entryIn, isOccupied, badName, newEntrySector, occupiedMark, updatedEntrySector}
+use Rattle.model.specs.Superblock.{superblockField, magic, newSuperblock, geometryIn, journalLength, isVolume}
+use Rattle.model.specs.Root.{rootField, rootIn, updatedRootSector, newRootSector}
+use Rattle.model.specs.Entry.{entryField, nameIn, entryIn, isOccupied, badName, newEntrySector, freeMark, occupiedMark, updatedEntrySector}
 use Rattle.model.specs.Ledger.{newEntry, updatedEntry, updatedRoot, newRoot}
-use Rattle.laws.proofs.Booleans.{or-right}
-use Rattle.laws.proofs.Bytes.{length-put, length-zeroSector, number-same, number-other, bytes-other, number-apart, bytesFrom-put-same, zeros-at}
+use Rattle.laws.proofs.Bytes.{length-put, length-zeroSector, number-same, bytes-other, bytesFrom-put-same, zeros-at}
 use Rattle.laws.proofs.Named.{short-name}
-
--- a number put into a whole sector
-pub field-same : (l : List ℕ) (o w v : ℕ) → length l ≡ 512 → leb (o + w) 512 ≡ true → ltb v (256 ^ w) ≡ true → beAt (put l o (beBytes w v)) o w ≡ v
-field-same l o w v e h b = number-same l o w v (ap (leb (o + w)) e ∙ h) b
-
-pub ruleset fields = (field-same, number-other, number-apart, length-put, length-zeroSector)
+use Rattle.safety.proofs.Stores.{Numbers, storesOf, Holds, kept, kept-before, kept-behind, stored}
 
 -- ---- sectors of one byte
 
@@ -35,10 +28,13 @@ pub getD-zeros : (i : ℕ) → getD zeroSector i 0 ≡ 0
 unfolding zeroSector
 getD-zeros i = zeros-at 512 i
 
-pub beAt-zeros : (o w : ℕ) → beAt zeroSector o w ≡ 0
+beAt-zeros : (o w : ℕ) → beAt zeroSector o w ≡ 0
 unfolding beAt
 beAt-zeros o zero = refl
 beAt-zeros o (suc w) = ap₂ (λ n x. n * 256 + x) (beAt-zeros o w) (getD-zeros (o + w))
+
+pub zero-field : (f : Field) → numberIn zeroSector f ≡ 0
+zero-field f = beAt-zeros (f .offset) (f .width)
 
 pub getD-ones : (i : ℕ) → i < 512 → getD onesSector i 0 ≡ 255
 unfolding onesSector
@@ -53,10 +49,12 @@ length-updatedRootSector time s = simp length-put
 pub root-updated : (time : ℕ) (s : List ℕ) → length s ≡ 512 → time < 2 ^ 32 → rootIn (updatedRootSector time s) ≡ updatedRoot time (rootIn s)
 unfolding rootIn updatedRootSector updatedRoot
 root-updated time s l h =
-    let t : ltb time (256 ^ 4) ≡ true = lt-ltb time (256 ^ 4) h in
-    let v : ltb (raised (beAt s 0 4)) (256 ^ 4) ≡ true = lt-ltb (raised (beAt s 0 4)) (256 ^ 4) (mod-lt _ (lit< tt)) in
-    let a : length (put s 0 (beBytes 4 (raised (beAt s 0 4)))) ≡ 512 = length-put s 0 _ ∙ l in
-    simp (fields, l, t, v, a)
+    let ns : Numbers = (rootField .version, raised (numberIn s (rootField .version))) ∷ (rootField .changeTime, time) ∷ [] in
+    let r : Holds (withStores s (storesOf ns)) ns = stored s 512 ns l refl refl (mod-lt _ (lit< tt), (h, tt)) in
+    let i = kept s (rootField .id) ns refl in
+    let m = kept s (rootField .mode) ns refl in
+    let a = kept s (rootField .accessTime) ns refl in
+    λ j. record { version = r .0 j; id = i j; mode = m j; accessTime = a j; changeTime = r .1 .0 j }
 
 pub length-newRootSector : (id mode time : ℕ) → length (newRootSector id mode time) ≡ 512
 unfolding newRootSector
@@ -65,10 +63,10 @@ length-newRootSector id mode time = simp (length-put, length-zeroSector)
 pub root-new : (id mode time : ℕ) → id < 2 ^ 64 → mode < 2 ^ 32 → time < 2 ^ 32 → rootIn (newRootSector id mode time) ≡ newRoot id mode time
 unfolding rootIn newRootSector
 root-new id mode time h k l =
-    let i : ltb id (256 ^ 8) ≡ true = lt-ltb id (256 ^ 8) h in
-    let m : ltb mode (256 ^ 4) ≡ true = lt-ltb mode (256 ^ 4) k in
-    let t : ltb time (256 ^ 4) ≡ true = lt-ltb time (256 ^ 4) l in
-    simp (fields, i, m, t, beAt-zeros)
+    let ns : Numbers = (rootField .id, id) ∷ (rootField .mode, mode) ∷ (rootField .accessTime, time) ∷ (rootField .changeTime, time) ∷ [] in
+    let r : Holds (withStores zeroSector (storesOf ns)) ns = stored zeroSector 512 ns length-zeroSector refl refl (h, (k, (l, (l, tt)))) in
+    let v = kept zeroSector (rootField .version) ns refl ∙ zero-field (rootField .version) in
+    λ j. record { version = v j; id = r .0 j; mode = r .1 .0 j; accessTime = r .1 .1 .0 j; changeTime = r .1 .1 .1 .0 j }
 
 -- ---- the superblock
 
@@ -76,113 +74,136 @@ pub length-newSuperblock : (g : Geometry) (n : ℕ) → length (newSuperblock g 
 unfolding newSuperblock
 length-newSuperblock g n = simp (length-put, length-zeroSector)
 
+-- the numbers before the magic, and those behind it
 module _ (g : Geometry) (n : ℕ) (f : g .files < 65536) (e : g .extents < 65536) (s : extentSectors g < 2 ^ 32) (h : n < 65536) where
+  abbrev shape : Numbers
+  shape = (superblockField .files, g .files) ∷ (superblockField .extents, g .extents) ∷ (superblockField .extentSectors, extentSectors g) ∷ []
+
+  abbrev marks : Numbers
+  marks = (superblockField .version, 1) ∷ (superblockField .journalLength, n) ∷ []
+
+  abbrev front : List ℕ
+  front = withStores zeroSector (storesOf shape)
+
+  abbrev signed : List ℕ
+  signed = put front (superblockField .magic) magic
+
+  length-front : length front ≡ 512
+  length-front = simp (length-put, length-zeroSector)
+
+  shaped : Holds front shape
+  shaped = stored zeroSector 512 shape length-zeroSector refl refl (f, (e, (s, tt)))
+
+  marked : Holds (withStores signed (storesOf marks)) marks
+  marked = stored signed 512 marks (length-put front 8 magic ∙ length-front) refl refl (lit< tt, (h, tt))
+
   pub newSuperblock-geometry : geometryIn (newSuperblock g n) ≡ g
   unfolding geometryIn newSuperblock
   newSuperblock-geometry =
-      let a : ltb (g .files) (256 ^ 2) ≡ true = lt-ltb (g .files) (256 ^ 2) f in
-      let b : ltb (g .extents) (256 ^ 2) ≡ true = lt-ltb (g .extents) (256 ^ 2) e in
-      let c : ltb (extentSectors g) (256 ^ 4) ≡ true = lt-ltb (extentSectors g) (256 ^ 4) s in
-      simp (fields, a, b, c)
+      let a = kept signed (superblockField .files) marks refl ∙ kept-before front (superblockField .magic) magic (superblockField .files) refl ∙ shaped .0 in
+      let b = kept signed (superblockField .extents) marks refl ∙ kept-before front (superblockField .magic) magic (superblockField .extents) refl ∙ shaped .1 .0 in
+      let c = kept signed (superblockField .extentSectors) marks refl ∙ kept-before front (superblockField .magic) magic (superblockField .extentSectors) refl ∙ shaped .1 .1 .0 in
+      λ j. record { files = a j; extents = b j; «extent_sectors» = c j }
 
   pub newSuperblock-length : journalLength (newSuperblock g n) ≡ n
   unfolding journalLength newSuperblock
-  newSuperblock-length = let a : ltb n (256 ^ 2) ≡ true = lt-ltb n (256 ^ 2) h in simp (fields, a)
+  newSuperblock-length = marked .1 .0
 
   pub newSuperblock-volume : isVolume (newSuperblock g n) ≡ true
   unfolding isVolume newSuperblock equalBytes allBelow
   newSuperblock-volume =
-      let x : List ℕ = withStores zeroSector ((0, beBytes 2 (g .files)) ∷ (2, beBytes 2 (g .extents)) ∷ (4, beBytes 4 (extentSectors g)) ∷ []) in
-      let l : length x ≡ 512 = simp (length-put, length-zeroSector) in
-      let r : bytesFrom (newSuperblock g n) 8 8 ≡ magic =
-      bytes-other (put (put x 8 magic) 16 (beBytes 2 1)) 18 2 n 8 8 refl ∙ bytes-other (put x 8 magic) 16 2 1 8 8 refl ∙ bytesFrom-put-same x 8 magic 8 refl (omega arith) in
-      let v : beAt (newSuperblock g n) 16 2 ≡ 1 = simp fields in
-      ap₂ (λ a b. equalBytes a magic && eqb b 1) r v
+      let kind : bytesFrom (newSuperblock g n) (superblockField .magic) 8 ≡ magic =
+      bytes-other (put signed 16 (beBytes 2 1)) 18 2 n 8 8 refl ∙ bytes-other signed 16 2 1 8 8 refl ∙ bytesFrom-put-same front 8 magic 8 refl (omega (arith, length-front)) in
+      ap₂ (λ a b. equalBytes a magic && eqb b 1) kind (marked .0)
 
 -- ---- a new entry
 
 module _ (name : List ℕ) (id mode time : ℕ) where
+  abbrev rest : Numbers
+  rest =
+      (entryField .id, id) ∷ (entryField .mode, mode) ∷ (entryField .accessTime, time) ∷ (entryField .changeTime, time)
+      ∷ (entryField .nameLength, length name) ∷ []
+
+  abbrev given : Numbers
+  given = (entryField .mark, occupiedMark) ∷ rest
+
+  abbrev nameless : List ℕ
+  nameless = withStores zeroSector (storesOf given)
+
   pub length-newEntry : length (newEntrySector name id mode time) ≡ 512
   unfolding newEntrySector
   length-newEntry = simp (length-put, length-zeroSector)
 
   pub new-occupied : isOccupied (newEntrySector name id mode time) ≡ true
   unfolding isOccupied newEntrySector
-  new-occupied = simp fields
+  new-occupied =
+      let mark =
+      kept-before nameless (entryField .name) name (entryField .mark) refl ∙ kept (put zeroSector 0 (beBytes 2 occupiedMark)) (entryField .mark) rest refl
+      ∙ number-same zeroSector 0 2 occupiedMark (ap (leb 2) length-zeroSector) refl in
+      ap (λ n. eqb n occupiedMark) mark
 
   module _ (good : badName name ≡ false) (hi : id < 2 ^ 64) (hm : mode < 2 ^ 32) (ht : time < 2 ^ 32) where
+    short : length name ≤ 476
+    short = short-name name good
+
+    filled : Holds nameless given
+    filled = stored zeroSector 512 given length-zeroSector refl refl (lit< tt, (hi, (hm, (ht, (ht, (omega (arith, short), tt))))))
+
     new-name : nameIn (newEntrySector name id mode time) ≡ name
     unfolding nameIn newEntrySector
     new-name =
-        let short : length name ≤ 476 = short-name name good in
-        let t : ltb (length name) (256 ^ 2) ≡ true = lt-ltb (length name) (256 ^ 2) (omega arith) in
-        let x : List ℕ = withStores zeroSector
-        ((0, beBytes 2 occupiedMark) ∷ (14, beBytes 8 id) ∷ (22, beBytes 4 mode) ∷ (26, beBytes 4 time) ∷ (30, beBytes 4 time) ∷ (34, beBytes 2 (length name)) ∷ []) in
-        let l : length x ≡ 512 = simp (length-put, length-zeroSector) in
-        let n : beAt (put x 36 name) 34 2 ≡ length name = simp (fields, t) in
-        ap (λ k. bytesFrom (put x 36 name) 36 k) n ∙ bytesFrom-put-same x 36 name (length name) refl (omega arith)
+        let l : length nameless ≡ 512 = simp (length-put, length-zeroSector) in
+        let n = kept-before nameless (entryField .name) name (entryField .nameLength) refl ∙ filled .1 .1 .1 .1 .1 .0 in
+        ap (λ k. bytesFrom (put nameless 36 name) 36 k) n ∙ bytesFrom-put-same nameless 36 name (length name) refl (omega (arith, short))
 
     pub new-entry : entryIn (newEntrySector name id mode time) ≡ newEntry name id mode time
     unfolding entryIn newEntry newEntrySector
     new-entry =
-        let i : ltb id (256 ^ 8) ≡ true = lt-ltb id (256 ^ 8) hi in
-        let m : ltb mode (256 ^ 4) ≡ true = lt-ltb mode (256 ^ 4) hm in
-        let t : ltb time (256 ^ 4) ≡ true = lt-ltb time (256 ^ 4) ht in
-        let s : List ℕ = newEntrySector name id mode time in
-        let p1 : beAt s 2 8 ≡ 0 = simp (fields, beAt-zeros) in
-        let p2 : beAt s 10 4 ≡ 0 = simp (fields, beAt-zeros) in
-        let p3 : beAt s 14 8 ≡ id = simp (fields, i) in
-        let p4 : beAt s 22 4 ≡ mode = simp (fields, m) in
-        let p5 : beAt s 26 4 ≡ time = simp (fields, t) in
-        let p6 : beAt s 30 4 ≡ time = simp (fields, t) in
+        let p1 = kept-before nameless (entryField .name) name (entryField .size) refl ∙ kept zeroSector (entryField .size) given refl ∙ zero-field (entryField .size) in
+        let p2 = kept-before nameless (entryField .name) name (entryField .version) refl ∙ kept zeroSector (entryField .version) given refl ∙ zero-field (entryField .version) in
+        let p3 = kept-before nameless (entryField .name) name (entryField .id) refl ∙ filled .1 .0 in
+        let p4 = kept-before nameless (entryField .name) name (entryField .mode) refl ∙ filled .1 .1 .0 in
+        let p5 = kept-before nameless (entryField .name) name (entryField .accessTime) refl ∙ filled .1 .1 .1 .0 in
+        let p6 = kept-before nameless (entryField .name) name (entryField .changeTime) refl ∙ filled .1 .1 .1 .1 .0 in
         λ j. record { size = p1 j; version = p2 j; id = p3 j; mode = p4 j; accessTime = p5 j; changeTime = p6 j; name = new-name j }
 
 -- ---- an updated entry, as write and resize leave it
 
 module _ (size time : ℕ) (s : List ℕ) where
+  abbrev changed : Numbers
+  changed = (entryField .size, size) ∷ (entryField .version, raised (numberIn s (entryField .version))) ∷ (entryField .changeTime, time) ∷ []
+
   pub length-updatedEntrySector : length (updatedEntrySector size time s) ≡ length s
   unfolding updatedEntrySector
   length-updatedEntrySector = simp length-put
 
   pub updated-occupied : isOccupied (updatedEntrySector size time s) ≡ isOccupied s
   unfolding isOccupied updatedEntrySector
-  updated-occupied = simp fields
+  updated-occupied = ap (λ n. eqb n occupiedMark) (kept s (entryField .mark) changed refl)
 
   module _ (l : length s ≡ 512) (hs : size < 2 ^ 64) (ht : time < 2 ^ 32) where
     updated-name : nameIn (updatedEntrySector size time s) ≡ nameIn s
     unfolding nameIn updatedEntrySector
     updated-name =
-        let v = raised (beAt s 10 4) in
-        let a = put s 2 (beBytes 8 size) in
-        let b = put a 10 (beBytes 4 v) in
-        let n : beAt (put b 30 (beBytes 4 time)) 34 2 ≡ beAt s 34 2 = simp fields in
-        ap (λ k. bytesFrom (put b 30 (beBytes 4 time)) 36 k) n
-        ∙ bytes-other b 30 4 time 36 (beAt s 34 2) (or-right (leb (36 + beAt s 34 2) 30) _ refl) ∙ bytes-other a 10 4 v 36 (beAt s 34 2) (or-right (leb (36 + beAt s 34 2) 10) _ refl)
-        ∙ bytes-other s 2 8 size 36 (beAt s 34 2) (or-right (leb (36 + beAt s 34 2) 2) _ refl)
+        ap (λ k. bytesFrom (withStores s (storesOf changed)) 36 k) (kept s (entryField .nameLength) changed refl)
+        ∙ kept-behind s 36 (numberIn s (entryField .nameLength)) changed refl
 
     pub updated-entry : entryIn (updatedEntrySector size time s) ≡ updatedEntry size time (entryIn s)
     unfolding entryIn updatedEntry updatedEntrySector
     updated-entry =
-        let v : ℕ = raised (beAt s 10 4) in
-        let i : ltb size (256 ^ 8) ≡ true = lt-ltb size (256 ^ 8) hs in
-        let t : ltb time (256 ^ 4) ≡ true = lt-ltb time (256 ^ 4) ht in
-        let m : ltb (raised (beAt s 10 4)) (256 ^ 4) ≡ true = lt-ltb (raised (beAt s 10 4)) (256 ^ 4) (mod-lt _ (lit< tt)) in
-        let x : List ℕ = updatedEntrySector size time s in
-        let p1 : beAt x 2 8 ≡ size = simp (fields, l, i) in
-        let p2 : beAt x 10 4 ≡ raised (beAt s 10 4) = simp (fields, l, m) in
-        let p3 : beAt x 14 8 ≡ beAt s 14 8 = simp fields in
-        let p4 : beAt x 22 4 ≡ beAt s 22 4 = simp fields in
-        let p5 : beAt x 26 4 ≡ beAt s 26 4 = simp fields in
-        let p6 : beAt x 30 4 ≡ time = simp (fields, l, t) in
-        λ j. record { size = p1 j; version = p2 j; id = p3 j; mode = p4 j; accessTime = p5 j; changeTime = p6 j; name = updated-name j }
+        let r : Holds (withStores s (storesOf changed)) changed = stored s 512 changed l refl refl (hs, (mod-lt _ (lit< tt), (ht, tt))) in
+        let p3 = kept s (entryField .id) changed refl in
+        let p4 = kept s (entryField .mode) changed refl in
+        let p5 = kept s (entryField .accessTime) changed refl in
+        λ j. record { size = r .0 j; version = r .1 .0 j; id = p3 j; mode = p4 j; accessTime = p5 j; changeTime = r .1 .1 .0 j; name = updated-name j }
 
 pub zero-free : isOccupied zeroSector ≡ false
 unfolding isOccupied
-zero-free = ap (λ n. eqb n 65535) (beAt-zeros 0 2)
+zero-free = ap (λ n. eqb n occupiedMark) (zero-field (entryField .mark))
 
 -- the mark of an occupied entry is one of the two
-pub occupied-mark : (s : List ℕ) → isOccupied s ≡ true → not (eqb (beAt s 0 2) 0 || isOccupied s) ≡ false
-occupied-mark s e = go (eqb (beAt s 0 2) 0)
+pub occupied-mark : (s : List ℕ) → isOccupied s ≡ true → not (eqb (numberIn s (entryField .mark)) freeMark || isOccupied s) ≡ false
+occupied-mark s e = go (eqb (numberIn s (entryField .mark)) freeMark)
   where
     go : (b : Bool) → not (b || isOccupied s) ≡ false
     go true = refl

@@ -7,11 +7,11 @@ use mathlib.Core.Bool.{Bool, true, false, cond, not, _&&_, _||_}
 use mathlib.Core.List.{List, _++_}
 use mathlib.Core.Option.{Option, none, some, Option·none-ne-some}
 use lib.Dec.{eqb, leb, ltb, leb·zero}
-use Rattle.model.specs.Bytes.{beAt, zeroSector}
+use Rattle.model.specs.Bytes.{numberIn, zeroSector}
 use Rattle.model.specs.Geometry.{rootAt, entryAt, tableAt}
 use Rattle.model.specs.Disk.{view}
 use Rattle.model.specs.Root.{Root, rootIn}
-use Rattle.model.specs.Entry.{entryIn, isOccupied}
+use Rattle.model.specs.Entry.{entryField, freeMark, entryIn, isOccupied}
 use Rattle.model.specs.Catalogue.{Owner, catalogueOf, ownedFrom}
 use Rattle.model.specs.Faults.{holdsOf, fault21}
 use Rattle.model.specs.WriteList.{Group}
@@ -21,7 +21,7 @@ use Rattle.safety.proofs.Commit.{Ready}
 use Rattle.safety.proofs.Frame.{Shows}
 use Rattle.safety.proofs.Rep.{Rep}
 use Rattle.safety.proofs.Preserved.{slotIn, entry-is}
-use Rattle.safety.proofs.Fields.{beAt-zeros, zero-free}
+use Rattle.safety.proofs.Fields.{zero-field, zero-free}
 use Rattle.safety.proofs.Replaced.{replaced, Admissible}
 use Rattle.safety.proofs.Rewritten.{rep-replaced}
 use Rattle.safety.proofs.FreedFile.{table-freed, disjoint-freed, others-freed}
@@ -52,7 +52,8 @@ module _ (L : Ledger) (img : List ℕ) (rep : Rep L img) (i : ℕ) (root : Root)
   mark-free : fault21 (view out) i ≡ false
   unfolding fault21
   mark-free =
-      ap (λ (s : List ℕ). not (eqb (beAt s 0 2) 0 || isOccupied s)) at-entry ∙ ap (λ n. not (eqb n 0 || isOccupied zeroSector)) (beAt-zeros 0 2)
+      ap (λ (s : List ℕ). not (eqb (numberIn s (entryField .mark)) freeMark || isOccupied s)) at-entry
+      ∙ ap (λ n. not (eqb n freeMark || isOccupied zeroSector)) (zero-field (entryField .mark))
 
   admissible : Admissible L root i none
   admissible = record {

@@ -13,12 +13,12 @@ use Rattle.model.specs.declared.Geometry.{Geometry}
 use Rattle.model.specs.declared.Lowest.{Lowest}
 use Rattle.model.specs.declared.Lowest.the-variants.{At, Nowhere}
 use Rattle.model.specs.declared.Soundness.the-variants.{Sound, Faulty}
-use Rattle.model.specs.Bytes.{beAt}
+use Rattle.model.specs.Bytes.{numberIn}
 use Rattle.model.specs.Search.{first, anyBelow, countBelow}
 use Rattle.model.specs.Geometry.{entryAt, extentsFor}
 use Rattle.model.specs.Disk.{Disk}
 use Rattle.model.specs.Superblock.{geometryIn}
-use Rattle.model.specs.Entry.{isOccupied}
+use Rattle.model.specs.Entry.{entryField, isOccupied}
 use Rattle.model.specs.Table.{tableFile, tableOffset, freeFile}
 use Rattle.model.specs.Catalogue.{catalogueOf}
 use Rattle.model.specs.Faults.{exact, fault25, fault26, orElse}
@@ -53,7 +53,7 @@ fault26-of : (d : Disk) (i : ℕ) → i < geometryIn (d 0) .files → i < freeFi
 unfolding needed
 fault26-of d i l few =
     let b = isOccupied (d (entryAt i)) in
-    let c = extentsFor (geometryIn (d 0)) (beAt (d (entryAt i)) 2 8) in
+    let c = extentsFor (geometryIn (d 0)) (numberIn (d (entryAt i)) (entryField .size)) in
     fault26-is d i l
     ∙ same-and b (exact (catalogueOf d) i c) (right (geometryIn (d 0)) d i (cond b c 0))
     (λ e. exact-is d i few c ∙ ap (right (geometryIn (d 0)) d i) (sym (ap (λ (x : Bool). cond x c 0) e)))

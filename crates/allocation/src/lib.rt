@@ -25,7 +25,7 @@ fn needed(img: &[u8], g: Geometry, i: FileIndex) -> u64
     ensures { λ r. ⌜ r ≤ 281474976710656 ⌝ }
 {
     if directory::is_occupied(img, i) {
-        return table::extents_for(g, fields::number(img, i.sector(), 2, 8));
+        return table::extents_for(g, directory::size_at(img, i));
     }
     0
 }

@@ -16,7 +16,7 @@ use Rattle.model.specs.Journal.{journalSectors, entriesIn, journalSector}
 use Rattle.model.specs.WriteList.{Record, sectorWrite, barrier, recordSize, contentsStart, emit, Emitted, staging, journalOf, closed}
 use Rattle.model.specs.Opened.{Bounded}
 use Rattle.model.proofs.Areas.{product}
-use Rattle.laws.proofs.Bytes.{length-beBytes, length-bytesFrom, put-append, getD-bytesFrom}
+use Rattle.laws.proofs.Bytes.{length-bytesFrom, getD-bytesFrom}
 use Rattle.laws.proofs.Search.{getD-tab0, tabulate-ext}
 use Rattle.commit.specs.Commit.{stagedTargets, commitGroups}
 use Rattle.commit.proofs.Records.{bytesFrom-before, emitted-more, journalSector-ext}
@@ -28,9 +28,9 @@ reserve-fits g b = omega (arith, product g (usable g) b (omega arith))
 -- ---- the journal
 
 pub entries-more : (s t : ℕ → ℕ) (from i : ℕ)
-    → entriesIn s t from (i + 1) ≡ put (put (entriesIn s t from i) (16 * i) (beBytes 8 (s (from + i)))) (16 * i + 8) (beBytes 8 (t (from + i)))
+    → entriesIn s t from (i + 1) ≡ put (entriesIn s t from i) (16 * i) (beBytes 8 (s (from + i)) ++ beBytes 8 (t (from + i)))
 unfolding entriesIn
-entries-more s t from i = rw (add-one i, put-append, length-beBytes)
+entries-more s t from i = rw (add-one i)
 
 -- journal sector j: copies stand from the reserve's start on, and the numbers are read where they are noted
 abbrev pub journalRecord : Geometry → List ℕ → ℕ → ℕ → Record

@@ -56,8 +56,7 @@ fn entries_in(first: Sector, numbers: &[u64], from: usize, n: usize) -> [u8; 512
     while i < n {
         let source = first.0 + ((from + i) as u64);
         let target = numbers[from + i];
-        fields::put_be(&mut a, 16 * i, 8, source);
-        fields::put_be(&mut a, 16 * i + 8, 8, target);
+        layout::journal::put(&mut a, 16 * i, source, target);
         i += 1;
     }
     a

@@ -12,12 +12,12 @@ use Rattle.model.specs.declared.Lowest.{Lowest}
 use Rattle.model.specs.declared.Lowest.the-variants.{At, Nowhere}
 use Rattle.model.specs.declared.Verdict.{Verdict}
 use Rattle.model.specs.declared.Changed.{Changed}
-use Rattle.model.specs.Bytes.{beAt}
+use Rattle.model.specs.Bytes.{numberIn}
 use Rattle.model.specs.Search.{scan, indexOf}
 use Rattle.model.specs.Geometry.{superblockAt, rootAt}
 use Rattle.model.specs.Disk.{Disk, view}
 use Rattle.model.specs.Superblock.{geometryIn}
-use Rattle.model.specs.Root.{rootIn}
+use Rattle.model.specs.Root.{rootField, rootIn}
 use Rattle.model.specs.Entry.{badName}
 use Rattle.model.specs.Catalogue.{Catalogue, catalogueOf, isFree, freeEntry}
 use Rattle.model.specs.Refusals.{Conditions, verdictOf, refusal, done, judged}
@@ -30,7 +30,7 @@ use Rattle.commit.proofs.Decided.{refused-by-own, refused-as-short, done-as-pla
 
 -- ---- what the searches and conditions say
 
-pub root-on : (d : Disk) → catalogueOf d .root .id ≡ beAt (d rootAt) 4 8
+pub root-on : (d : Disk) → catalogueOf d .root .id ≡ numberIn (d rootAt) (rootField .id)
 unfolding catalogueOf rootIn
 root-on d = refl
 

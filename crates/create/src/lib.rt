@@ -13,13 +13,12 @@ ghost use lib.Dec.{eqb};
 ghost use lib.ListN.{length};
 ghost use Rattle.model.specs.Search.{anyBelow, isAt, indexOf};
 ghost use Rattle.model.specs.Disk.{view};
-ghost use Rattle.model.specs.Entry.{badName, longestName, newEntrySector};
+ghost use Rattle.model.specs.Entry.{badName, longestName};
 ghost use Rattle.model.specs.Catalogue.{catalogueOf, fileNamed, hasId};
 ghost use Rattle.model.specs.Refusals.{verdictOf, judged};
 ghost use Rattle.model.specs.WriteList.{sectorWrite, recordSize, closed, groupsOf, Emitted};
 ghost use Rattle.model.specs.Create.{createConditions, createPlan, createCount, createAnswer, createList};
 ghost use Rattle.model.specs.Opened.{Bounded, Opened};
-ghost use Rattle.create.specs.Front.{entryFront};
 
 // A create's list has 11 records.
 const LIST_SIZE: usize = 11 * lists::RECORD_SIZE;
@@ -66,7 +65,7 @@ fn is_taken(img: &[u8], g: Geometry, name: &[u8], id: u64) -> bool
     if directory::has_id(img, g, id) {
         return true;
     }
-    id == fields::number(img, Sector(1), 4, 8)
+    id == directory::root_id(img)
 }
 
 fn own_verdict(img: &[u8], g: Geometry, name: &[u8], id: u64) -> Verdict
@@ -84,31 +83,6 @@ fn own_verdict(img: &[u8], g: Geometry, name: &[u8], id: u64) -> Verdict
         return volume::refusal(0);
     }
     volume::refusal(11)
-}
-
-// ---- the targets' contents
-
-fn entry_front(id: u64, mode: u32, time: u32) -> [u8; 512]
-    ensures { λ r. ⌜ r ≡ entryFront id mode time ⌝ }
-{
-    let mut a = [0u8; 512];
-    fields::put_be(&mut a, 0, 2, 65535);
-    fields::put_be(&mut a, 14, 8, id);
-    fields::put_be(&mut a, 22, 4, mode as u64);
-    fields::put_be(&mut a, 26, 4, time as u64);
-    a
-}
-
-fn new_entry(name: &[u8], id: u64, mode: u32, time: u32) -> [u8; 512]
-    requires { ⌜ length (now name) ≤ longestName ⌝ }
-    ensures { λ r. ⌜ r ≡ newEntrySector (now (name .entry)) id mode time ⌝ }
-{
-    let mut a = entry_front(id, mode, time);
-    let n = name.len();
-    fields::put_be(&mut a, 30, 4, time as u64);
-    fields::put_be(&mut a, 34, 2, n as u64);
-    fields::copy_bytes(name, 0, &mut a, 36, n);
-    a
 }
 
 // ---- the list
@@ -148,8 +122,8 @@ fn put_create(
     requires { ⌜ length (now name) ≤ longestName ⌝ }
     ensures { λ r. ⌜ Emitted (now (list .entry)) 0 (closed (groupsOf g (view (now (img .entry))) (createPlan (catalogueOf (view (now (img .entry)))) (view (now (img .entry))) (now (name .entry)) id mode time))) (now (list .exit)) r ⌝ }
 {
-    let a = rewrites::updated_root(img, time);
-    let b = new_entry(name, id, mode, time);
+    let a = directory::updated_root(img, time);
+    let b = layout::entry::new(name, id, mode, time);
     let i = index_of(directory::free_entry(img, g));
     let t = FileIndex(i as u64).sector();
     put_pair(list, img, g, Sector(1), a, t, b)

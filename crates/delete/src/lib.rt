@@ -102,7 +102,7 @@ pub fn shrink(img: &[u8], g: Geometry, i: FileIndex, size: u64, time: u32, list:
     ensures { λ r. ⌜ Emitted (now (list .entry)) 0 (closed (groupsFor (view (now (img .entry))) (some (shrinkPlan (catalogueOf (view (now (img .entry)))) (view (now (img .entry))) (i .0) size time)))) (now (list .exit)) r ⌝ }
 {
     let mut numbers = [0u64; 1024];
-    let s = rewrites::updated_entry(img, i, size, time);
+    let s = directory::updated_entry(img, i, size, time);
     let k = commit::put_copy(list, 0, g, &mut numbers, 0, i.sector(), s);
     let first = table::extents_for(g, size);
     let n = put_freed(list, k, &mut numbers, img, g, i, first);
@@ -119,7 +119,7 @@ fn put_delete(img: &[u8], g: Geometry, i: FileIndex, time: u32, list: &mut [u8])
     ensures { λ r. ⌜ Emitted (now (list .entry)) 0 (closed (groupsFor (view (now (img .entry))) (some (deletePlan (catalogueOf (view (now (img .entry)))) (view (now (img .entry))) (i .0) time)))) (now (list .exit)) r ⌝ }
 {
     let mut numbers = [0u64; 1024];
-    let root = rewrites::updated_root(img, time);
+    let root = directory::updated_root(img, time);
     let k = commit::put_copy(list, 0, g, &mut numbers, 0, Sector(1), root);
     let entry = [0u8; 512];
     let j = commit::put_copy(list, k, g, &mut numbers, k, i.sector(), entry);

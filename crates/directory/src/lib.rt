@@ -1,8 +1,9 @@
-// Directory entries: their marks, names, ids and fields, the searches by name and by id, faults 21 and 22.
+// The root and the directory entries of an image: what they say, the searches by name and by id, faults 21 and 22, updated sectors.
 use model::Fields;
 use model::FileIndex;
 use model::Geometry;
 use model::Lowest;
+use model::Sector;
 ghost use mathlib.Core.Path.{_≡_};
 ghost use mathlib.Core.Bool.{_&&_, _||_};
 ghost use Prim.Native.Nat.{_+_, _*_, _≤_, _<_};
@@ -10,9 +11,10 @@ ghost use lib.Dec.{eqb, ltb};
 ghost use lib.ListN.{length};
 ghost use Rattle.model.specs.Bytes.{numberIn};
 ghost use Rattle.model.specs.Search.{first, anyBelow, equalBytes};
-ghost use Rattle.model.specs.Geometry.{usable, extentBytes, entryAt};
+ghost use Rattle.model.specs.Geometry.{usable, extentBytes, rootAt, entryAt};
 ghost use Rattle.model.specs.Disk.{view};
-ghost use Rattle.model.specs.Entry.{entryField, entryIn, fieldsOf, longestName, isOccupied, nameIn, badName};
+ghost use Rattle.model.specs.Root.{rootField, updatedRootSector};
+ghost use Rattle.model.specs.Entry.{entryField, entryIn, fieldsOf, longestName, isOccupied, nameIn, badName, updatedEntrySector};
 ghost use Rattle.model.specs.Catalogue.{catalogueOf, hasId, fileNamed, freeEntry};
 ghost use Rattle.model.specs.Faults.{fault21, fault22};
 ghost use Rattle.model.specs.Opened.{Bounded, Opened};
@@ -23,7 +25,7 @@ pub fn is_occupied(img: &[u8], i: FileIndex) -> bool
     requires { ⌜ 512 * entryAt (i .0) + 512 ≤ length (now img) ⌝ }
     ensures { λ r. ⌜ r ≡ isOccupied (view (now (img .entry)) (entryAt (i .0))) ⌝ }
 {
-    fields::number(img, i.sector(), 0, 2) == 65535
+    layout::entry::is_occupied(fields::sector_part(img, i.sector()))
 }
 
 // What an occupied entry says.
@@ -31,30 +33,21 @@ pub fn fields_at(img: &[u8], i: FileIndex) -> Fields
     requires { ⌜ 512 * entryAt (i .0) + 512 ≤ length (now img) ⌝ }
     ensures { λ r. ⌜ r ≡ fieldsOf (entryIn (view (now (img .entry)) (entryAt (i .0)))) ⌝ }
 {
-    let k = i.sector();
-    let size = fields::number(img, k, 2, 8);
-    let version = fields::number(img, k, 10, 4) as u32;
-    let id = fields::number(img, k, 14, 8);
-    let mode = fields::number(img, k, 22, 4) as u32;
-    let access_time = fields::number(img, k, 26, 4) as u32;
-    let change_time = fields::number(img, k, 30, 4) as u32;
-    let name_length = fields::number(img, k, 34, 2);
-    Fields {
-        size,
-        version,
-        id,
-        mode,
-        access_time,
-        change_time,
-        name_length,
-    }
+    layout::entry::fields_in(fields::sector_part(img, i.sector()))
+}
+
+pub fn size_at(img: &[u8], i: FileIndex) -> u64
+    requires { ⌜ 512 * entryAt (i .0) + 512 ≤ length (now img) ⌝ }
+    ensures { λ r. ⌜ r ≡ numberIn (view (now (img .entry)) (entryAt (i .0))) (entryField .size) ⌝ }
+{
+    layout::entry::size(fields::sector_part(img, i.sector()))
 }
 
 pub fn id_at(img: &[u8], i: FileIndex) -> u64
     requires { ⌜ 512 * entryAt (i .0) + 512 ≤ length (now img) ⌝ }
     ensures { λ r. ⌜ r ≡ numberIn (view (now (img .entry)) (entryAt (i .0))) (entryField .id) ⌝ }
 {
-    fields::number(img, i.sector(), 14, 8)
+    layout::entry::id(fields::sector_part(img, i.sector()))
 }
 
 // The name's bytes, where they end in the sector.
@@ -63,10 +56,7 @@ pub fn name_at(img: &[u8], i: FileIndex) -> &[u8]
     requires { ⌜ numberIn (view (now img) (entryAt (i .0))) (entryField .nameLength) ≤ longestName ⌝ }
     ensures { λ r. ⌜ now r ≡ nameIn (view (now (img .entry)) (entryAt (i .0))) ⌝ }
 {
-    let k = i.sector();
-    let n = fields::number(img, k, 34, 2) as usize;
-    let at = 512 * (k.0 as usize) + 36;
-    &img[at..at + n]
+    layout::entry::name(fields::sector_part(img, i.sector()))
 }
 
 // Whether entry i is occupied and has the name. The lengths are compared first: the comparison sees no byte past the name.
@@ -76,11 +66,9 @@ pub fn has_name(img: &[u8], i: FileIndex, name: &[u8]) -> bool
     ensures { λ r. ⌜ r ≡ (isOccupied (view (now (img .entry)) (entryAt (i .0))) && equalBytes (nameIn (view (now (img .entry)) (entryAt (i .0)))) (now (name .entry))) ⌝ }
 {
     if is_occupied(img, i) {
-        let k = i.sector();
-        let n = fields::number(img, k, 34, 2) as usize;
-        if n == name.len() {
-            let at = 512 * (k.0 as usize);
-            return fields::starts_with(&img[at + 36..at + 512], name);
+        let s = fields::sector_part(img, i.sector());
+        if layout::entry::name_length(s) == name.len() {
+            return fields::starts_with(layout::entry::name_part(s), name);
         }
         return false;
     }
@@ -96,6 +84,33 @@ pub fn has_id_at(img: &[u8], i: FileIndex, id: u64) -> bool
         return id_at(img, i) == id;
     }
     false
+}
+
+// ---- the root
+
+pub fn root_id(img: &[u8]) -> u64
+    requires { ⌜ 512 * rootAt + 512 ≤ length (now img) ⌝ }
+    ensures { λ r. ⌜ r ≡ numberIn (view (now (img .entry)) rootAt) (rootField .id) ⌝ }
+{
+    layout::root::id(fields::sector_part(img, Sector(1)))
+}
+
+// ---- sectors that a change rewrites: the bytes that document 01 doesn't name stay
+
+// The root's sector with the version up and the change time set.
+pub fn updated_root(img: &[u8], time: u32) -> [u8; 512]
+    requires { ⌜ 512 * rootAt + 512 ≤ length (now img) ⌝ }
+    ensures { λ r. ⌜ r ≡ updatedRootSector time (view (now (img .entry)) rootAt) ⌝ }
+{
+    layout::root::updated(fields::sector_part(img, Sector(1)), time)
+}
+
+// Entry i's sector with the size given, the version up and the change time set.
+pub fn updated_entry(img: &[u8], i: FileIndex, size: u64, time: u32) -> [u8; 512]
+    requires { ⌜ 512 * entryAt (i .0) + 512 ≤ length (now img) ⌝ }
+    ensures { λ r. ⌜ r ≡ updatedEntrySector size time (view (now (img .entry)) (entryAt (i .0))) ⌝ }
+{
+    layout::entry::updated(fields::sector_part(img, i.sector()), size, time)
 }
 
 // ---- searches
@@ -157,11 +172,11 @@ fn bad_mark(img: &[u8], i: FileIndex) -> bool
     requires { ⌜ 512 * entryAt (i .0) + 512 ≤ length (now img) ⌝ }
     ensures { λ r. ⌜ r ≡ fault21 (view (now (img .entry))) (i .0) ⌝ }
 {
-    let mark = fields::number(img, i.sector(), 0, 2);
-    if mark == 0 {
+    let mark = layout::entry::mark(fields::sector_part(img, i.sector()));
+    if mark == layout::entry::FREE_MARK {
         return false;
     }
-    mark != 65535
+    mark != layout::entry::OCCUPIED_MARK
 }
 
 pub fn fault21(img: &[u8], g: Geometry) -> Lowest
@@ -187,7 +202,7 @@ pub fn bad_name(name: &[u8]) -> bool
 {
     let n = name.len();
     if 1 <= n {
-        if n <= 476 {
+        if n <= layout::entry::LONGEST_NAME {
             return fields::has_zero(name);
         }
         return true;
@@ -200,8 +215,9 @@ fn bad_name_at(img: &[u8], i: FileIndex) -> bool
     requires { ⌜ 512 * entryAt (i .0) + 512 ≤ length (now img) ⌝ }
     ensures { λ r. ⌜ r ≡ badName (nameIn (view (now (img .entry)) (entryAt (i .0)))) ⌝ }
 {
-    if fields::number(img, i.sector(), 34, 2) <= 476 {
-        return bad_name(name_at(img, i));
+    let s = fields::sector_part(img, i.sector());
+    if layout::entry::name_length(s) <= layout::entry::LONGEST_NAME {
+        return bad_name(layout::entry::name(s));
     }
     true
 }
@@ -223,7 +239,7 @@ fn bad_entry(img: &[u8], most: u64, i: FileIndex) -> bool
         if bad_name_at(img, i) {
             return true;
         }
-        return most < fields::number(img, i.sector(), 2, 8);
+        return most < size_at(img, i);
     }
     false
 }

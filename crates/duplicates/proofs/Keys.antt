@@ -13,12 +13,12 @@ use lib.ListN.{length, getD}
 use lib.Seq.{ext-getD}
 use borrow.Author.Tests.{eqb-true, eq-eqb, ne-eqb, le-leb}
 use Rattle.model.specs.declared.Lowest.the-variants.{Nowhere}
-use Rattle.model.specs.Bytes.{beAt}
+use Rattle.model.specs.Bytes.{beAt, numberIn}
 use Rattle.model.specs.Search.{first, allBelow, equalBytes}
 use Rattle.model.specs.Geometry.{entryAt}
 use Rattle.model.specs.Disk.{Disk}
 use Rattle.model.specs.Superblock.{geometryIn}
-use Rattle.model.specs.Entry.{isOccupied, nameIn, badName}
+use Rattle.model.specs.Entry.{entryField, isOccupied, nameIn, badName}
 use Rattle.model.specs.Catalogue.{catalogueOf}
 use Rattle.model.specs.Faults.{fault22, fault23, fault24}
 use Rattle.laws.proofs.Booleans.{and-left, and-right, and-yes}
@@ -87,14 +87,14 @@ module _ (d : Disk) where
 
   -- where fault 22 is nowhere, every name ends in its sector
   pub names-fit : first (fault22 (catalogueOf d)) files ≡ Nowhere → KeysFit Name d files
-  names-fit e j l o = go (decLt 476 (beAt s 34 2))
+  names-fit e j l o = go (decLt 476 (numberIn s (entryField .nameLength)))
     where
       s : List ℕ
       s = d (entryAt j)
 
-      go : Dec (476 < beAt s 34 2) → leb (beAt s 34 2) 476 ≡ true
+      go : Dec (476 < numberIn s (entryField .nameLength)) → leb (numberIn s (entryField .nameLength)) 476 ≡ true
       go (yes h) =
           let long : badName (nameIn s) ≡ true = long-name (nameIn s) (rw (length-nameIn s) h) in
           let f : fault22 (catalogueOf d) j ≡ true = fault22-is d j l ∙ rw (o, long) in
           absurd (true≢false (sym f ∙ first-missed (fault22 (catalogueOf d)) files e j l))
-      go (no h) = le-leb (beAt s 34 2) 476 (omega arith)
+      go (no h) = le-leb (numberIn s (entryField .nameLength)) 476 (omega arith)

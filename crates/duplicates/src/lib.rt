@@ -3,7 +3,6 @@
 use model::FileIndex;
 use model::Geometry;
 use model::Lowest;
-use model::Sector;
 ghost use mathlib.Core.Path.{_≡_};
 ghost use mathlib.Core.Bool.{true, false};
 ghost use Prim.Native.Nat.{ℕ, _+_, _*_, _≤_, _<_};
@@ -94,7 +93,7 @@ fn is_reserved_id(img: &[u8], i: FileIndex) -> bool
     if id == 0 {
         return true;
     }
-    id == fields::number(img, Sector(1), 4, 8)
+    id == directory::root_id(img)
 }
 
 fn is_reserved(img: &[u8], key: Key, i: FileIndex) -> bool

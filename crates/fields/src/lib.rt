@@ -82,6 +82,16 @@ pub fn sector(img: &[u8], k: Sector) -> [u8; 512]
     a
 }
 
+// Sector k of an image, lent.
+pub fn sector_part(img: &[u8], k: Sector) -> &[u8]
+    requires { ⌜ 512 * k .0 + 512 ≤ length (now img) ⌝ }
+    ensures { λ r. ⌜ now r ≡ view (now (img .entry)) (k .0) ⌝ }
+    ensures { λ r. ⌜ length (now r) ≡ 512 ⌝ }
+{
+    let at = (512 * k.0) as usize;
+    &img[at..at + 512]
+}
+
 // The number of `width` bytes at `at` in sector k.
 pub fn number(img: &[u8], k: Sector, at: usize, width: usize) -> u64
     requires { ⌜ 512 * k .0 + 512 ≤ length (now img) ⌝ }

@@ -90,26 +90,14 @@ fn free_table_sector() -> [u8; 512]
 fn new_superblock(g: Geometry, n: u64) -> [u8; 512]
     ensures { λ r. ⌜ r ≡ newSuperblock g n ⌝ }
 {
-    let mut a = zero_sector();
-    fields::put_be(&mut a, 0, 2, g.files);
-    fields::put_be(&mut a, 2, 2, g.extents);
-    fields::put_be(&mut a, 4, 4, g.extent_sectors as u64);
-    fields::copy_bytes(b"/Goo/FS/", 0, &mut a, 8, 8);
-    fields::put_be(&mut a, 16, 2, 1);
-    fields::put_be(&mut a, 18, 2, n);
-    a
+    layout::superblock::new(g, n)
 }
 
 // The version is 0, as are the unused bytes.
 fn new_root(id: u64, mode: u32, time: u32) -> [u8; 512]
     ensures { λ r. ⌜ r ≡ newRootSector id mode time ⌝ }
 {
-    let mut a = zero_sector();
-    fields::put_be(&mut a, 4, 8, id);
-    fields::put_be(&mut a, 12, 4, mode as u64);
-    fields::put_be(&mut a, 16, 4, time as u64);
-    fields::put_be(&mut a, 20, 4, time as u64);
-    a
+    layout::root::new(id, mode, time)
 }
 
 // ---- the records

@@ -9,12 +9,12 @@ use borrow.Author.Tests.{le-leb, lt-leb, lt-ltb, le-ltb}
 use Rattle.model.specs.declared.Lowest.{Lowest}
 use Rattle.model.specs.declared.Lowest.the-variants.{At}
 use Rattle.model.specs.declared.Verdict.{Verdict}
-use Rattle.model.specs.Bytes.{beAt}
+use Rattle.model.specs.Bytes.{numberIn}
 use Rattle.model.specs.Search.{isAt, indexOf}
 use Rattle.model.specs.Geometry.{superblockAt, entryAt}
 use Rattle.model.specs.Disk.{Disk}
 use Rattle.model.specs.Superblock.{geometryIn}
-use Rattle.model.specs.Entry.{Entry, nameIn, entryIn, isOccupied, badName}
+use Rattle.model.specs.Entry.{entryField, Entry, nameIn, entryIn, isOccupied, badName}
 use Rattle.model.specs.Catalogue.{catalogueOf, isFree, fileNamed, entryOf}
 use Rattle.model.specs.Refusals.{verdictOf, refusal, done}
 use Rattle.model.specs.Listing.{listConditions}
@@ -46,18 +46,18 @@ module _ (d : Disk) (i room : ℕ) where
     list-free o = free-list ∙ ap (λ (b : Bool). by3 8 9 14 false (not b) (ltb room (length (entryOf (catalogueOf d) i .name)))) o
 
     module _ (o : isOccupied (d (entryAt i)) ≡ true) where
-      full-list : verdictOf (listConditions (catalogueOf d) i room) ≡ by3 8 9 14 false false (ltb room (beAt (d (entryAt i)) 34 2))
+      full-list : verdictOf (listConditions (catalogueOf d) i room) ≡ by3 8 9 14 false false (ltb room (numberIn (d (entryAt i)) (entryField .nameLength)))
       unfolding entryIn
       full-list =
           free-list ∙ ap (λ (b : Bool). by3 8 9 14 false (not b) (ltb room (length (entryOf (catalogueOf d) i .name)))) o
           ∙ ap (λ (e : Entry). by3 8 9 14 false false (ltb room (length (e .name)))) (entry-on d i l o)
           ∙ ap (λ (n : ℕ). by3 8 9 14 false false (ltb room n)) (length-nameIn (d (entryAt i)))
 
-      pub list-short : room < beAt (d (entryAt i)) 34 2 → verdictOf (listConditions (catalogueOf d) i room) ≡ refusal 14
-      list-short h = full-list ∙ ap (λ (b : Bool). by3 8 9 14 false false b) (lt-ltb room (beAt (d (entryAt i)) 34 2) h)
+      pub list-short : room < numberIn (d (entryAt i)) (entryField .nameLength) → verdictOf (listConditions (catalogueOf d) i room) ≡ refusal 14
+      list-short h = full-list ∙ ap (λ (b : Bool). by3 8 9 14 false false b) (lt-ltb room (numberIn (d (entryAt i)) (entryField .nameLength)) h)
 
-      pub list-done : beAt (d (entryAt i)) 34 2 ≤ room → verdictOf (listConditions (catalogueOf d) i room) ≡ done
-      list-done h = full-list ∙ ap (λ (b : Bool). by3 8 9 14 false false b) (le-ltb room (beAt (d (entryAt i)) 34 2) h)
+      pub list-done : numberIn (d (entryAt i)) (entryField .nameLength) ≤ room → verdictOf (listConditions (catalogueOf d) i room) ≡ done
+      list-done h = full-list ∙ ap (λ (b : Bool). by3 8 9 14 false false b) (le-ltb room (numberIn (d (entryAt i)) (entryField .nameLength)) h)
 
       pub listed-name : entryOf (catalogueOf d) i .name ≡ nameIn (d (entryAt i))
       unfolding entryIn
@@ -83,11 +83,11 @@ module _ (d : Disk) (name : List ℕ) (offset asked room : ℕ) where
     unfolding verdictOf readConditions
     read-missing h = rw (good, le-ltb longestTransfer asked most, h)
 
-    pub size-named : (i : ℕ) → At i ≡ fileNamed (catalogueOf d) name → sizeNamed (catalogueOf d) name ≡ beAt (d (entryAt i)) 2 8
+    pub size-named : (i : ℕ) → At i ≡ fileNamed (catalogueOf d) name → sizeNamed (catalogueOf d) name ≡ numberIn (d (entryAt i)) (entryField .size)
     unfolding sizeNamed entryIn
     size-named i e = ap (λ (p : Lowest). entryOf (catalogueOf d) (indexOf p) .size) (sym e) ∙ ap (λ (x : Entry). x .size) (named-entry d name i e)
 
     pub read-file : (i : ℕ) → At i ≡ fileNamed (catalogueOf d) name
-        → verdictOf (readConditions (catalogueOf d) name offset asked room) ≡ fileVerdict (beAt (d (entryAt i)) 2 8) offset asked room
+        → verdictOf (readConditions (catalogueOf d) name offset asked room) ≡ fileVerdict (numberIn (d (entryAt i)) (entryField .size)) offset asked room
     unfolding verdictOf readConditions fileVerdict
     read-file i e = rw (good, le-ltb longestTransfer asked most, ← e, size-named i e)

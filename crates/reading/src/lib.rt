@@ -92,8 +92,7 @@ fn copy_name(img: &[u8], i: FileIndex, out: &mut [u8], n: usize)
     requires { ⌜ (n ≡ numberIn (view (now img) (entryAt (i .0))) (entryField .nameLength)) × (n ≤ longestName) × (n ≤ length (now out)) ⌝ }
     ensures { λ _. ⌜ now (out .exit) ≡ put (now (out .entry)) 0 (nameIn (view (now (img .entry)) (entryAt (i .0)))) ⌝ }
 {
-    let k = i.sector();
-    fields::copy_bytes(img, 512 * (k.0 as usize) + 36, out, 0, n);
+    fields::copy_bytes(directory::name_at(img, i), 0, out, 0, n);
 }
 
 pub fn list_in(img: &[u8], index: u64, out: &mut [u8]) -> Listed
@@ -169,7 +168,7 @@ pub fn read_in(img: &[u8], name: &[u8], offset: u64, asked: u64, out: &mut [u8])
     let g = volume::geometry_in(img);
     if let Lowest::At(i) = directory::file_named(img, g, name) {
         let index = FileIndex(i as u64);
-        let size = fields::number(img, index.sector(), 2, 8);
+        let size = directory::size_at(img, index);
         return read_file(img, g, index, size, offset, asked, out);
     }
     not_read(volume::refusal(9))

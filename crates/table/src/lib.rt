@@ -24,7 +24,7 @@ pub fn table_file(img: &[u8], g: Geometry, e: Extent) -> u64
     ensures { λ r. ⌜ r ≡ tableFile g (view (now (img .entry))) (e .0) ⌝ }
     ensures { λ r. ⌜ r < 65536 ⌝ }
 {
-    fields::be(img, g.table_entry_at(e), 2)
+    layout::table::file(img, g.table_entry_at(e))
 }
 
 // The offset, counted in extents, that extent e's entry says.
@@ -34,7 +34,7 @@ pub fn table_offset(img: &[u8], g: Geometry, e: Extent) -> u64
     ensures { λ r. ⌜ r ≡ tableOffset g (view (now (img .entry))) (e .0) ⌝ }
     ensures { λ r. ⌜ r < 65536 ⌝ }
 {
-    fields::be(img, g.table_entry_at(e) + 2, 2)
+    layout::table::offset(img, g.table_entry_at(e))
 }
 
 // ---- searches, a table sector at a time
@@ -288,8 +288,7 @@ fn free_one(s: &mut [u8], k: usize, hit: bool)
     ensures { λ _. ⌜ now (s .exit) ≡ cond hit (put (now (s .entry)) (4 * k) (tableEntryBytes freeFile 65535)) (now (s .entry)) ⌝ }
 {
     if hit {
-        fields::put_be(s, 4 * k, 2, 65535);
-        fields::put_be(s, 4 * k + 2, 2, 65535);
+        layout::table::put(s, 4 * k, 65535, 65535);
         return;
     }
 }

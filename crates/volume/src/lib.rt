@@ -28,24 +28,14 @@ pub fn is_volume(img: &[u8]) -> bool
     requires { ⌜ 512 ≤ length (now img) ⌝ }
     ensures { λ r. ⌜ r ≡ isVolume (view (now (img .entry)) 0) ⌝ }
 {
-    if fields::starts_with(&img[8..16], b"/Goo/FS/") {
-        return fields::number(img, Sector(0), 16, 2) == 1;
-    }
-    false
+    layout::superblock::is_volume(fields::sector_part(img, Sector(0)))
 }
 
 pub fn geometry_in(img: &[u8]) -> Geometry
     requires { ⌜ 512 ≤ length (now img) ⌝ }
     ensures { λ r. ⌜ r ≡ geometryIn (view (now (img .entry)) 0) ⌝ }
 {
-    let f = fields::number(img, Sector(0), 0, 2);
-    let n = fields::number(img, Sector(0), 2, 2);
-    let s = fields::number(img, Sector(0), 4, 4);
-    Geometry {
-        files: f,
-        extents: n,
-        extent_sectors: s as u32,
-    }
+    layout::superblock::geometry(fields::sector_part(img, Sector(0)))
 }
 
 // The geometry is in bounds, and the volume no longer than the image.
@@ -79,7 +69,8 @@ pub fn state_on(img: &[u8]) -> State
     requires { ⌜ 512 ≤ length (now img) ⌝ }
     ensures { λ r. ⌜ r ≡ stateOn (view (now (img .entry))) ⌝ }
 {
-    state_of(fields::number(img, Sector(0), 18, 2))
+    let s = fields::sector_part(img, Sector(0));
+    state_of(layout::superblock::journal_length(s))
 }
 
 pub fn refusal(number: u64) -> Verdict

@@ -15,8 +15,8 @@ use Rattle.model.specs.declared.Lowest.the-variants.{At}
 use Rattle.model.specs.Search.{scan, tabulate, isAt, indexOf}
 use Rattle.model.specs.Geometry.{entryAt, extentsFor, usable}
 use Rattle.model.specs.Disk.{Disk, view}
-use Rattle.model.specs.Bytes.{beAt}
-use Rattle.model.specs.Entry.{Entry, entryIn, badName, updatedEntrySector}
+use Rattle.model.specs.Bytes.{numberIn}
+use Rattle.model.specs.Entry.{entryField, Entry, entryIn, badName, updatedEntrySector}
 use Rattle.model.specs.Table.{tableFile, tableSectorOf, takenIn, freeFile}
 use Rattle.model.specs.Catalogue.{Catalogue, catalogueOf, fileNamed, freeExtent, entryOf}
 use Rattle.model.specs.Refusals.{Conditions, verdictOf, refusal, done, judged}
@@ -56,7 +56,7 @@ module _ (img : List ℕ) (g : Geometry) (o : Opened img g) where
     pub file-below : i < g .files
     file-below = rw (o .is) (named-at (view img) name i e .0)
 
-    pub asked : judged (length img) (view img) .number ≡ 0 → (size n : ℕ) → size ≡ beAt (view img (entryAt i)) 2 8 → n ≤ longestTransfer → Asked img g i size n
+    pub asked : judged (length img) (view img) .number ≡ 0 → (size n : ℕ) → size ≡ numberIn (view img (entryAt i)) (entryField .size) → n ≤ longestTransfer → Asked img g i size n
     unfolding entryIn
     asked ok size n q short =
         let h = named-at (view img) name i e in

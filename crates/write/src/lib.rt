@@ -46,9 +46,7 @@ fn taken_sector(img: &[u8], g: Geometry, x: Extent, i: FileIndex, offset: u64) -
     ensures { λ r. ⌜ r ≡ takenIn (x .0) (i .0) offset (view (now (img .entry)) (tableSectorOf g (x .0))) ⌝ }
 {
     let mut a = fields::sector(img, g.table_sector_of(x));
-    let at = x.table_place();
-    fields::put_be(&mut a, at, 2, i.0);
-    fields::put_be(&mut a, at + 2, 2, offset);
+    layout::table::put(&mut a, x.table_place(), i.0, offset);
     a
 }
 
@@ -131,7 +129,7 @@ fn put_write(
         touched,
     );
     let mut numbers = [0u64; 2];
-    let entry = rewrites::updated_entry(img, i, z, time);
+    let entry = directory::updated_entry(img, i, z, time);
     let k1 = commit::put_copy(list, k, g, &mut numbers, 0, i.sector(), entry);
     if w.more {
         let t = taken_sector(img, g, w.next, i, w.held);
@@ -230,7 +228,7 @@ pub fn write_in(
     let g = volume::geometry_in(img);
     if let Lowest::At(i) = directory::file_named(img, g, name) {
         let index = FileIndex(i as u64);
-        let size = fields::number(img, index.sector(), 2, 8);
+        let size = directory::size_at(img, index);
         return write_file(
             img,
             g,
@@ -319,7 +317,7 @@ pub fn resize_in(img: &[u8], name: &[u8], size: u64, time: u32, list: &mut [u8])
     let g = volume::geometry_in(img);
     if let Lowest::At(i) = directory::file_named(img, g, name) {
         let index = FileIndex(i as u64);
-        let old = fields::number(img, index.sector(), 2, 8);
+        let old = directory::size_at(img, index);
         return resize_file(img, g, index, old, size, time, list);
     }
     commit::refused(volume::refusal(9))

@@ -8,11 +8,8 @@ use Rattle.allocation.proofs.needed.Tie as tie
 is-occupied-requires : tie.Need-is-occupied-requires
 is-occupied-requires c κs = search needs
 
-sector-requires : tie.Need-sector-requires
-sector-requires c κs = search needs
-
-number-requires : tie.Need-number-requires
-number-requires c κs = search needs
+size-at-requires : tie.Need-size-at-requires
+size-at-requires c κs = search needs
 
 extents-for-requires : tie.Need-extents-for-requires
 extents-for-requires c κs = search needs
@@ -20,7 +17,7 @@ extents-for-requires c κs = search needs
 returns : tie.Need-returns
 unfolding needed
 returns c =
-    rw (← c .before .before .before .before .is-occupied .ensures, c .before .before .before .if1 .taken, ← c .before .before .sector .ensures, ← c .before .number .ensures .0) (c .extents-for .ensures)
+    rw (← c .before .before .before .is-occupied .ensures, c .before .before .if1 .taken, ← c .before .size-at .ensures) (c .extents-for .ensures)
 
 returns-2 : tie.Need-returns-2
 unfolding needed
@@ -31,8 +28,7 @@ needed-spec =
     tie.close
     (tie.spec
     is-occupied-requires
-    sector-requires
-    number-requires
+    size-at-requires
     extents-for-requires
     returns
     returns-2)

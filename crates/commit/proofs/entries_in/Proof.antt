@@ -35,26 +35,14 @@ mul-target c = search needs
 shared-slice-read-target : tie.Need-shared-slice-read-target Inv-loop μ-loop
 shared-slice-read-target c = search needs
 
-slice-aggregate-put-be : tie.Need-slice-aggregate-put-be Inv-loop μ-loop
-slice-aggregate-put-be c = search needs
+slice-aggregate-put : tie.Need-slice-aggregate-put Inv-loop μ-loop
+slice-aggregate-put c = search needs
 
-mul-put-be : tie.Need-mul-put-be Inv-loop μ-loop
-mul-put-be c = search needs
+mul-put : tie.Need-mul-put Inv-loop μ-loop
+mul-put c = search needs
 
-put-be-requires : tie.Need-put-be-requires Inv-loop μ-loop
-put-be-requires c κs = search needs
-
-slice-aggregate-put-be-2 : tie.Need-slice-aggregate-put-be-2 Inv-loop μ-loop
-slice-aggregate-put-be-2 c = search needs
-
-mul-put-be-2 : tie.Need-mul-put-be-2 Inv-loop μ-loop
-mul-put-be-2 c = search needs
-
-add-put-be : tie.Need-add-put-be Inv-loop μ-loop
-add-put-be c = search needs
-
-put-be-requires-2 : tie.Need-put-be-requires-2 Inv-loop μ-loop
-put-be-requires-2 c κs = search needs
+put-requires : tie.Need-put-requires Inv-loop μ-loop
+put-requires c κs = search needs
 
 add-i : tie.Need-add-i Inv-loop μ-loop
 add-i c = search needs
@@ -64,8 +52,8 @@ loop-less c = search needs
 
 loop-again : tie.Need-loop-again Inv-loop μ-loop
 loop-again c =
-    let l = c .before .before .before .before .before .before .before .before .before .loop in
-    (search needs, rw (entries-more, ← l .inv .1, ← c .before .before .before .before .put-be .ensures) (c .before .put-be2 .ensures), search needs)
+    let l = c .before .before .before .before .before .before .loop in
+    (search needs, rw (entries-more, ← l .inv .1) (c .before .put .ensures), search needs)
 
 returns : tie.Need-returns Inv-loop μ-loop
 returns c =
@@ -84,13 +72,9 @@ entries-in-spec =
     add-target
     mul-target
     shared-slice-read-target
-    slice-aggregate-put-be
-    mul-put-be
-    put-be-requires
-    slice-aggregate-put-be-2
-    mul-put-be-2
-    add-put-be
-    put-be-requires-2
+    slice-aggregate-put
+    mul-put
+    put-requires
     add-i
     loop-less
     loop-again

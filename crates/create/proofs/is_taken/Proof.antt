@@ -19,11 +19,11 @@ has-id-requires c κs = search needs
 returns-2 : tie.Need-returns-2
 returns-2 c = rw (← c .before .before .before .before .file-named .ensures, ← c .before .before .before .is-at .ensures, c .before .before .if1 .left, ← c .before .has-id .ensures, c .if2 .taken)
 
-number-requires : tie.Need-number-requires
-number-requires c κs = search needs
+root-id-requires : tie.Need-root-id-requires
+root-id-requires c κs = search needs
 
 returns-3 : tie.Need-returns-3
-returns-3 c = rw (← c .before .before .before .before .before .file-named .ensures, ← c .before .before .before .before .is-at .ensures, c .before .before .before .if1 .left, ← c .before .before .has-id .ensures, c .before .if2 .left, root-on, ← c .number .ensures .0)
+returns-3 c = rw (← c .before .before .before .before .before .file-named .ensures, ← c .before .before .before .before .is-at .ensures, c .before .before .before .if1 .left, ← c .before .before .has-id .ensures, c .before .if2 .left, root-on, ← c .root-id .ensures)
 
 pub is-taken-spec : {M : Type 1} → statement M
 is-taken-spec =
@@ -34,5 +34,5 @@ is-taken-spec =
     returns
     has-id-requires
     returns-2
-    number-requires
+    root-id-requires
     returns-3)

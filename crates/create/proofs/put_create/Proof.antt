@@ -10,8 +10,8 @@ use Rattle.create.proofs.put_create.Tie as tie
 updated-root-requires : tie.Need-updated-root-requires
 updated-root-requires c κs = search needs
 
-new-entry-requires : tie.Need-new-entry-requires
-new-entry-requires c κs = search needs
+new-requires : tie.Need-new-requires
+new-requires c κs = search needs
 
 free-entry-requires : tie.Need-free-entry-requires
 free-entry-requires c κs = search needs
@@ -35,7 +35,7 @@ returns : tie.Need-returns
 unfolding createPlan
 returns c =
     let s = c .before .before .before .before in
-    rw (← s .before .before .before .before .updated-root .ensures, ← s .before .before .before .new-entry .ensures, ← s .before .before .free-entry .ensures, ← s .before .index-of .ensures, ← s .sector .ensures)
+    rw (← s .before .before .before .before .updated-root .ensures, ← s .before .before .before .new .ensures, ← s .before .before .free-entry .ensures, ← s .before .index-of .ensures, ← s .sector .ensures)
     (c .before .before .put-pair .ensures)
 
 pub put-create-spec : {M : Type 1} → statement M
@@ -43,7 +43,7 @@ put-create-spec =
     tie.close
     (tie.spec
     updated-root-requires
-    new-entry-requires
+    new-requires
     free-entry-requires
     index-of-requires
     sector-requires

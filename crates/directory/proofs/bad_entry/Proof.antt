@@ -12,14 +12,11 @@ bad-name-at-requires c κs = search needs
 returns : tie.Need-returns
 returns c = rw (← c .before .before .before .is-occupied .ensures, c .before .before .if1 .taken, ← c .before .bad-name-at .ensures, c .if2 .taken)
 
-sector-requires : tie.Need-sector-requires
-sector-requires c κs = search needs
-
-number-requires : tie.Need-number-requires
-number-requires c κs = search needs
+size-at-requires : tie.Need-size-at-requires
+size-at-requires c κs = search needs
 
 returns-2 : tie.Need-returns-2
-returns-2 c = rw (← c .before .before .before .before .before .is-occupied .ensures, c .before .before .before .before .if1 .taken, ← c .before .before .before .bad-name-at .ensures, c .before .before .if2 .left, ← c .before .sector .ensures, ← c .number .ensures .0)
+returns-2 c = rw (← c .before .before .before .before .is-occupied .ensures, c .before .before .before .if1 .taken, ← c .before .before .bad-name-at .ensures, c .before .if2 .left, ← c .size-at .ensures)
 
 returns-3 : tie.Need-returns-3
 returns-3 c = rw (← c .before .is-occupied .ensures, c .if1 .left)
@@ -31,7 +28,6 @@ bad-entry-spec =
     is-occupied-requires
     bad-name-at-requires
     returns
-    sector-requires
-    number-requires
+    size-at-requires
     returns-2
     returns-3)

@@ -9,16 +9,21 @@ use Rattle.directory.proofs.bad_mark.Tie as tie
 sector-requires : tie.Need-sector-requires
 sector-requires c κs = search needs
 
-number-requires : tie.Need-number-requires
-number-requires c κs = search needs
+sector-part-requires : tie.Need-sector-part-requires
+sector-part-requires c κs = search needs
+
+mark-requires : tie.Need-mark-requires
+mark-requires c κs = search needs
 
 returns : tie.Need-returns
 unfolding fault21 isOccupied
-returns c = rw (← c .before .before .sector .ensures, ← c .before .number .ensures .0, eq-eqb _ _ (c .if1 .taken))
+returns c = let d = c .before in
+    rw (← d .before .before .sector .ensures, ← d .before .sector-part .ensures .0, ← d .mark .ensures, eq-eqb _ _ (c .if1 .taken))
 
 returns-2 : tie.Need-returns-2
 unfolding fault21 isOccupied
-returns-2 c = rw (← c .before .before .sector .ensures, ← c .before .number .ensures .0, ne-eqb _ _ (c .if1 .left))
+returns-2 c = let d = c .before in
+    rw (← d .before .before .sector .ensures, ← d .before .sector-part .ensures .0, ← d .mark .ensures, ne-eqb _ _ (c .if1 .left))
 
 pub bad-mark-spec : {M : Type 1} → statement M
-bad-mark-spec = tie.close (tie.spec sector-requires number-requires returns returns-2)
+bad-mark-spec = tie.close (tie.spec sector-requires sector-part-requires mark-requires returns returns-2)

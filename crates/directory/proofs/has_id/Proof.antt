@@ -6,18 +6,18 @@ use mathlib.Core.Bool.{Bool, false, _&&_}
 use mathlib.Core.List.{List}
 use native.Mathlib.Omega.{arith}
 use lib.Dec.{eqb}
-use Rattle.model.specs.Bytes.{beAt}
+use Rattle.model.specs.Bytes.{numberIn}
 use Rattle.model.specs.Search.{anyBelow}
 use Rattle.model.specs.Geometry.{entryAt}
 use Rattle.model.specs.Disk.{view}
-use Rattle.model.specs.Entry.{isOccupied}
+use Rattle.model.specs.Entry.{entryField, isOccupied}
 use Rattle.laws.proofs.Search.{anyBelow-more, anyBelow-true}
 use Rattle.directory.proofs.Laws.{id-on}
 use Rattle.directory.proofs.has_id.Statement.{statement}
 use Rattle.directory.proofs.has_id.Tie as tie
 
 abbrev hit : List ℕ → ℕ → ℕ → Bool
-hit img id i = isOccupied (view img (entryAt i)) && eqb (beAt (view img (entryAt i)) 14 8) id
+hit img id i = isOccupied (view img (entryAt i)) && eqb (numberIn (view img (entryAt i)) (entryField .id)) id
 
 abbrev Inv-loop : tie.InvT-loop
 Inv-loop img id f i₀ i = (i ≤ f) × (anyBelow (hit img id) i ≡ false)

@@ -11,12 +11,12 @@ id-at-requires c κs = search needs
 returns : tie.Need-returns
 returns c = rw (← c .before .id-at .ensures, eq-eqb _ _ (c .if1 .taken))
 
-number-requires : tie.Need-number-requires
-number-requires c κs = search needs
+root-id-requires : tie.Need-root-id-requires
+root-id-requires c κs = search needs
 
 returns-2 : tie.Need-returns-2
 unfolding rootIn
-returns-2 c = rw (← c .before .before .id-at .ensures, ne-eqb _ _ (c .before .if1 .left), ← c .number .ensures .0)
+returns-2 c = rw (← c .before .before .id-at .ensures, ne-eqb _ _ (c .before .if1 .left), ← c .root-id .ensures)
 
 pub is-reserved-id-spec : {M : Type 1} → statement M
-is-reserved-id-spec = tie.close (tie.spec id-at-requires returns number-requires returns-2)
+is-reserved-id-spec = tie.close (tie.spec id-at-requires returns root-id-requires returns-2)

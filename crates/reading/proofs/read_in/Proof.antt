@@ -1,11 +1,9 @@
 -- `reading::read_in` meets its contract. The name is bad, too many bytes are asked, the file is read, or no file has the name.
-use mathlib.Core.Path.{_≡_, sym, ap, _∙_}
+use mathlib.Core.Path.{sym, ap, _∙_}
 use native.Mathlib.Omega.{arith}
 use lib.ListN.{length}
 use Rattle.model.specs.declared.Geometry.{Geometry}
-use Rattle.model.specs.Bytes.{beAt}
 use Rattle.model.specs.Search.{tabulate, isAt}
-use Rattle.model.specs.Geometry.{entryAt}
 use Rattle.model.specs.Disk.{view}
 use Rattle.model.specs.Catalogue.{fileBytes}
 use Rattle.model.specs.Read.{readBy}
@@ -54,28 +52,21 @@ file-named-requires c κs = (judged-opened _ _ (c .geometry-in .ensures) (omega 
 enum-known-i : tie.Need-enum-known-i
 enum-known-i c = search needs
 
-sector-requires : tie.Need-sector-requires
-sector-requires c κs =
+size-at-requires : tie.Need-size-at-requires
+size-at-requires c κs =
     let o = judged-opened _ _ (c .before .before .before .before .geometry-in .ensures) (omega arith) (c .before .before .before .before .before .before .before .before .before .before .before .pre) in
     let e = ap (λ (x : Geometry). x .files) (c .before .before .before .before .geometry-in .ensures) in
     let h = named-at (view (c .before .before .before .before .before .before .before .before .before .before .before .args .img .now)) (c .before .before .before .before .before .before .before .before .before .before .before .args .name .now) (c .before .i .given .0 .0) (sym (sym (c .before .before .before .file-named .ensures) ∙ c .before .i .given .1)) in
     omega arith
 
-number-requires : tie.Need-number-requires
-number-requires c κs =
-    let o = judged-opened _ _ (c .before .before .before .before .before .geometry-in .ensures) (omega arith) (c .before .before .before .before .before .before .before .before .before .before .before .before .pre) in
-    let e = ap (λ (x : Geometry). x .files) (c .before .before .before .before .before .geometry-in .ensures) in
-    let h = named-at (view (c .before .before .before .before .before .before .before .before .before .before .before .before .args .img .now)) (c .before .before .before .before .before .before .before .before .before .before .before .before .args .name .now) (c .before .before .i .given .0 .0) (sym (sym (c .before .before .before .before .file-named .ensures) ∙ c .before .before .i .given .1)) in
-    (omega arith, (omega arith, omega arith))
-
 read-file-requires : tie.Need-read-file-requires
 read-file-requires c κs =
-    let o = judged-opened _ _ (c .before .before .before .before .before .before .before .geometry-in .ensures) (omega arith) (c .before .before .before .before .before .before .before .before .before .before .before .before .before .before .pre) in
-    let h = named-at (view (c .before .before .before .before .before .before .before .before .before .before .before .before .before .before .args .img .now)) (c .before .before .before .before .before .before .before .before .before .before .before .before .before .before .args .name .now) (c .before .before .before .before .i .given .0 .0) (sym (sym (c .before .before .before .before .before .before .file-named .ensures) ∙ c .before .before .before .before .i .given .1)) in
-    let e = ap (λ (x : Geometry). x .files) (c .before .before .before .before .before .before .before .geometry-in .ensures) in
-    let s = size-fits (c .before .before .before .before .before .before .before .before .before .before .before .before .before .before .args .img .now) (c .before .before .before .before .before .before .before .geometry-in .result) o (judged-sound _ _ (c .before .before .before .before .before .before .before .before .before .before .before .before .before .before .pre)) (c .before .before .before .before .i .given .0 .0) (h .0) (h .1) in
-    let z = rw (c .before .before .sector .ensures) at (c .before .number .ensures .0) in
-    (o, (omega arith, omega (arith, z, s), c .before .before .before .before .before .before .before .before .if2 .left))
+    let o = judged-opened _ _ (c .before .before .before .before .before .before .geometry-in .ensures) (omega arith) (c .before .before .before .before .before .before .before .before .before .before .before .before .before .pre) in
+    let h = named-at (view (c .before .before .before .before .before .before .before .before .before .before .before .before .before .args .img .now)) (c .before .before .before .before .before .before .before .before .before .before .before .before .before .args .name .now) (c .before .before .before .i .given .0 .0) (sym (sym (c .before .before .before .before .before .file-named .ensures) ∙ c .before .before .before .i .given .1)) in
+    let e = ap (λ (x : Geometry). x .files) (c .before .before .before .before .before .before .geometry-in .ensures) in
+    let s = size-fits (c .before .before .before .before .before .before .before .before .before .before .before .before .before .args .img .now) (c .before .before .before .before .before .before .geometry-in .result) o (judged-sound _ _ (c .before .before .before .before .before .before .before .before .before .before .before .before .before .pre)) (c .before .before .before .i .given .0 .0) (h .0) (h .1) in
+    let z = c .before .size-at .ensures in
+    (o, (omega arith, omega (arith, z, s), c .before .before .before .before .before .before .before .if2 .left))
 
 same-length : tie.Need-same-length
 same-length c = search needs
@@ -83,11 +74,11 @@ same-length c = search needs
 returns-3 : tie.Need-returns-3
 unfolding readBy
 returns-3 c =
-    let q = sym (sym (c .before .before .before .before .before .before .before .before .before .file-named .ensures) ∙ c .before .before .before .before .before .before .before .i .given .1) in
-    let g = (sym (c .before .before .before .before .before .before .before .before .before .before .before .before .before .bad-name .ensures) ∙ c .before .before .before .before .before .before .before .before .before .before .before .before .if1 .left) in
-    let m = c .before .before .before .before .before .before .before .before .before .before .before .if2 .left in
-    let z : c .before .before .before .before .number .result ≡ beAt (view (c .before .before .before .before .before .before .before .before .before .before .before .before .before .before .before .before .before .args .img .now) (entryAt (c .before .before .before .before .before .before .before .i .given .0 .0))) 2 8 = rw (c .before .before .before .before .before .sector .ensures) at (c .before .before .before .before .number .ensures .0) in (
-      rw (read-file (view (c .before .before .before .before .before .before .before .before .before .before .before .before .before .before .before .before .before .args .img .now)) (c .before .before .before .before .before .before .before .before .before .before .before .before .before .before .before .before .before .args .name .now) (c .before .before .before .before .before .before .before .before .before .before .before .before .before .before .before .before .before .args .offset) (c .before .before .before .before .before .before .before .before .before .before .before .before .before .before .before .before .before .args .asked) (length (c .before .before .before .before .before .before .before .before .before .before .before .before .before .before .before .before .before .args .out .now)) g m (c .before .before .before .before .before .before .before .i .given .0 .0) q, size-named (view (c .before .before .before .before .before .before .before .before .before .before .before .before .before .before .before .before .before .args .img .now)) (c .before .before .before .before .before .before .before .before .before .before .before .before .before .before .before .before .before .args .name .now) (c .before .before .before .before .before .before .before .before .before .before .before .before .before .before .before .before .before .args .offset) (c .before .before .before .before .before .before .before .before .before .before .before .before .before .before .before .before .before .args .asked) (length (c .before .before .before .before .before .before .before .before .before .before .before .before .before .before .before .before .before .args .out .now)) g m (c .before .before .before .before .before .before .before .i .given .0 .0) q, ← z) (c .before .before .read-file .ensures .0),
+    let q = sym (sym (c .before .before .before .before .before .before .before .before .file-named .ensures) ∙ c .before .before .before .before .before .before .i .given .1) in
+    let g = (sym (c .before .before .before .before .before .before .before .before .before .before .before .before .bad-name .ensures) ∙ c .before .before .before .before .before .before .before .before .before .before .before .if1 .left) in
+    let m = c .before .before .before .before .before .before .before .before .before .before .if2 .left in
+    let z = c .before .before .before .before .size-at .ensures in (
+      rw (read-file (view (c .before .before .before .before .before .before .before .before .before .before .before .before .before .before .before .before .args .img .now)) (c .before .before .before .before .before .before .before .before .before .before .before .before .before .before .before .before .args .name .now) (c .before .before .before .before .before .before .before .before .before .before .before .before .before .before .before .before .args .offset) (c .before .before .before .before .before .before .before .before .before .before .before .before .before .before .before .before .args .asked) (length (c .before .before .before .before .before .before .before .before .before .before .before .before .before .before .before .before .args .out .now)) g m (c .before .before .before .before .before .before .i .given .0 .0) q, size-named (view (c .before .before .before .before .before .before .before .before .before .before .before .before .before .before .before .before .args .img .now)) (c .before .before .before .before .before .before .before .before .before .before .before .before .before .before .before .before .args .name .now) (c .before .before .before .before .before .before .before .before .before .before .before .before .before .before .before .before .args .offset) (c .before .before .before .before .before .before .before .before .before .before .before .before .before .before .before .before .args .asked) (length (c .before .before .before .before .before .before .before .before .before .before .before .before .before .before .before .before .args .out .now)) g m (c .before .before .before .before .before .before .i .given .0 .0) q, ← z) (c .before .before .read-file .ensures .0),
       rw (← q) (c .before .before .read-file .ensures .1),
     )
 
@@ -121,8 +112,7 @@ read-in-spec =
     geometry-in-requires
     file-named-requires
     enum-known-i
-    sector-requires
-    number-requires
+    size-at-requires
     read-file-requires
     same-length
     returns-3

@@ -1,5 +1,4 @@
 -- `table::table_file` meets its contract. The entry's first two bytes.
-use native.Mathlib.Omega.{arith}
 use Rattle.table.proofs.Laws.{file-at}
 use borrow.Author.Needs.{needs}
 use Rattle.table.proofs.table_file.Statement.{statement}
@@ -8,13 +7,13 @@ use Rattle.table.proofs.table_file.Tie as tie
 table-entry-at-requires : tie.Need-table-entry-at-requires
 table-entry-at-requires c κs = search needs
 
-be-requires : tie.Need-be-requires
-be-requires c κs = search needs
+file-requires : tie.Need-file-requires
+file-requires c κs = search needs
 
 returns : tie.Need-returns
 returns c =
     let a = c .before .before .before .args in
-    (rw (← file-at (a .img .now) (a .g) (a .e .0), ← c .before .table-entry-at .ensures) (c .be .ensures .0), omega (arith, c .be .ensures .1))
+    (rw (← file-at (a .img .now) (a .g) (a .e .0), ← c .before .table-entry-at .ensures) (c .file .ensures .0), c .file .ensures .1)
 
 pub table-file-spec : {M : Type 1} → statement M
-table-file-spec = tie.close (tie.spec table-entry-at-requires be-requires returns)
+table-file-spec = tie.close (tie.spec table-entry-at-requires file-requires returns)

@@ -1,5 +1,4 @@
 -- `table::table_offset` meets its contract. The entry's last two bytes.
-use native.Mathlib.Omega.{arith}
 use Rattle.table.proofs.Laws.{offset-at}
 use borrow.Author.Needs.{needs}
 use Rattle.table.proofs.table_offset.Statement.{statement}
@@ -8,16 +7,13 @@ use Rattle.table.proofs.table_offset.Tie as tie
 table-entry-at-requires : tie.Need-table-entry-at-requires
 table-entry-at-requires c κs = search needs
 
-add-be : tie.Need-add-be
-add-be c = search needs
-
-be-requires : tie.Need-be-requires
-be-requires c κs = search needs
+offset-requires : tie.Need-offset-requires
+offset-requires c κs = search needs
 
 returns : tie.Need-returns
 returns c =
     let a = c .before .before .before .args in
-    (rw (← offset-at (a .img .now) (a .g) (a .e .0), ← c .before .table-entry-at .ensures) (c .be .ensures .0), omega (arith, c .be .ensures .1))
+    (rw (← offset-at (a .img .now) (a .g) (a .e .0), ← c .before .table-entry-at .ensures) (c .offset .ensures .0), c .offset .ensures .1)
 
 pub table-offset-spec : {M : Type 1} → statement M
-table-offset-spec = tie.close (tie.spec table-entry-at-requires add-be be-requires returns)
+table-offset-spec = tie.close (tie.spec table-entry-at-requires offset-requires returns)

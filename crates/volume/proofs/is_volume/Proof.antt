@@ -1,59 +1,16 @@
--- `volume::is_volume` meets its contract. The magic is wrong, or the version is compared.
-use Rattle.laws.proofs.Disk.{bytesFrom-view}
-use Rattle.laws.proofs.Bytes.{bytesFrom-part}
-use Rattle.model.specs.Search.{equalBytes}
-use Rattle.model.specs.Disk.{view}
-use Rattle.model.specs.Bytes.{bytesFrom}
-use Rattle.model.specs.Superblock.{isVolume, magic}
-use native.Mathlib.Omega.{arith}
-use mathlib.Core.Path.{_≡_, sym}
+-- `volume::is_volume` meets its contract. The superblock says.
 use borrow.Author.Needs.{needs}
 use Rattle.volume.proofs.is_volume.Statement.{statement}
 use Rattle.volume.proofs.is_volume.Tie as tie
 
-sub-starts-with : tie.Need-sub-starts-with
-sub-starts-with c = search needs
+sector-part-requires : tie.Need-sector-part-requires
+sector-part-requires c κs = search needs
 
-part-starts-with-start : tie.Need-part-starts-with-start
-part-starts-with-start c = search needs
-
-part-starts-with-end : tie.Need-part-starts-with-end
-part-starts-with-end c = search needs
-
-slice-aggregate-starts-with : tie.Need-slice-aggregate-starts-with
-slice-aggregate-starts-with c = search needs
-
-starts-with-requires : tie.Need-starts-with-requires
-starts-with-requires c κs = search needs
-
-number-requires : tie.Need-number-requires
-number-requires c κs = search needs
+is-volume-requires : tie.Need-is-volume-requires
+is-volume-requires c κs = search needs
 
 returns : tie.Need-returns
-unfolding isVolume
-returns c = let d = c .before .before in
-    let img = d .before .before .before .before .args .img .now in
-    let m : equalBytes (bytesFrom (view img 0) 8 8) magic ≡ d .starts-with .result =
-    rw (bytesFrom-view img 0 8 8 (omega arith), ← bytesFrom-part img 8 8 8 (omega arith)) (sym (d .starts-with .ensures)) in
-    rw (m, c .before .if1 .taken, ← c .number .ensures .0)
-
-returns-2 : tie.Need-returns-2
-unfolding isVolume
-returns-2 c = let d = c .before in
-    let img = d .before .before .before .before .args .img .now in
-    let m : equalBytes (bytesFrom (view img 0) 8 8) magic ≡ d .starts-with .result =
-    rw (bytesFrom-view img 0 8 8 (omega arith), ← bytesFrom-part img 8 8 8 (omega arith)) (sym (d .starts-with .ensures)) in
-    rw (m, c .if1 .left)
+returns c = rw (← c .before .sector-part .ensures .0) (c .is-volume .ensures)
 
 pub is-volume-spec : {M : Type 1} → statement M
-is-volume-spec =
-    tie.close
-    (tie.spec
-    sub-starts-with
-    part-starts-with-start
-    part-starts-with-end
-    slice-aggregate-starts-with
-    starts-with-requires
-    number-requires
-    returns
-    returns-2)
+is-volume-spec = tie.close (tie.spec sector-part-requires is-volume-requires returns)

@@ -4,12 +4,9 @@ use Rattle.write.proofs.Laws.{file-below, asked}
 use Rattle.laws.proofs.Named.{short-name}
 use Rattle.laws.proofs.Judged.{judged-image, judged-opened}
 use Rattle.laws.proofs.Refusals.{image-length}
-use Rattle.model.specs.Disk.{view}
 use Rattle.model.specs.Search.{isAt}
-use Rattle.model.specs.Bytes.{beAt}
 use native.Mathlib.Omega.{arith}
 use mathlib.Core.Path.{sym, ap, _∙_}
-use Prim.Native.Nat.{ℕ}
 use borrow.Author.Needs.{needs}
 use Rattle.write.proofs.resize_in.Statement.{statement}
 use Rattle.write.proofs.resize_in.Tie as tie
@@ -39,36 +36,30 @@ file-named-requires c κs = (judged-opened _ _ (c .geometry-in .ensures) (omega 
 enum-known-i : tie.Need-enum-known-i
 enum-known-i c = search needs
 
-sector-requires : tie.Need-sector-requires
-sector-requires c κs =
+size-at-requires : tie.Need-size-at-requires
+size-at-requires c κs =
     let s = c .before .before .before .before .before .before .before .before .before .before in
     let o = judged-opened _ _ (c .before .before .before .before .geometry-in .ensures) (omega arith) (s .pre) in
-    omega (arith, o .bounded .files-high, file-below (s .args .img .now) _ o (s .args .name .now) (c .before .i .given .0 .0) (sym (c .before .i .given .1) ∙ c .before .before .before .file-named .ensures))
-
-number-requires : tie.Need-number-requires
-number-requires c κs =
-    let s = c .before .before .before .before .before .before .before .before .before .before .before in
-    let o = judged-opened _ _ (c .before .before .before .before .before .geometry-in .ensures) (omega arith) (s .pre) in
-    let h = file-below (s .args .img .now) _ o (s .args .name .now) (c .before .before .i .given .0 .0) (sym (c .before .before .i .given .1) ∙ c .before .before .before .before .file-named .ensures) in
-    (omega (arith, o .held, h, c .sector .ensures), (omega arith, omega arith))
+    let h = file-below (s .args .img .now) _ o (s .args .name .now) (c .before .i .given .0 .0) (sym (c .before .i .given .1) ∙ c .before .before .before .file-named .ensures) in
+    omega (arith, o .held, h)
 
 resize-file-requires : tie.Need-resize-file-requires
 resize-file-requires c κs =
-    let s = c .before .before .before .before .before .before .before .before .before .before .before .before .before in
+    let s = c .before .before .before .before .before .before .before .before .before .before .before .before in
     let img = s .args .img .now in
-    let o = judged-opened _ _ (c .before .before .before .before .before .before .before .geometry-in .ensures) (omega arith) (s .pre) in
-    asked img _ o (s .args .name .now) (c .before .before .before .before .i .given .0 .0) (sym (c .before .before .before .before .i .given .1) ∙ c .before .before .before .before .before .before .file-named .ensures) (s .pre) (c .before .number .result) 0
-    (c .before .number .ensures .0 ∙ ap (λ (k : ℕ). beAt (view img k) 2 8) (c .before .before .sector .ensures)) (omega arith)
+    let o = judged-opened _ _ (c .before .before .before .before .before .before .geometry-in .ensures) (omega arith) (s .pre) in
+    asked img _ o (s .args .name .now) (c .before .before .before .i .given .0 .0) (sym (c .before .before .before .i .given .1) ∙ c .before .before .before .before .before .file-named .ensures) (s .pre) (c .before .size-at .result) 0
+    (c .before .size-at .ensures) (omega arith)
 
 same-length : tie.Need-same-length
 same-length c = search needs
 
 returns-2 : tie.Need-returns-2
 returns-2 c =
-    let s = c .before .before .before .before .before .before .before .before .before .before .before .before .before .before .before .before in
+    let s = c .before .before .before .before .before .before .before .before .before .before .before .before .before .before .before in
     let a = s .args in
-    resize-found (a .img .now) (s .pre) (a .list .now) (a .name .now) (a .size) (a .time) (sym (c .before .before .before .before .before .before .before .before .before .before .before .before .bad-name .ensures) ∙ c .before .before .before .before .before .before .before .before .before .before .before .if1 .left)
-    (c .before .before .before .before .before .before .before .i .given .0 .0) (sym (c .before .before .before .before .before .before .before .i .given .1) ∙ c .before .before .before .before .before .before .before .before .before .file-named .ensures) (c .before .before .resize-file .ensures)
+    resize-found (a .img .now) (s .pre) (a .list .now) (a .name .now) (a .size) (a .time) (sym (c .before .before .before .before .before .before .before .before .before .before .before .bad-name .ensures) ∙ c .before .before .before .before .before .before .before .before .before .before .if1 .left)
+    (c .before .before .before .before .before .before .i .given .0 .0) (sym (c .before .before .before .before .before .before .i .given .1) ∙ c .before .before .before .before .before .before .before .before .file-named .ensures) (c .before .before .resize-file .ensures)
 
 enum-told : tie.Need-enum-told
 enum-told c = search needs
@@ -98,8 +89,7 @@ resize-in-spec =
     geometry-in-requires
     file-named-requires
     enum-known-i
-    sector-requires
-    number-requires
+    size-at-requires
     resize-file-requires
     same-length
     returns-2

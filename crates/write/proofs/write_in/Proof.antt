@@ -3,13 +3,10 @@ use Rattle.write.proofs.Laws.{file-below, asked, write-bad-name, write-
 use Rattle.laws.proofs.Named.{short-name}
 use Rattle.laws.proofs.Judged.{judged-image, judged-opened}
 use Rattle.laws.proofs.Refusals.{image-length}
-use Rattle.model.specs.Disk.{view}
 use Rattle.model.specs.Search.{isAt}
-use Rattle.model.specs.Bytes.{beAt}
 use native.Mathlib.Omega.{arith}
 use mathlib.Core.Path.{refl, sym, ap, _∙_}
 use Rattle.spans.proofs.Sources.{span-own, source-own}
-use Prim.Native.Nat.{ℕ}
 use borrow.Author.Needs.{needs}
 use Rattle.write.proofs.write_in.Statement.{statement}
 use Rattle.write.proofs.write_in.Tie as tie
@@ -50,26 +47,20 @@ file-named-requires c κs = (judged-opened _ _ (c .geometry-in .ensures) (omega 
 enum-known-i : tie.Need-enum-known-i
 enum-known-i c = search needs
 
-sector-requires : tie.Need-sector-requires
-sector-requires c κs =
+size-at-requires : tie.Need-size-at-requires
+size-at-requires c κs =
     let s = c .before .before .before .before .before .before .before .before .before .before .before .before in
     let o = judged-opened _ _ (c .before .before .before .before .geometry-in .ensures) (omega arith) (s .pre) in
-    omega (arith, o .bounded .files-high, file-below (s .args .img .now) _ o (s .args .name .now) (c .before .i .given .0 .0) (sym (c .before .i .given .1) ∙ c .before .before .before .file-named .ensures))
-
-number-requires : tie.Need-number-requires
-number-requires c κs =
-    let s = c .before .before .before .before .before .before .before .before .before .before .before .before .before in
-    let o = judged-opened _ _ (c .before .before .before .before .before .geometry-in .ensures) (omega arith) (s .pre) in
-    let h = file-below (s .args .img .now) _ o (s .args .name .now) (c .before .before .i .given .0 .0) (sym (c .before .before .i .given .1) ∙ c .before .before .before .before .file-named .ensures) in
-    (omega (arith, o .held, h, c .sector .ensures), (omega arith, omega arith))
+    let h = file-below (s .args .img .now) _ o (s .args .name .now) (c .before .i .given .0 .0) (sym (c .before .i .given .1) ∙ c .before .before .before .file-named .ensures) in
+    omega (arith, o .held, h)
 
 write-file-requires : tie.Need-write-file-requires
 write-file-requires c κs =
-    let s = c .before .before .before .before .before .before .before .before .before .before .before .before .before .before .before in
+    let s = c .before .before .before .before .before .before .before .before .before .before .before .before .before .before in
     let img = s .args .img .now in
-    let o = judged-opened _ _ (c .before .before .before .before .before .before .before .geometry-in .ensures) (omega arith) (s .pre) in (
-      asked img _ o (s .args .name .now) (c .before .before .before .before .i .given .0 .0) (sym (c .before .before .before .before .i .given .1) ∙ c .before .before .before .before .before .before .file-named .ensures) (s .pre) (c .before .number .result) _
-          (c .before .number .ensures .0 ∙ ap (λ (k : ℕ). beAt (view img k) 2 8) (c .before .before .sector .ensures)) (c .before .before .before .before .before .before .before .before .if2 .left),
+    let o = judged-opened _ _ (c .before .before .before .before .before .before .geometry-in .ensures) (omega arith) (s .pre) in (
+      asked img _ o (s .args .name .now) (c .before .before .before .i .given .0 .0) (sym (c .before .before .before .i .given .1) ∙ c .before .before .before .before .before .file-named .ensures) (s .pre) (c .before .size-at .result) _
+          (c .before .size-at .ensures) (c .before .before .before .before .before .before .before .if2 .left),
       source-own (s .args .bytes .now),
     )
 
@@ -78,10 +69,10 @@ same-length c = search needs
 
 returns-3 : tie.Need-returns-3
 returns-3 c =
-    let s = c .before .before .before .before .before .before .before .before .before .before .before .before .before .before .before .before .before .before in
+    let s = c .before .before .before .before .before .before .before .before .before .before .before .before .before .before .before .before .before in
     let a = s .args in
-    write-found (a .img .now) (s .pre) (a .list .now) (a .name .now) (a .offset) (a .bytes .now) (a .time) (sym (c .before .before .before .before .before .before .before .before .before .before .before .before .before .bad-name .ensures) ∙ c .before .before .before .before .before .before .before .before .before .before .before .before .if1 .left) (c .before .before .before .before .before .before .before .before .before .before .before .if2 .left)
-    (c .before .before .before .before .before .before .before .i .given .0 .0) (sym (c .before .before .before .before .before .before .before .i .given .1) ∙ c .before .before .before .before .before .before .before .before .before .file-named .ensures) (rw (span-own (a .bytes .now) _ refl) at (c .before .before .write-file .ensures))
+    write-found (a .img .now) (s .pre) (a .list .now) (a .name .now) (a .offset) (a .bytes .now) (a .time) (sym (c .before .before .before .before .before .before .before .before .before .before .before .before .bad-name .ensures) ∙ c .before .before .before .before .before .before .before .before .before .before .before .if1 .left) (c .before .before .before .before .before .before .before .before .before .before .if2 .left)
+    (c .before .before .before .before .before .before .i .given .0 .0) (sym (c .before .before .before .before .before .before .i .given .1) ∙ c .before .before .before .before .before .before .before .before .file-named .ensures) (rw (span-own (a .bytes .now) _ refl) at (c .before .before .write-file .ensures))
 
 enum-told : tie.Need-enum-told
 enum-told c = search needs
@@ -114,8 +105,7 @@ write-in-spec =
     geometry-in-requires
     file-named-requires
     enum-known-i
-    sector-requires
-    number-requires
+    size-at-requires
     write-file-requires
     same-length
     returns-3

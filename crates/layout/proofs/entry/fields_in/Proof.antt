@@ -1,0 +1,62 @@
+-- `layout::entry::fields_in` meets its contract. Each number is a field of the sector, the name's length too.
+use Rattle.model.specs.Entry.{fieldsOf, entryIn}
+use Rattle.laws.proofs.Entry.{length-nameIn}
+use borrow.Author.Needs.{needs}
+use Rattle.layout.proofs.entry.fields_in.Statement.{statement}
+use Rattle.layout.proofs.entry.fields_in.Tie as tie
+
+number-in-requires : tie.Need-number-in-requires
+number-in-requires c κs = search needs
+
+cast-version : tie.Need-cast-version
+cast-version c = search needs
+
+number-in-requires-2 : tie.Need-number-in-requires-2
+number-in-requires-2 c κs = search needs
+
+cast-mode : tie.Need-cast-mode
+cast-mode c = search needs
+
+number-in-requires-3 : tie.Need-number-in-requires-3
+number-in-requires-3 c κs = search needs
+
+cast-access-time : tie.Need-cast-access-time
+cast-access-time c = search needs
+
+number-in-requires-4 : tie.Need-number-in-requires-4
+number-in-requires-4 c κs = search needs
+
+cast-change-time : tie.Need-cast-change-time
+cast-change-time c = search needs
+
+number-in-requires-5 : tie.Need-number-in-requires-5
+number-in-requires-5 c κs = search needs
+
+size-requires : tie.Need-size-requires
+size-requires c κs = search needs
+
+id-requires : tie.Need-id-requires
+id-requires c κs = search needs
+
+returns : tie.Need-returns
+unfolding fieldsOf entryIn
+returns c =
+    let l = c .before .before in
+    rw (length-nameIn, ← l .before .before .before .before .number-in .ensures .0, ← l .before .before .before .number-in2 .ensures .0, ← l .before .before .number-in3 .ensures .0, ← l .before .number-in4 .ensures .0, ← l .number-in5 .ensures .0, ← c .before .size .ensures, ← c .id .ensures)
+
+pub fields-in-spec : {M : Type 1} → statement M
+fields-in-spec =
+    tie.close
+    (tie.spec
+    number-in-requires
+    cast-version
+    number-in-requires-2
+    cast-mode
+    number-in-requires-3
+    cast-access-time
+    number-in-requires-4
+    cast-change-time
+    number-in-requires-5
+    size-requires
+    id-requires
+    returns)

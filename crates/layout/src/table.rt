@@ -1,0 +1,36 @@
+// An entry of the allocation table, from byte `at` on.
+ghost use mathlib.Core.Path.{_≡_};
+ghost use Prim.Native.Nat.{_+_, _≤_, _<_};
+ghost use lib.ListN.{length};
+ghost use Rattle.model.specs.Bytes.{field, numberIn, put};
+ghost use Rattle.model.specs.Table.{tableEntryBytes};
+
+const OFFSET: usize = 2;
+
+// Of both numbers; the first stands at byte 0.
+const WIDTH: usize = 2;
+
+pub fn file(s: &[u8], at: usize) -> u64
+    requires { ⌜ at + 4 ≤ length (now s) ⌝ }
+    ensures { λ r. ⌜ r ≡ numberIn (now (s .entry)) (field at 2) ⌝ }
+    ensures { λ r. ⌜ r < 65536 ⌝ }
+{
+    fields::be(s, at, WIDTH)
+}
+
+// The offset in the file, counted in extents.
+pub fn offset(s: &[u8], at: usize) -> u64
+    requires { ⌜ at + 4 ≤ length (now s) ⌝ }
+    ensures { λ r. ⌜ r ≡ numberIn (now (s .entry)) (field (at + 2) 2) ⌝ }
+    ensures { λ r. ⌜ r < 65536 ⌝ }
+{
+    fields::be(s, at + OFFSET, WIDTH)
+}
+
+pub fn put(s: &mut [u8], at: usize, file: u64, offset: u64)
+    requires { ⌜ at + 4 ≤ length (now s) ⌝ }
+    ensures { λ _. ⌜ now (s .exit) ≡ put (now (s .entry)) at (tableEntryBytes file offset) ⌝ }
+{
+    fields::put_be(s, at, WIDTH, file);
+    fields::put_be(s, at + OFFSET, WIDTH, offset);
+}

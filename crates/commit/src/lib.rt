@@ -56,7 +56,7 @@ fn entries_in(first: Sector, numbers: &[u64], from: usize, n: usize) -> [u8; 512
     while i < n {
         let source = first.0 + ((from + i) as u64);
         let target = numbers[from + i];
-        layout::journal::put(&mut a, 16 * i, source, target);
+        layout::journal::put(&mut a, i, source, target);
         i += 1;
     }
     a

@@ -2,8 +2,10 @@
 use super::Field;
 use model::Geometry;
 ghost use mathlib.Core.Path.{_≡_};
+ghost use Prim.Native.Nat.{_+_, _≤_};
 ghost use lib.ListN.{length};
-ghost use Rattle.model.specs.Superblock.{isVolume, geometryIn, journalLength, newSuperblock};
+ghost use Rattle.model.specs.Bytes.{beBytes, put};
+ghost use Rattle.model.specs.Superblock.{superblockField, isVolume, geometryIn, journalLength, newSuperblock};
 
 const FILES: Field = Field {
     offset: 0,
@@ -69,6 +71,14 @@ pub fn journal_length(s: &[u8]) -> u64
 }
 
 // ---- what writes it
+
+// Another journal length, in a superblock that stands from byte `at` on.
+pub fn put_journal_length(s: &mut [u8], at: usize, n: u64)
+    requires { ⌜ at + 512 ≤ length (now s) ⌝ }
+    ensures { λ _. ⌜ now (s .exit) ≡ put (now (s .entry)) (at + superblockField .journalLength .offset) (beBytes (superblockField .journalLength .width) n) ⌝ }
+{
+    fields::put_be(s, at + JOURNAL_LENGTH.offset, JOURNAL_LENGTH.width, n);
+}
 
 // Format's: the unused bytes are 0.
 pub fn new(g: Geometry, n: u64) -> [u8; 512]

@@ -72,6 +72,6 @@ pub fn put_superblock(list: &mut [u8], k: usize, img: &[u8], n: u64) -> usize
     ensures { λ r. ⌜ Emitted (now (list .entry)) k (sectorWrite 0 (withJournalLength n (view (now (img .entry)) 0)) ∷ barrier ∷ []) (now (list .exit)) r ⌝ }
 {
     let j = put_from(list, k, Sector(0), img, 0);
-    fields::put_be(list, k * RECORD_SIZE + CONTENTS_START + 18, 2, n);
+    layout::superblock::put_journal_length(list, k * RECORD_SIZE + CONTENTS_START, n);
     put_barrier(list, j)
 }

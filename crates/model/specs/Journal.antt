@@ -3,9 +3,17 @@
 use Prim.Native.Nat.{ℕ, zero, suc, _+_, _*_, _-_, _/_, _%_, min}
 use mathlib.Core.List.{List, _++_}
 use Rattle.model.specs.declared.Geometry.{Geometry}
-use Rattle.model.specs.Bytes.{field, numberIn, beBytes, put, zeroSector}
+use Rattle.model.specs.Bytes.{Field, field, numberIn, beBytes, put, zeroSector}
 use Rattle.model.specs.Geometry.{SectorNumber, journalAt}
 use Rattle.model.specs.Disk.{Disk}
+
+pub record JournalLayout : Type 0 where
+  pub source : Field
+  pub target : Field
+
+-- the fields of an entry that starts at byte at
+abbrev pub journalField : ℕ → JournalLayout
+journalField at = record { source = field at 8; target = field (at + 8) 8 }
 
 -- the journal sector that holds entry k, and the entry's first byte in it
 abbrev pub journalSectorOf : Geometry → ℕ → SectorNumber
@@ -15,10 +23,10 @@ abbrev pub journalEntryStart : ℕ → ℕ
 journalEntryStart k = 16 * (k % 32)
 
 unfoldable pub sourceAt : Geometry → Disk → ℕ → SectorNumber
-sourceAt g d k = numberIn (d (journalSectorOf g k)) (field (journalEntryStart k) 8)
+sourceAt g d k = numberIn (d (journalSectorOf g k)) (journalField (journalEntryStart k) .source)
 
 unfoldable pub targetAt : Geometry → Disk → ℕ → SectorNumber
-targetAt g d k = numberIn (d (journalSectorOf g k)) (field (journalEntryStart k + 8) 8)
+targetAt g d k = numberIn (d (journalSectorOf g k)) (journalField (journalEntryStart k) .target)
 
 -- how many sectors n entries fill
 abbrev pub journalSectors : ℕ → ℕ

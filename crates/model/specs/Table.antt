@@ -3,12 +3,20 @@ use Prim.Native.Nat.{ℕ, zero, suc, _+_, _*_, _/_, _%_}
 use mathlib.Core.Bool.{Bool, cond}
 use mathlib.Core.List.{List, _++_}
 use Rattle.model.specs.declared.Geometry.{Geometry}
-use Rattle.model.specs.Bytes.{field, numberIn, beBytes, put}
+use Rattle.model.specs.Bytes.{Field, field, numberIn, beBytes, put}
 use Rattle.model.specs.Geometry.{SectorNumber, ExtentNumber, FileNumber, tableAt}
 use Rattle.model.specs.Disk.{Disk}
 
 abbrev pub freeFile : ℕ
 freeFile = 65535
+
+pub record TableLayout : Type 0 where
+  pub file : Field
+  pub offset : Field
+
+-- the fields of an entry that starts at byte at
+abbrev pub tableField : ℕ → TableLayout
+tableField at = record { file = field at 2; offset = field (at + 2) 2 }
 
 -- the table sector that holds extent e's entry, and the entry's first byte in it
 abbrev pub tableSectorOf : Geometry → ExtentNumber → SectorNumber
@@ -18,10 +26,10 @@ abbrev pub tableEntryStart : ExtentNumber → ℕ
 tableEntryStart e = 4 * (e % 128)
 
 unfoldable pub tableFile : Geometry → Disk → ExtentNumber → FileNumber
-tableFile g d e = numberIn (d (tableSectorOf g e)) (field (tableEntryStart e) 2)
+tableFile g d e = numberIn (d (tableSectorOf g e)) (tableField (tableEntryStart e) .file)
 
 unfoldable pub tableOffset : Geometry → Disk → ExtentNumber → ℕ
-tableOffset g d e = numberIn (d (tableSectorOf g e)) (field (tableEntryStart e + 2) 2)
+tableOffset g d e = numberIn (d (tableSectorOf g e)) (tableField (tableEntryStart e) .offset)
 
 abbrev pub tableEntryBytes : FileNumber → ℕ → List ℕ
 tableEntryBytes file offset = beBytes 2 file ++ beBytes 2 offset

@@ -11,7 +11,7 @@ use lib.Dec.{eqb, ltb}
 use lib.ListN.{getD}
 use borrow.Author.Tests.{ltb-true}
 use Rattle.model.specs.declared.Geometry.{Geometry}
-use Rattle.model.specs.Bytes.{field, numberIn}
+use Rattle.model.specs.Bytes.{numberIn}
 use Rattle.model.specs.Search.{first, indexOf}
 use Rattle.model.specs.Geometry.{superblockAt, extentSectors, usable, entryAt, journalAt, dataAt, reserveAt}
 use Rattle.model.specs.Disk.{Disk, view}
@@ -19,7 +19,7 @@ use Rattle.model.specs.WriteList.{stored, Plan, Group}
 use Rattle.model.specs.Superblock.{geometryIn}
 use Rattle.model.specs.Root.{rootIn}
 use Rattle.model.specs.Entry.{entryField, freeMark, Entry, entryIn, isOccupied}
-use Rattle.model.specs.Table.{freeFile, tableEntryStart, tableSectorOf, tableFile, tableOffset}
+use Rattle.model.specs.Table.{freeFile, tableField, tableEntryStart, tableSectorOf, tableFile, tableOffset}
 use Rattle.model.specs.Catalogue.{Catalogue, Owner, catalogueOf, isPart, extentOf, sectorOf, fileByte, fileBytes}
 use Rattle.model.specs.Faults.{fault21}
 use Rattle.model.specs.Opened.{Bounded}
@@ -58,11 +58,11 @@ ownerIn g f o e = ownerBy (ltb e (g .extents)) f o
 
 file-keep : (g : Geometry) (d d′ : Disk) (e : ℕ) → d′ (tableSectorOf g e) ≡ d (tableSectorOf g e) → tableFile g d′ e ≡ tableFile g d e
 unfolding tableFile
-file-keep g d d′ e h = ap (λ (s : List ℕ). numberIn s (field (tableEntryStart e) 2)) h
+file-keep g d d′ e h = ap (λ (s : List ℕ). numberIn s (tableField (tableEntryStart e) .file)) h
 
 offset-keep : (g : Geometry) (d d′ : Disk) (e : ℕ) → d′ (tableSectorOf g e) ≡ d (tableSectorOf g e) → tableOffset g d′ e ≡ tableOffset g d e
 unfolding tableOffset
-offset-keep g d d′ e h = ap (λ (s : List ℕ). numberIn s (field (tableEntryStart e + 2) 2)) h
+offset-keep g d d′ e h = ap (λ (s : List ℕ). numberIn s (tableField (tableEntryStart e) .offset)) h
 
 module _ (g : Geometry) (d d′ : Disk) (eg : geometryIn (d superblockAt) ≡ g) (eg′ : geometryIn (d′ superblockAt) ≡ g) where
   pub entry-is : (i : ℕ) → catalogueOf d .entries i ≡ slotIn g (d (entryAt i)) i

@@ -66,7 +66,7 @@ fn entry_word(img: &[u8], g: Geometry, e: Extent) -> u32
     ensures { λ _. ⌜ (tableFile g (view (now (img .entry))) (e .0) < 65536) × (tableOffset g (view (now (img .entry))) (e .0) < 65536) ⌝ }
 {
     let at = g.table_entry_at(e);
-    pair(img, at) + 65536 * pair(img, at + 2)
+    pair(img, at) + 65536 * pair(img, at + layout::table::OFFSET)
 }
 
 // Extent e is free.
@@ -288,7 +288,7 @@ fn free_one(s: &mut [u8], k: usize, hit: bool)
     ensures { λ _. ⌜ now (s .exit) ≡ cond hit (put (now (s .entry)) (4 * k) (tableEntryBytes freeFile 65535)) (now (s .entry)) ⌝ }
 {
     if hit {
-        layout::table::put(s, 4 * k, 65535, 65535);
+        layout::table::free(s, k);
         return;
     }
 }

@@ -38,9 +38,6 @@ shared-slice-read-target c = search needs
 slice-aggregate-put : tie.Need-slice-aggregate-put Inv-loop μ-loop
 slice-aggregate-put c = search needs
 
-mul-put : tie.Need-mul-put Inv-loop μ-loop
-mul-put c = search needs
-
 put-requires : tie.Need-put-requires Inv-loop μ-loop
 put-requires c κs = search needs
 
@@ -73,7 +70,6 @@ entries-in-spec =
     mul-target
     shared-slice-read-target
     slice-aggregate-put
-    mul-put
     put-requires
     add-i
     loop-less

@@ -4,8 +4,14 @@ use borrow.Author.Needs.{needs}
 use Rattle.layout.proofs.journal.put.Statement.{statement}
 use Rattle.layout.proofs.journal.put.Tie as tie
 
+mul-put-be : tie.Need-mul-put-be
+mul-put-be c = search needs
+
 put-be-requires : tie.Need-put-be-requires
 put-be-requires c κs = search needs
+
+mul-put-be-2 : tie.Need-mul-put-be-2
+mul-put-be-2 c = search needs
 
 add-put-be : tie.Need-add-put-be
 add-put-be c = search needs
@@ -22,4 +28,4 @@ returns c = rw (put-append, length-beBytes) cc
 pub put-spec : {M : Type 1} → statement M
 put-spec =
     tie.close
-    (tie.spec put-be-requires add-put-be put-be-requires-2 same-length returns)
+    (tie.spec mul-put-be put-be-requires mul-put-be-2 add-put-be put-be-requires-2 same-length returns)

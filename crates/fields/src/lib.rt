@@ -24,20 +24,6 @@ pub fn be(s: &[u8], at: usize, width: usize) -> u64
     v
 }
 
-pub fn be16(s: &[u8], at: usize) -> u16
-    requires { ⌜ at + 2 ≤ length (now s) ⌝ }
-    ensures { λ r. ⌜ r ≡ beAt (now (s .entry)) at 2 ⌝ }
-{
-    be(s, at, 2) as u16
-}
-
-pub fn be32(s: &[u8], at: usize) -> u32
-    requires { ⌜ at + 4 ≤ length (now s) ⌝ }
-    ensures { λ r. ⌜ r ≡ beAt (now (s .entry)) at 4 ⌝ }
-{
-    be(s, at, 4) as u32
-}
-
 pub fn be64(s: &[u8], at: usize) -> u64
     requires { ⌜ at + 8 ≤ length (now s) ⌝ }
     ensures { λ r. ⌜ r ≡ beAt (now (s .entry)) at 8 ⌝ }
@@ -90,16 +76,6 @@ pub fn sector_part(img: &[u8], k: Sector) -> &[u8]
 {
     let at = (512 * k.0) as usize;
     &img[at..at + 512]
-}
-
-// The number of `width` bytes at `at` in sector k.
-pub fn number(img: &[u8], k: Sector, at: usize, width: usize) -> u64
-    requires { ⌜ 512 * k .0 + 512 ≤ length (now img) ⌝ }
-    requires { ⌜ (width ≤ 8) × (at + width ≤ 512) ⌝ }
-    ensures { λ r. ⌜ r ≡ beAt (view (now (img .entry)) (k .0)) at width ⌝ }
-    ensures { λ r. ⌜ r < 256 ^ width ⌝ }
-{
-    be(img, (512 * k.0) as usize + at, width)
 }
 
 // Whether the part begins with the text.

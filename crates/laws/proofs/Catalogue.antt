@@ -9,13 +9,13 @@ use native.Mathlib.Omega.{arith}
 use lib.Dec.{eqb, leb, ltb}
 use borrow.Author.Tests.{lt-ltb, eqb-true, ne-eqb}
 use Rattle.model.specs.declared.Geometry.{Geometry}
-use Rattle.model.specs.Bytes.{beAt}
+use Rattle.model.specs.Bytes.{numberIn}
 use Rattle.model.specs.Search.{first, anyBelow, allBelow, countBelow, equalBytes}
 use Rattle.model.specs.Geometry.{usable, extentBytes, extentsFor, rootAt, entryAt}
 use Rattle.model.specs.Disk.{Disk}
 use Rattle.model.specs.Superblock.{geometryIn}
 use Rattle.model.specs.Root.{rootIn}
-use Rattle.model.specs.Entry.{Entry, nameIn, entryIn, isOccupied, badName}
+use Rattle.model.specs.Entry.{entryField, Entry, nameIn, entryIn, isOccupied, badName}
 use Rattle.model.specs.Table.{freeFile, tableFile, tableOffset}
 use Rattle.model.specs.Catalogue.{Owner, catalogueOf, isFree, hasName, hasId, isPart, ownedFrom, fileNamed, freeEntry}
 use Rattle.model.specs.Faults.{holdsOf, fault22, fault23, fault24, fault25, fault26, exact}
@@ -56,11 +56,15 @@ module _ (d : Disk) where
   abbrev s : ℕ → List ℕ
   s i = d (entryAt i)
 
+  abbrev idAt : ℕ → ℕ
+  idAt i = numberIn (s i) (entryField .id)
+
   pub slot-on : (i : ℕ) → i < g .files → catalogueOf d .entries i ≡ cond (isOccupied (s i)) (some (entryIn (s i))) none
   unfolding catalogueOf
   slot-on i l = ap (λ (b : Bool). cond (b && isOccupied (s i)) (some (entryIn (s i))) none) (lt-ltb i (g .files) l)
 
-  pub fault22-is : (i : ℕ) → i < g .files → fault22 (catalogueOf d) i ≡ (isOccupied (s i) && (badName (nameIn (s i)) || ltb (usable g * extentBytes g) (beAt (s i) 2 8)))
+  pub fault22-is : (i : ℕ) → i < g .files
+      → fault22 (catalogueOf d) i ≡ (isOccupied (s i) && (badName (nameIn (s i)) || ltb (usable g * extentBytes g) (numberIn (s i) (entryField .size))))
   unfolding fault22 catalogueOf entryIn
   fault22-is i l =
       ap (λ (o : Option Entry). holdsOf o (λ e. badName (e .name) || ltb (usable g * extentBytes g) (e .size))) (slot-on i l)
@@ -76,14 +80,15 @@ module _ (d : Disk) where
       (λ j k. ap (hasName (nameIn (s i))) (slot-on j (omega arith)) ∙ name-if (isOccupied (s j)) (entryIn (s j)) (nameIn (s i))))
 
   pub fault24-is : (i : ℕ) → i < g .files
-      → fault24 (catalogueOf d) i ≡ (isOccupied (s i) && (eqb (beAt (s i) 14 8) 0 || eqb (beAt (s i) 14 8) (rootIn (d rootAt) .id) || anyBelow (λ j. isOccupied (s j) && eqb (beAt (s j) 14 8) (beAt (s i) 14 8)) i))
+      → fault24 (catalogueOf d) i
+      ≡ (isOccupied (s i) && (eqb (idAt i) 0 || eqb (idAt i) (rootIn (d rootAt) .id) || anyBelow (λ j. isOccupied (s j) && eqb (idAt j) (idAt i)) i))
   unfolding fault24 entryIn catalogueOf
   fault24-is i l =
       ap (λ (o : Option Entry). holdsOf o (λ e. eqb (e .id) 0 || eqb (e .id) (rootIn (d rootAt) .id) || anyBelow (λ j. hasId (e .id) (catalogueOf d .entries j)) i)) (slot-on i l)
       ∙ among-if (isOccupied (s i)) (entryIn (s i)) (λ e. eqb (e .id) 0 || eqb (e .id) (rootIn (d rootAt) .id) || anyBelow (λ j. hasId (e .id) (catalogueOf d .entries j)) i)
-      ∙ ap (λ (b : Bool). isOccupied (s i) && (eqb (beAt (s i) 14 8) 0 || eqb (beAt (s i) 14 8) (rootIn (d rootAt) .id) || b))
-      (anyBelow-ext (λ j. hasId (beAt (s i) 14 8) (catalogueOf d .entries j)) (λ j. isOccupied (s j) && eqb (beAt (s j) 14 8) (beAt (s i) 14 8)) i
-      (λ j k. ap (hasId (beAt (s i) 14 8)) (slot-on j (omega arith)) ∙ id-if (isOccupied (s j)) (entryIn (s j)) (beAt (s i) 14 8)))
+      ∙ ap (λ (b : Bool). isOccupied (s i) && (eqb (idAt i) 0 || eqb (idAt i) (rootIn (d rootAt) .id) || b))
+      (anyBelow-ext (λ j. hasId (idAt i) (catalogueOf d .entries j)) (λ j. isOccupied (s j) && eqb (idAt j) (idAt i)) i
+      (λ j k. ap (hasId (idAt i)) (slot-on j (omega arith)) ∙ id-if (isOccupied (s j)) (entryIn (s j)) (idAt i)))
 
   pub fault25-is : (e : ℕ) → e < g .extents
       → fault25 (catalogueOf d) e ≡ (not (eqb (tableFile g d e) freeFile) && (not (ltb (tableFile g d e) (g .files) && isOccupied (s (tableFile g d e))) || leb (usable g) e))
@@ -122,7 +127,7 @@ module _ (d : Disk) where
         (λ o q. ap (λ n. eqb n 1) (countBelow-ext (λ e. isPart i o (catalogueOf d .table e)) (λ e. eqb (tableFile g d e) i && eqb (tableOffset g d e) o) (g .extents) (λ e l. part-is o e l))))
         (allBelow-ext (λ e. not (ownedFrom i k (catalogueOf d .table e))) (λ e. not (eqb (tableFile g d e) i) || ltb (tableOffset g d e) k) (g .extents) (λ e l. beyond-is k e l))
 
-  pub fault26-is : (i : ℕ) → i < g .files → fault26 (catalogueOf d) i ≡ (isOccupied (s i) && not (exact (catalogueOf d) i (extentsFor g (beAt (s i) 2 8))))
+  pub fault26-is : (i : ℕ) → i < g .files → fault26 (catalogueOf d) i ≡ (isOccupied (s i) && not (exact (catalogueOf d) i (extentsFor g (numberIn (s i) (entryField .size)))))
   unfolding fault26 catalogueOf entryIn
   fault26-is i l =
       ap (λ (o : Option Entry). holdsOf o (λ e. not (exact (catalogueOf d) i (extentsFor g (e .size))))) (slot-on i l)

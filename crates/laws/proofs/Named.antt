@@ -13,21 +13,28 @@ use borrow.Author.Tests.{ltb-false}
 use Rattle.model.specs.declared.Fields.{Fields}
 use Rattle.model.specs.declared.Geometry.{Geometry}
 use Rattle.model.specs.declared.Lowest.the-variants.{At}
-use Rattle.model.specs.Bytes.{beAt, bytesFrom}
+use Rattle.model.specs.Bytes.{numberIn}
 use Rattle.model.specs.Search.{scan, equalBytes}
 use Rattle.model.specs.Geometry.{superblockAt, entryAt, usable, extentBytes}
 use Rattle.model.specs.Disk.{Disk, view}
 use Rattle.model.specs.Superblock.{geometryIn}
-use Rattle.model.specs.Entry.{nameIn, entryIn, isOccupied, fieldsOf, badName}
+use Rattle.model.specs.Entry.{entryField, longestName, nameIn, entryIn, isOccupied, fieldsOf, badName}
 use Rattle.model.specs.Catalogue.{catalogueOf, isFree, fileNamed, entryOf, entryOr}
 use Rattle.model.specs.Faults.{fault22, firstFault}
 use Rattle.model.specs.Opened.{Opened}
 use Rattle.model.specs.declared.Soundness.the-variants.{Sound}
 use Rattle.laws.proofs.Booleans.{and-left}
 use Rattle.laws.proofs.Search.{Hit, scan-hit, first-missed}
-use Rattle.laws.proofs.Entry.{length-nameIn, name-view, long-name}
+use Rattle.laws.proofs.Entry.{length-nameIn, long-name}
 use Rattle.laws.proofs.Catalogue.{slot-on, named-on, fault22-is}
 use Rattle.laws.proofs.Judged.{sound-22}
+
+-- the most bytes that a file can have, and an entry that says more
+abbrev roomOf : Disk → ℕ
+roomOf d = usable (geometryIn (d superblockAt)) * extentBytes (geometryIn (d superblockAt))
+
+abbrev tooLarge : Disk → ℕ → Bool
+tooLarge d i = ltb (roomOf d) (numberIn (d (entryAt i)) (entryField .size))
 
 module _ (d : Disk) where
   -- an occupied entry
@@ -55,56 +62,57 @@ module _ (d : Disk) where
   named-entry name i e = let h = named-at name i e in entry-on i (h .0) (h .1)
 
   -- on a sound volume its name ends in the sector
-  pub sound-name : firstFault d ≡ Sound → (i : ℕ) → i < geometryIn (d superblockAt) .files → isOccupied (d (entryAt i)) ≡ true → beAt (d (entryAt i)) 34 2 ≤ 476
-  sound-name s i l o = go (decLt 476 (beAt (d (entryAt i)) 34 2))
+  pub sound-name : firstFault d ≡ Sound → (i : ℕ) → i < geometryIn (d superblockAt) .files → isOccupied (d (entryAt i)) ≡ true
+      → numberIn (d (entryAt i)) (entryField .nameLength) ≤ longestName
+  sound-name s i l o = go (decLt longestName (numberIn (d (entryAt i)) (entryField .nameLength)))
     where
       judge22 : fault22 (catalogueOf d) i ≡ false
       judge22 = first-missed (fault22 (catalogueOf d)) (geometryIn (d superblockAt) .files) (sound-22 d s) i l
 
-      go : Dec (476 < beAt (d (entryAt i)) 34 2) → beAt (d (entryAt i)) 34 2 ≤ 476
+      go : Dec (longestName < numberIn (d (entryAt i)) (entryField .nameLength)) → numberIn (d (entryAt i)) (entryField .nameLength) ≤ longestName
       go (no h) = omega arith
       go (yes h) =
           let b : badName (nameIn (d (entryAt i))) ≡ true = long-name (nameIn (d (entryAt i))) (rw length-nameIn h) in
           let f : fault22 (catalogueOf d) i ≡ true =
-          fault22-is d i l ∙ ap (λ (x : Bool). x && (badName (nameIn (d (entryAt i))) || ltb (usable (geometryIn (d superblockAt)) * extentBytes (geometryIn (d superblockAt))) (beAt (d (entryAt i)) 2 8))) o
-          ∙ ap (λ (x : Bool). x || ltb (usable (geometryIn (d superblockAt)) * extentBytes (geometryIn (d superblockAt))) (beAt (d (entryAt i)) 2 8)) b in
+          fault22-is d i l ∙ ap (λ (x : Bool). x && (badName (nameIn (d (entryAt i))) || tooLarge d i)) o
+          ∙ ap (λ (x : Bool). x || tooLarge d i) b in
           let z : _≡_ {A = ℕ} 0 1 = (let y : true ≡ false = sym f ∙ judge22 in cc) in
           absurd (omega arith)
 
-pub short-name : (n : List ℕ) → badName n ≡ false → length n ≤ 476
-short-name n e = go (decLt 476 (length n))
+pub short-name : (n : List ℕ) → badName n ≡ false → length n ≤ longestName
+short-name n e = go (decLt longestName (length n))
   where
-    go : Dec (476 < length n) → length n ≤ 476
+    go : Dec (longestName < length n) → length n ≤ longestName
     go (no h) = omega arith
     go (yes h) = let z : _≡_ {A = ℕ} 0 1 = (let y : true ≡ false = sym (long-name n h) ∙ e in cc) in absurd (omega arith)
 
 -- ---- the answers of list and read, from the tests that the code makes
 
-pub name-copied : (img : List ℕ) (k n : ℕ) → n ≡ beAt (view img k) 34 2 → n ≤ 476 → bytesFrom img (512 * k + 36) n ≡ nameIn (view img k)
-name-copied img k n e h = sym (name-view img k n e h)
-
-pub name-length-of : (img : List ℕ) (i : ℕ) (r : Fields) → r ≡ fieldsOf (entryIn (view img (entryAt i))) → r .«name_length» ≡ beAt (view img (entryAt i)) 34 2
+pub name-length-of : (img : List ℕ) (i : ℕ) (r : Fields) → r ≡ fieldsOf (entryIn (view img (entryAt i)))
+    → r .«name_length» ≡ numberIn (view img (entryAt i)) (entryField .nameLength)
 unfolding fieldsOf entryIn
 name-length-of img i r e = ap (λ (x : Fields). x .«name_length») e ∙ length-nameIn (view img (entryAt i))
 
 -- fault 22 bounds the size
 pub sound-size : (d : Disk) → firstFault d ≡ Sound → (i : ℕ) → i < geometryIn (d superblockAt) .files → isOccupied (d (entryAt i)) ≡ true
-    → beAt (d (entryAt i)) 2 8 ≤ usable (geometryIn (d superblockAt)) * extentBytes (geometryIn (d superblockAt))
-sound-size d s i l o = ltb-false (usable (geometryIn (d superblockAt)) * extentBytes (geometryIn (d superblockAt))) (beAt (d (entryAt i)) 2 8) (go (badName (nameIn (d (entryAt i)))) _ refl)
+    → numberIn (d (entryAt i)) (entryField .size) ≤ roomOf d
+sound-size d s i l o = ltb-false (roomOf d) (numberIn (d (entryAt i)) (entryField .size)) (go (badName (nameIn (d (entryAt i)))) _ refl)
   where
-    judge22 : (badName (nameIn (d (entryAt i))) || ltb (usable (geometryIn (d superblockAt)) * extentBytes (geometryIn (d superblockAt))) (beAt (d (entryAt i)) 2 8)) ≡ false
+    judge22 : (badName (nameIn (d (entryAt i))) || tooLarge d i) ≡ false
     judge22 =
-        ap (λ (x : Bool). x && (badName (nameIn (d (entryAt i))) || ltb (usable (geometryIn (d superblockAt)) * extentBytes (geometryIn (d superblockAt))) (beAt (d (entryAt i)) 2 8))) (sym o)
+        ap (λ (x : Bool). x && (badName (nameIn (d (entryAt i))) || tooLarge d i)) (sym o)
         ∙ sym (fault22-is d i l) ∙ first-missed (fault22 (catalogueOf d)) (geometryIn (d superblockAt) .files) (sound-22 d s) i l
 
-    go : (a b : Bool) → (a || b) ≡ (badName (nameIn (d (entryAt i))) || ltb (usable (geometryIn (d superblockAt)) * extentBytes (geometryIn (d superblockAt))) (beAt (d (entryAt i)) 2 8)) → b ≡ false
+    go : (a b : Bool) → (a || b) ≡ (badName (nameIn (d (entryAt i))) || tooLarge d i) → b ≡ false
     go true b e = let z : _≡_ {A = ℕ} 0 1 = (let y : true ≡ false = e ∙ judge22 in cc) in absurd (omega arith)
     go false b e = e ∙ judge22
 
-pub size-fits : (img : List ℕ) (g : Geometry) → Opened img g → firstFault (view img) ≡ Sound → (i : ℕ) → i < geometryIn (view img superblockAt) .files → isOccupied (view img (entryAt i)) ≡ true
-    → beAt (view img (entryAt i)) 2 8 < 2 ^ 62
+pub size-fits : (img : List ℕ) (g : Geometry) → Opened img g → firstFault (view img) ≡ Sound → (i : ℕ)
+    → i < geometryIn (view img superblockAt) .files → isOccupied (view img (entryAt i)) ≡ true
+    → numberIn (view img (entryAt i)) (entryField .size) < 2 ^ 62
 size-fits img g o s i l h =
-    let a : beAt (view img (entryAt i)) 2 8 ≤ usable g * extentBytes g = rw (o .is) (sound-size (view img) s i l h) in
+    let a : numberIn (view img (entryAt i)) (entryField .size) ≤ usable g * extentBytes g = rw (o .is) (sound-size (view img) s i l h) in
     let b : usable g * extentBytes g ≤ 65535 * (512 * 4294967295) =
-    mul-le-mul (let q : usable g ≤ 65535 = omega (arith, o .bounded .extents-high) in q) (let q : extentBytes g ≤ 512 * 4294967295 = omega (arith, o .bounded .extent-high) in q) in
+    mul-le-mul (let q : usable g ≤ 65535 = omega (arith, o .bounded .extents-high) in q)
+    (let q : extentBytes g ≤ 512 * 4294967295 = omega (arith, o .bounded .extent-high) in q) in
     omega arith

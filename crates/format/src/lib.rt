@@ -8,10 +8,8 @@ ghost use mathlib.Core.Bool.{_&&_};
 ghost use Prim.Native.Nat.{_+_, _-_, _≤_, _<_};
 ghost use lib.Dec.{leb};
 ghost use lib.ListN.{length};
-ghost use Rattle.model.specs.Bytes.{put, zeroSector, onesSector};
+ghost use Rattle.model.specs.Bytes.{put, onesSector};
 ghost use Rattle.model.specs.Geometry.{tableAt, inBounds};
-ghost use Rattle.model.specs.Superblock.{newSuperblock};
-ghost use Rattle.model.specs.Root.{newRootSector};
 ghost use Rattle.model.specs.WriteList.{sectorWrite, barrier, recordSize, recordBytes};
 ghost use Rattle.model.specs.Format.{Format, doubled, geometryFor, formatCount, formatRecord, formatAnswer, formatOutput};
 ghost use Rattle.model.specs.Opened.{Bounded};
@@ -74,30 +72,11 @@ fn can_format(sectors: u64, g: Geometry) -> bool
 
 // ---- the sectors of a new volume
 
-fn zero_sector() -> [u8; 512]
-    ensures { λ r. ⌜ r ≡ zeroSector ⌝ }
-{
-    [0u8; 512]
-}
-
 // A sector of the allocation table in which every extent is free.
 fn free_table_sector() -> [u8; 512]
     ensures { λ r. ⌜ r ≡ onesSector ⌝ }
 {
     [255u8; 512]
-}
-
-fn new_superblock(g: Geometry, n: u64) -> [u8; 512]
-    ensures { λ r. ⌜ r ≡ newSuperblock g n ⌝ }
-{
-    layout::superblock::new(g, n)
-}
-
-// The version is 0, as are the unused bytes.
-fn new_root(id: u64, mode: u32, time: u32) -> [u8; 512]
-    ensures { λ r. ⌜ r ≡ newRootSector id mode time ⌝ }
-{
-    layout::root::new(id, mode, time)
 }
 
 // ---- the records
@@ -143,16 +122,16 @@ fn put_record(g: Geometry, id: u64, mode: u32, time: u32, p: u64, out: &mut [u8]
     ensures { λ _. ⌜ ((a : Format) → a .id ≡ id → a .mode ≡ mode → a .time ≡ time → now (out .exit) ≡ put (now (out .entry)) 0 (recordBytes p (formatRecord g a p))) ⌝ }
 {
     if p == 0 {
-        return put_sector(out, p, Sector(0), new_superblock(g, 65535));
+        return put_sector(out, p, Sector(0), layout::superblock::new(g, 65535));
     }
     if p == 1 {
         return put_barrier(out, p);
     }
     if p == 2 {
-        return put_sector(out, p, Sector(1), new_root(id, mode, time));
+        return put_sector(out, p, Sector(1), layout::root::new(id, mode, time));
     }
     if p < 3 + g.files {
-        return put_sector(out, p, FileIndex(p - 3).sector(), zero_sector());
+        return put_sector(out, p, FileIndex(p - 3).sector(), layout::zero_sector());
     }
     let table_end = 3 + g.files + g.table_sectors();
     if p < table_end {
@@ -164,7 +143,7 @@ fn put_record(g: Geometry, id: u64, mode: u32, time: u32, p: u64, out: &mut [u8]
         );
     }
     if p == table_end + 1 {
-        return put_sector(out, p, Sector(0), new_superblock(g, 0));
+        return put_sector(out, p, Sector(0), layout::superblock::new(g, 0));
     }
     put_barrier(out, p)
 }

@@ -33,7 +33,7 @@ fn set_to(s: &mut [u8], f: Field, v: u64)
 }
 
 // Unused bytes of a new sector are 0.
-fn zero_sector() -> [u8; 512]
+pub fn zero_sector() -> [u8; 512]
     ensures { λ r. ⌜ r ≡ zeroSector ⌝ }
 {
     [0u8; 512]

@@ -8,8 +8,8 @@ use Rattle.model.specs.Format.{formatRecord}
 use Rattle.format.proofs.put_record.Statement.{statement}
 use Rattle.format.proofs.put_record.Tie as tie
 
-new-superblock-requires : tie.Need-new-superblock-requires
-new-superblock-requires c κs = search needs
+new-requires : tie.Need-new-requires
+new-requires c κs = search needs
 
 put-sector-requires : tie.Need-put-sector-requires
 put-sector-requires c κs = search needs
@@ -19,7 +19,7 @@ same-length c = search needs
 
 returns : tie.Need-returns
 unfolding formatRecord
-returns c = λ a i m t. rw (eq-eqb _ _ (c .before .before .before .before .before .if1 .taken), ← c .before .before .before .new-superblock .ensures) (c .before .before .put-sector .ensures)
+returns c = λ a i m t. rw (eq-eqb _ _ (c .before .before .before .before .before .if1 .taken), ← c .before .before .before .new .ensures) (c .before .before .put-sector .ensures)
 
 put-barrier-requires : tie.Need-put-barrier-requires
 put-barrier-requires c κs = search needs
@@ -31,8 +31,8 @@ returns-2 : tie.Need-returns-2
 unfolding formatRecord
 returns-2 c = λ a i m t. rw (ne-eqb _ _ (c .before .before .before .before .before .if1 .left), eq-eqb _ _ (c .before .before .before .before .if2 .taken)) (c .before .before .put-barrier .ensures)
 
-new-root-requires : tie.Need-new-root-requires
-new-root-requires c κs = search needs
+new-requires-2 : tie.Need-new-requires-2
+new-requires-2 c κs = search needs
 
 put-sector-requires-2 : tie.Need-put-sector-requires-2
 put-sector-requires-2 c κs = search needs
@@ -44,7 +44,7 @@ returns-3 : tie.Need-returns-3
 unfolding formatRecord
 returns-3 c = λ a i m t.
     let d = c .before .before .before .before .before in
-    rw (ne-eqb _ _ (d .before .before .if1 .left), ne-eqb _ _ (d .before .if2 .left), eq-eqb _ _ (d .if3 .taken), i, m, t, ← c .before .before .before .new-root .ensures)
+    rw (ne-eqb _ _ (d .before .before .if1 .left), ne-eqb _ _ (d .before .if2 .left), eq-eqb _ _ (d .if3 .taken), i, m, t, ← c .before .before .before .new2 .ensures)
     (c .before .before .put-sector2 .ensures)
 
 add-if4 : tie.Need-add-if4
@@ -71,7 +71,14 @@ returns-4 c = λ a i m t.
     let d = c .before .before .before .before in
     let e = d .before .before in
     let f = e .before .before in
-    rw (ne-eqb _ _ (f .before .before .if1 .left), ne-eqb _ _ (f .before .if2 .left), ne-eqb _ _ (f .if3 .left), lt-ltb _ _ (e .if4 .taken), ← d .sector .ensures, ← c .before .before .before .zero-sector .ensures)
+    rw (
+      ne-eqb _ _ (f .before .before .if1 .left),
+      ne-eqb _ _ (f .before .if2 .left),
+      ne-eqb _ _ (f .if3 .left),
+      lt-ltb _ _ (e .if4 .taken),
+      ← d .sector .ensures,
+      ← c .before .before .before .zero-sector .ensures,
+    )
     (c .before .before .put-sector3 .ensures)
 
 add-table-end : tie.Need-add-table-end
@@ -108,14 +115,23 @@ returns-5 c = λ a i m t.
     let e = d .before .before .before in
     let f = e .before .before .before in
     let h = f .before .before in
-    rw (ne-eqb _ _ (h .before .before .if1 .left), ne-eqb _ _ (h .before .if2 .left), ne-eqb _ _ (h .if3 .left), le-ltb _ _ (f .if4 .left), ← e .before .table-sectors .ensures, lt-ltb _ _ (e .if5 .taken), ← d .table-sector .ensures, ← c .before .before .before .free-table-sector .ensures)
+    rw (
+      ne-eqb _ _ (h .before .before .if1 .left),
+      ne-eqb _ _ (h .before .if2 .left),
+      ne-eqb _ _ (h .if3 .left),
+      le-ltb _ _ (f .if4 .left),
+      ← e .before .table-sectors .ensures,
+      lt-ltb _ _ (e .if5 .taken),
+      ← d .table-sector .ensures,
+      ← c .before .before .before .free-table-sector .ensures,
+    )
     (c .before .before .put-sector4 .ensures)
 
 add-if6 : tie.Need-add-if6
 add-if6 c = search needs
 
-new-superblock-requires-2 : tie.Need-new-superblock-requires-2
-new-superblock-requires-2 c κs = search needs
+new-requires-3 : tie.Need-new-requires-3
+new-requires-3 c κs = search needs
 
 put-sector-requires-5 : tie.Need-put-sector-requires-5
 put-sector-requires-5 c κs = search needs
@@ -131,7 +147,16 @@ returns-6 c = λ a i m t.
     let h = f .before .before in
     let s = h .before .before .before .before in
     let last : s .args .p ≡ 4 + s .args .g .files + e .before .table-sectors .result = omega arith in
-    rw (ne-eqb _ _ (h .before .before .if1 .left), ne-eqb _ _ (h .before .if2 .left), ne-eqb _ _ (h .if3 .left), le-ltb _ _ (f .if4 .left), ← e .before .table-sectors .ensures, le-ltb _ _ (e .if5 .left), eq-eqb _ _ last, ← c .before .before .before .new-superblock2 .ensures)
+    rw (
+      ne-eqb _ _ (h .before .before .if1 .left),
+      ne-eqb _ _ (h .before .if2 .left),
+      ne-eqb _ _ (h .if3 .left),
+      le-ltb _ _ (f .if4 .left),
+      ← e .before .table-sectors .ensures,
+      le-ltb _ _ (e .if5 .left),
+      eq-eqb _ _ last,
+      ← c .before .before .before .new3 .ensures,
+    )
     (c .before .before .put-sector5 .ensures)
 
 put-barrier-requires-2 : tie.Need-put-barrier-requires-2
@@ -149,21 +174,29 @@ returns-7 c = λ a i m t.
     let h = f .before .before in
     let s = h .before .before .before .before in
     let last : s .args .p ≡ 4 + s .args .g .files + e .before .table-sectors .result → ⊥ = λ q. d .if6 .left (omega arith) in
-    rw (ne-eqb _ _ (h .before .before .if1 .left), ne-eqb _ _ (h .before .if2 .left), ne-eqb _ _ (h .if3 .left), le-ltb _ _ (f .if4 .left), ← e .before .table-sectors .ensures, le-ltb _ _ (e .if5 .left), ne-eqb _ _ last)
+    rw (
+      ne-eqb _ _ (h .before .before .if1 .left),
+      ne-eqb _ _ (h .before .if2 .left),
+      ne-eqb _ _ (h .if3 .left),
+      le-ltb _ _ (f .if4 .left),
+      ← e .before .table-sectors .ensures,
+      le-ltb _ _ (e .if5 .left),
+      ne-eqb _ _ last,
+    )
     (c .before .before .put-barrier2 .ensures)
 
 pub put-record-spec : {M : Type 1} → statement M
 put-record-spec =
     tie.close
     (tie.spec
-    new-superblock-requires
+    new-requires
     put-sector-requires
     same-length
     returns
     put-barrier-requires
     same-length-2
     returns-2
-    new-root-requires
+    new-requires-2
     put-sector-requires-2
     same-length-3
     returns-3
@@ -185,7 +218,7 @@ put-record-spec =
     same-length-5
     returns-5
     add-if6
-    new-superblock-requires-2
+    new-requires-3
     put-sector-requires-5
     same-length-6
     returns-6

@@ -77,7 +77,9 @@ module _ (g : Geometry) (d : Disk) (is : g ≡ geometryIn (d 0)) (small : g .fil
   overfull m l before more = go (fault26 (catalogueOf d) m) refl
     where
       each : fault26 (catalogueOf d) m ≡ false → (i : ℕ) → i < m + 1 → needed g d i ≤ countBelow (owns g d i) (g .extents)
-      each e i h = ⊎-elim (λ (q : i ≡ m). has-enough i (omega arith) (ap (fault26 (catalogueOf d)) q ∙ e)) (λ (s : i < m). has-enough i (omega arith) (before i s)) (eq-or-lt-of-le (let le : i ≤ m = omega arith in le))
+      each e i h =
+          ⊎-elim (λ (q : i ≡ m). has-enough i (omega arith) (ap (fault26 (catalogueOf d)) q ∙ e)) (λ (s : i < m). has-enough i (omega arith) (before i s))
+          (eq-or-lt-of-le (let le : i ≤ m = omega arith in le))
 
       go : (b : Bool) → fault26 (catalogueOf d) m ≡ b → b ≡ true
       go true e = refl

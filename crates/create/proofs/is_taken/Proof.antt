@@ -23,7 +23,17 @@ root-id-requires : tie.Need-root-id-requires
 root-id-requires c κs = search needs
 
 returns-3 : tie.Need-returns-3
-returns-3 c = rw (← c .before .before .before .before .before .file-named .ensures, ← c .before .before .before .before .is-at .ensures, c .before .before .before .if1 .left, ← c .before .before .has-id .ensures, c .before .if2 .left, root-on, ← c .root-id .ensures)
+returns-3 c =
+    let d = c .before .before .before in
+    rw (
+      ← d .before .before .file-named .ensures,
+      ← d .before .is-at .ensures,
+      d .if1 .left,
+      ← c .before .before .has-id .ensures,
+      c .before .if2 .left,
+      root-on,
+      ← c .root-id .ensures,
+    )
 
 pub is-taken-spec : {M : Type 1} → statement M
 is-taken-spec =

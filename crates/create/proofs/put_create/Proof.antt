@@ -35,7 +35,8 @@ returns : tie.Need-returns
 unfolding createPlan
 returns c =
     let s = c .before .before .before .before in
-    rw (← s .before .before .before .before .updated-root .ensures, ← s .before .before .before .new .ensures, ← s .before .before .free-entry .ensures, ← s .before .index-of .ensures, ← s .sector .ensures)
+    let n = s .before .before .before in
+    rw (← n .before .updated-root .ensures, ← n .new .ensures, ← s .before .before .free-entry .ensures, ← s .before .index-of .ensures, ← s .sector .ensures)
     (c .before .before .put-pair .ensures)
 
 pub put-create-spec : {M : Type 1} → statement M

@@ -16,7 +16,9 @@ size-at-requires : tie.Need-size-at-requires
 size-at-requires c κs = search needs
 
 returns-2 : tie.Need-returns-2
-returns-2 c = rw (← c .before .before .before .before .is-occupied .ensures, c .before .before .before .if1 .taken, ← c .before .before .bad-name-at .ensures, c .before .if2 .left, ← c .size-at .ensures)
+returns-2 c =
+    let d = c .before .before .before in
+    rw (← d .before .is-occupied .ensures, d .if1 .taken, ← c .before .before .bad-name-at .ensures, c .before .if2 .left, ← c .size-at .ensures)
 
 returns-3 : tie.Need-returns-3
 returns-3 c = rw (← c .before .is-occupied .ensures, c .if1 .left)

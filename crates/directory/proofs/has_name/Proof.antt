@@ -38,7 +38,16 @@ returns c =
     let s = p .sector-part .result .now in
     let n = length (o .before .before .before .args .name .now) in
     let e : bytesFrom s 36 n ≡ bytesFrom (bytesFrom s 36 476) 0 n = sym (bytesFrom-bytesFrom s 36 476 0 n (omega arith)) in
-    rw (← o .is-occupied .ensures, p .before .before .if1 .taken, ← p .before .sector .ensures, ← p .sector-part .ensures .0, ← d .name-length .ensures, c .before .before .if2 .taken, e, ← c .before .name-part .ensures .0)
+    rw (
+      ← o .is-occupied .ensures,
+      p .before .before .if1 .taken,
+      ← p .before .sector .ensures,
+      ← p .sector-part .ensures .0,
+      ← d .name-length .ensures,
+      c .before .before .if2 .taken,
+      e,
+      ← c .before .name-part .ensures .0,
+    )
     (c .starts-with .ensures)
 
 returns-2 : tie.Need-returns-2

@@ -28,7 +28,9 @@ not-read-requires c κs = search needs
 returns : tie.Need-returns
 unfolding readBy fileBytes tabulate
 returns c =
-    let v = read-bad-name (view (c .before .before .before .before .before .before .before .args .img .now)) (c .before .before .before .before .before .before .before .args .name .now) (c .before .before .before .before .before .before .before .args .offset) (c .before .before .before .before .before .before .before .args .asked) (length (c .before .before .before .before .before .before .before .args .out .now)) (sym (c .before .before .before .bad-name .ensures) ∙ c .before .before .if1 .taken) in
+    let a = c .before .before .before .before .before .before .before .args in
+    let v = read-bad-name (view (a .img .now)) (a .name .now) (a .offset) (a .asked) (length (a .out .now))
+    (sym (c .before .before .before .bad-name .ensures) ∙ c .before .before .if1 .taken) in
     (rw (v, ← c .before .refusal .ensures) (c .not-read .ensures), rw (c .not-read .ensures) (sym (put-nil _ _)))
 
 refusal-requires-2 : tie.Need-refusal-requires-2
@@ -40,33 +42,43 @@ not-read-requires-2 c κs = search needs
 returns-2 : tie.Need-returns-2
 unfolding readBy fileBytes tabulate
 returns-2 c =
-    let v = read-long (view (c .before .before .before .before .before .before .before .before .args .img .now)) (c .before .before .before .before .before .before .before .before .args .name .now) (c .before .before .before .before .before .before .before .before .args .offset) (c .before .before .before .before .before .before .before .before .args .asked) (length (c .before .before .before .before .before .before .before .before .args .out .now)) (c .before .before .if2 .taken) in
+    let a = c .before .before .before .before .before .before .before .before .args in
+    let v = read-long (view (a .img .now)) (a .name .now) (a .offset) (a .asked) (length (a .out .now)) (c .before .before .if2 .taken) in
     (rw (v, ← c .before .refusal2 .ensures) (c .not-read2 .ensures), rw (c .not-read2 .ensures) (sym (put-nil _ _)))
 
 geometry-in-requires : tie.Need-geometry-in-requires
 geometry-in-requires c κs = image-length _ _ (judged-image _ _ (c .before .before .before .before .before .before .pre))
 
 file-named-requires : tie.Need-file-named-requires
-file-named-requires c κs = (judged-opened _ _ (c .geometry-in .ensures) (omega arith) (c .before .before .before .before .before .before .before .pre), short-name _ (sym (c .before .before .before .bad-name .ensures) ∙ c .before .before .if1 .left))
+file-named-requires c κs = (
+  judged-opened _ _ (c .geometry-in .ensures) (omega arith) (c .before .before .before .before .before .before .before .pre),
+  short-name _ (sym (c .before .before .before .bad-name .ensures) ∙ c .before .before .if1 .left),
+)
 
 enum-known-i : tie.Need-enum-known-i
 enum-known-i c = search needs
 
 size-at-requires : tie.Need-size-at-requires
 size-at-requires c κs =
-    let o = judged-opened _ _ (c .before .before .before .before .geometry-in .ensures) (omega arith) (c .before .before .before .before .before .before .before .before .before .before .before .pre) in
+    let s = c .before .before .before .before .before .before .before .before .before .before .before in
+    let o = judged-opened _ _ (c .before .before .before .before .geometry-in .ensures) (omega arith) (s .pre) in
     let e = ap (λ (x : Geometry). x .files) (c .before .before .before .before .geometry-in .ensures) in
-    let h = named-at (view (c .before .before .before .before .before .before .before .before .before .before .before .args .img .now)) (c .before .before .before .before .before .before .before .before .before .before .before .args .name .now) (c .before .i .given .0 .0) (sym (sym (c .before .before .before .file-named .ensures) ∙ c .before .i .given .1)) in
+    let h = named-at (view (s .args .img .now)) (s .args .name .now) (c .before .i .given .0 .0)
+    (sym (sym (c .before .before .before .file-named .ensures) ∙ c .before .i .given .1)) in
     omega arith
 
 read-file-requires : tie.Need-read-file-requires
 read-file-requires c κs =
-    let o = judged-opened _ _ (c .before .before .before .before .before .before .geometry-in .ensures) (omega arith) (c .before .before .before .before .before .before .before .before .before .before .before .before .before .pre) in
-    let h = named-at (view (c .before .before .before .before .before .before .before .before .before .before .before .before .before .args .img .now)) (c .before .before .before .before .before .before .before .before .before .before .before .before .before .args .name .now) (c .before .before .before .i .given .0 .0) (sym (sym (c .before .before .before .before .before .file-named .ensures) ∙ c .before .before .before .i .given .1)) in
-    let e = ap (λ (x : Geometry). x .files) (c .before .before .before .before .before .before .geometry-in .ensures) in
-    let s = size-fits (c .before .before .before .before .before .before .before .before .before .before .before .before .before .args .img .now) (c .before .before .before .before .before .before .geometry-in .result) o (judged-sound _ _ (c .before .before .before .before .before .before .before .before .before .before .before .before .before .pre)) (c .before .before .before .i .given .0 .0) (h .0) (h .1) in
+    let f = c .before .before .before in
+    let g = f .before .before .before in
+    let s = g .before .before .before .before .before .before .before in
+    let o = judged-opened _ _ (g .geometry-in .ensures) (omega arith) (s .pre) in
+    let h = named-at (view (s .args .img .now)) (s .args .name .now) (f .i .given .0 .0)
+    (sym (sym (f .before .before .file-named .ensures) ∙ f .i .given .1)) in
+    let e = ap (λ (x : Geometry). x .files) (g .geometry-in .ensures) in
+    let b = size-fits (s .args .img .now) (g .geometry-in .result) o (judged-sound _ _ (s .pre)) (f .i .given .0 .0) (h .0) (h .1) in
     let z = c .before .size-at .ensures in
-    (o, (omega arith, omega (arith, z, s), c .before .before .before .before .before .before .before .if2 .left))
+    (o, (omega arith, omega (arith, z, b), g .before .if2 .left))
 
 same-length : tie.Need-same-length
 same-length c = search needs
@@ -74,11 +86,19 @@ same-length c = search needs
 returns-3 : tie.Need-returns-3
 unfolding readBy
 returns-3 c =
-    let q = sym (sym (c .before .before .before .before .before .before .before .before .file-named .ensures) ∙ c .before .before .before .before .before .before .i .given .1) in
-    let g = (sym (c .before .before .before .before .before .before .before .before .before .before .before .before .bad-name .ensures) ∙ c .before .before .before .before .before .before .before .before .before .before .before .if1 .left) in
-    let m = c .before .before .before .before .before .before .before .before .before .before .if2 .left in
+    let f = c .before .before .before .before .before .before in
+    let t = f .before .before .before .before in
+    let a = t .before .before .before .before .before .before .args in
+    let q = sym (sym (f .before .before .file-named .ensures) ∙ f .i .given .1) in
+    let g = sym (t .before .before .bad-name .ensures) ∙ t .before .if1 .left in
+    let m = t .if2 .left in
     let z = c .before .before .before .before .size-at .ensures in (
-      rw (read-file (view (c .before .before .before .before .before .before .before .before .before .before .before .before .before .before .before .before .args .img .now)) (c .before .before .before .before .before .before .before .before .before .before .before .before .before .before .before .before .args .name .now) (c .before .before .before .before .before .before .before .before .before .before .before .before .before .before .before .before .args .offset) (c .before .before .before .before .before .before .before .before .before .before .before .before .before .before .before .before .args .asked) (length (c .before .before .before .before .before .before .before .before .before .before .before .before .before .before .before .before .args .out .now)) g m (c .before .before .before .before .before .before .i .given .0 .0) q, size-named (view (c .before .before .before .before .before .before .before .before .before .before .before .before .before .before .before .before .args .img .now)) (c .before .before .before .before .before .before .before .before .before .before .before .before .before .before .before .before .args .name .now) (c .before .before .before .before .before .before .before .before .before .before .before .before .before .before .before .before .args .offset) (c .before .before .before .before .before .before .before .before .before .before .before .before .before .before .before .before .args .asked) (length (c .before .before .before .before .before .before .before .before .before .before .before .before .before .before .before .before .args .out .now)) g m (c .before .before .before .before .before .before .i .given .0 .0) q, ← z) (c .before .before .read-file .ensures .0),
+      rw (
+        read-file (view (a .img .now)) (a .name .now) (a .offset) (a .asked) (length (a .out .now)) g m (f .i .given .0 .0) q,
+        size-named (view (a .img .now)) (a .name .now) (a .offset) (a .asked) (length (a .out .now)) g m (f .i .given .0 .0) q,
+        ← z,
+      )
+          (c .before .before .read-file .ensures .0),
       rw (← q) (c .before .before .read-file .ensures .1),
     )
 
@@ -95,7 +115,10 @@ returns-4 : tie.Need-returns-4
 unfolding readBy fileBytes tabulate
 returns-4 c =
     let n = sym (c .before .before .before .before .file-named .ensures) ∙ c .before .before .enum-told .given .1 in
-    let v = read-missing (view (c .before .before .before .before .before .before .before .before .before .before .before .before .args .img .now)) (c .before .before .before .before .before .before .before .before .before .before .before .before .args .name .now) (c .before .before .before .before .before .before .before .before .before .before .before .before .args .offset) (c .before .before .before .before .before .before .before .before .before .before .before .before .args .asked) (length (c .before .before .before .before .before .before .before .before .before .before .before .before .args .out .now)) (sym (c .before .before .before .before .before .before .before .before .bad-name .ensures) ∙ c .before .before .before .before .before .before .before .if1 .left) (c .before .before .before .before .before .before .if2 .left) (ap isAt n) in
+    let t = c .before .before .before .before .before .before in
+    let a = t .before .before .before .before .before .before .args in
+    let v = read-missing (view (a .img .now)) (a .name .now) (a .offset) (a .asked) (length (a .out .now))
+    (sym (t .before .before .bad-name .ensures) ∙ t .before .if1 .left) (t .if2 .left) (ap isAt n) in
     (rw (v, ← c .before .refusal3 .ensures) (c .not-read3 .ensures), rw (c .not-read3 .ensures) (sym (put-nil _ _)))
 
 pub read-in-spec : {M : Type 1} → statement M

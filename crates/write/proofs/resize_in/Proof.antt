@@ -31,7 +31,10 @@ geometry-in-requires : tie.Need-geometry-in-requires
 geometry-in-requires c κs = image-length _ _ (judged-image _ _ (c .before .before .before .before .before .pre))
 
 file-named-requires : tie.Need-file-named-requires
-file-named-requires c κs = (judged-opened _ _ (c .geometry-in .ensures) (omega arith) (c .before .before .before .before .before .before .pre), short-name _ (sym (c .before .before .bad-name .ensures) ∙ c .before .if1 .left))
+file-named-requires c κs = (
+  judged-opened _ _ (c .geometry-in .ensures) (omega arith) (c .before .before .before .before .before .before .pre),
+  short-name _ (sym (c .before .before .bad-name .ensures) ∙ c .before .if1 .left),
+)
 
 enum-known-i : tie.Need-enum-known-i
 enum-known-i c = search needs
@@ -45,21 +48,24 @@ size-at-requires c κs =
 
 resize-file-requires : tie.Need-resize-file-requires
 resize-file-requires c κs =
-    let s = c .before .before .before .before .before .before .before .before .before .before .before .before in
-    let img = s .args .img .now in
-    let o = judged-opened _ _ (c .before .before .before .before .before .before .geometry-in .ensures) (omega arith) (s .pre) in
-    asked img _ o (s .args .name .now) (c .before .before .before .i .given .0 .0) (sym (c .before .before .before .i .given .1) ∙ c .before .before .before .before .before .file-named .ensures) (s .pre) (c .before .size-at .result) 0
-    (c .before .size-at .ensures) (omega arith)
+    let f = c .before .before .before in
+    let g = f .before .before .before in
+    let s = g .before .before .before .before .before .before in
+    let o = judged-opened _ _ (g .geometry-in .ensures) (omega arith) (s .pre) in
+    asked (s .args .img .now) _ o (s .args .name .now) (f .i .given .0 .0) (sym (f .i .given .1) ∙ f .before .before .file-named .ensures) (s .pre)
+    (c .before .size-at .result) 0 (c .before .size-at .ensures) (omega arith)
 
 same-length : tie.Need-same-length
 same-length c = search needs
 
 returns-2 : tie.Need-returns-2
 returns-2 c =
-    let s = c .before .before .before .before .before .before .before .before .before .before .before .before .before .before .before in
+    let f = c .before .before .before .before .before .before in
+    let t = f .before .before .before .before in
+    let s = t .before .before .before .before .before in
     let a = s .args in
-    resize-found (a .img .now) (s .pre) (a .list .now) (a .name .now) (a .size) (a .time) (sym (c .before .before .before .before .before .before .before .before .before .before .before .bad-name .ensures) ∙ c .before .before .before .before .before .before .before .before .before .before .if1 .left)
-    (c .before .before .before .before .before .before .i .given .0 .0) (sym (c .before .before .before .before .before .before .i .given .1) ∙ c .before .before .before .before .before .before .before .before .file-named .ensures) (c .before .before .resize-file .ensures)
+    resize-found (a .img .now) (s .pre) (a .list .now) (a .name .now) (a .size) (a .time) (sym (t .before .bad-name .ensures) ∙ t .if1 .left)
+    (f .i .given .0 .0) (sym (f .i .given .1) ∙ f .before .before .file-named .ensures) (c .before .before .resize-file .ensures)
 
 enum-told : tie.Need-enum-told
 enum-told c = search needs
@@ -72,10 +78,12 @@ refused-requires-2 c κs = search needs
 
 returns-3 : tie.Need-returns-3
 returns-3 c =
-    let s = c .before .before .before .before .before .before .before .before .before .before .before in
+    let t = c .before .before .before .before .before .before in
+    let s = t .before .before .before .before .before in
     let a = s .args in
     rw (c .refused2 .ensures, c .before .refusal2 .ensures)
-    (resize-missing (a .img .now) (s .pre) (a .list .now) (a .name .now) (a .size) (a .time) (sym (c .before .before .before .before .before .before .before .bad-name .ensures) ∙ c .before .before .before .before .before .before .if1 .left)
+    (resize-missing (a .img .now) (s .pre) (a .list .now) (a .name .now) (a .size) (a .time)
+    (sym (t .before .bad-name .ensures) ∙ t .if1 .left)
     (ap isAt (sym (c .before .before .before .before .file-named .ensures) ∙ c .before .before .enum-told .given .1)))
 
 pub resize-in-spec : {M : Type 1} → statement M

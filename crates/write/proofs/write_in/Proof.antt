@@ -24,7 +24,8 @@ returns : tie.Need-returns
 returns c =
     let s = c .before .before .before .before .before .before .before .before in
     let a = s .args in
-    rw (c .refused .ensures, c .before .refusal .ensures) (write-bad-name (a .img .now) (s .pre) (a .list .now) (a .name .now) (a .offset) (a .bytes .now) (a .time) (sym (c .before .before .before .bad-name .ensures) ∙ c .before .before .if1 .taken))
+    rw (c .refused .ensures, c .before .refusal .ensures)
+    (write-bad-name (a .img .now) (s .pre) (a .list .now) (a .name .now) (a .offset) (a .bytes .now) (a .time) (sym (c .before .before .before .bad-name .ensures) ∙ c .before .before .if1 .taken))
 
 refusal-requires-2 : tie.Need-refusal-requires-2
 refusal-requires-2 c κs = search needs
@@ -36,13 +37,17 @@ returns-2 : tie.Need-returns-2
 returns-2 c =
     let s = c .before .before .before .before .before .before .before .before .before in
     let a = s .args in
-    rw (c .refused2 .ensures, c .before .refusal2 .ensures) (write-long (a .img .now) (s .pre) (a .list .now) (a .name .now) (a .offset) (a .bytes .now) (a .time) (c .before .before .if2 .taken))
+    rw (c .refused2 .ensures, c .before .refusal2 .ensures)
+    (write-long (a .img .now) (s .pre) (a .list .now) (a .name .now) (a .offset) (a .bytes .now) (a .time) (c .before .before .if2 .taken))
 
 geometry-in-requires : tie.Need-geometry-in-requires
 geometry-in-requires c κs = image-length _ _ (judged-image _ _ (c .before .before .before .before .before .before .before .pre))
 
 file-named-requires : tie.Need-file-named-requires
-file-named-requires c κs = (judged-opened _ _ (c .geometry-in .ensures) (omega arith) (c .before .before .before .before .before .before .before .before .pre), short-name _ (sym (c .before .before .before .bad-name .ensures) ∙ c .before .before .if1 .left))
+file-named-requires c κs = (
+  judged-opened _ _ (c .geometry-in .ensures) (omega arith) (c .before .before .before .before .before .before .before .before .pre),
+  short-name _ (sym (c .before .before .before .bad-name .ensures) ∙ c .before .before .if1 .left),
+)
 
 enum-known-i : tie.Need-enum-known-i
 enum-known-i c = search needs
@@ -56,11 +61,12 @@ size-at-requires c κs =
 
 write-file-requires : tie.Need-write-file-requires
 write-file-requires c κs =
-    let s = c .before .before .before .before .before .before .before .before .before .before .before .before .before .before in
-    let img = s .args .img .now in
-    let o = judged-opened _ _ (c .before .before .before .before .before .before .geometry-in .ensures) (omega arith) (s .pre) in (
-      asked img _ o (s .args .name .now) (c .before .before .before .i .given .0 .0) (sym (c .before .before .before .i .given .1) ∙ c .before .before .before .before .before .file-named .ensures) (s .pre) (c .before .size-at .result) _
-          (c .before .size-at .ensures) (c .before .before .before .before .before .before .before .if2 .left),
+    let f = c .before .before .before in
+    let g = f .before .before .before in
+    let s = g .before .before .before .before .before .before .before .before in
+    let o = judged-opened _ _ (g .geometry-in .ensures) (omega arith) (s .pre) in (
+      asked (s .args .img .now) _ o (s .args .name .now) (f .i .given .0 .0) (sym (f .i .given .1) ∙ f .before .before .file-named .ensures) (s .pre)
+          (c .before .size-at .result) _ (c .before .size-at .ensures) (g .before .if2 .left),
       source-own (s .args .bytes .now),
     )
 
@@ -69,10 +75,13 @@ same-length c = search needs
 
 returns-3 : tie.Need-returns-3
 returns-3 c =
-    let s = c .before .before .before .before .before .before .before .before .before .before .before .before .before .before .before .before .before in
+    let f = c .before .before .before .before .before .before in
+    let t = f .before .before .before .before in
+    let s = t .before .before .before .before .before .before .before in
     let a = s .args in
-    write-found (a .img .now) (s .pre) (a .list .now) (a .name .now) (a .offset) (a .bytes .now) (a .time) (sym (c .before .before .before .before .before .before .before .before .before .before .before .before .bad-name .ensures) ∙ c .before .before .before .before .before .before .before .before .before .before .before .if1 .left) (c .before .before .before .before .before .before .before .before .before .before .if2 .left)
-    (c .before .before .before .before .before .before .i .given .0 .0) (sym (c .before .before .before .before .before .before .i .given .1) ∙ c .before .before .before .before .before .before .before .before .file-named .ensures) (rw (span-own (a .bytes .now) _ refl) at (c .before .before .write-file .ensures))
+    write-found (a .img .now) (s .pre) (a .list .now) (a .name .now) (a .offset) (a .bytes .now) (a .time)
+    (sym (t .before .before .bad-name .ensures) ∙ t .before .if1 .left) (t .if2 .left) (f .i .given .0 .0)
+    (sym (f .i .given .1) ∙ f .before .before .file-named .ensures) (rw (span-own (a .bytes .now) _ refl) at (c .before .before .write-file .ensures))
 
 enum-told : tie.Need-enum-told
 enum-told c = search needs
@@ -85,10 +94,12 @@ refused-requires-3 c κs = search needs
 
 returns-4 : tie.Need-returns-4
 returns-4 c =
-    let s = c .before .before .before .before .before .before .before .before .before .before .before .before .before in
+    let t = c .before .before .before .before .before .before in
+    let s = t .before .before .before .before .before .before .before in
     let a = s .args in
     rw (c .refused3 .ensures, c .before .refusal3 .ensures)
-    (write-missing (a .img .now) (s .pre) (a .list .now) (a .name .now) (a .offset) (a .bytes .now) (a .time) (sym (c .before .before .before .before .before .before .before .before .bad-name .ensures) ∙ c .before .before .before .before .before .before .before .if1 .left) (c .before .before .before .before .before .before .if2 .left)
+    (write-missing (a .img .now) (s .pre) (a .list .now) (a .name .now) (a .offset) (a .bytes .now) (a .time)
+    (sym (t .before .before .bad-name .ensures) ∙ t .before .if1 .left) (t .if2 .left)
     (ap isAt (sym (c .before .before .before .before .file-named .ensures) ∙ c .before .before .enum-told .given .1)))
 
 pub write-in-spec : {M : Type 1} → statement M

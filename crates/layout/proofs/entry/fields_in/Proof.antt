@@ -42,7 +42,17 @@ returns : tie.Need-returns
 unfolding fieldsOf entryIn
 returns c =
     let l = c .before .before in
-    rw (length-nameIn, ← l .before .before .before .before .number-in .ensures .0, ← l .before .before .before .number-in2 .ensures .0, ← l .before .before .number-in3 .ensures .0, ← l .before .number-in4 .ensures .0, ← l .number-in5 .ensures .0, ← c .before .size .ensures, ← c .id .ensures)
+    let m = l .before .before in
+    rw (
+      length-nameIn,
+      ← m .before .before .number-in .ensures .0,
+      ← m .before .number-in2 .ensures .0,
+      ← m .number-in3 .ensures .0,
+      ← l .before .number-in4 .ensures .0,
+      ← l .number-in5 .ensures .0,
+      ← c .before .size .ensures,
+      ← c .id .ensures,
+    )
 
 pub fields-in-spec : {M : Type 1} → statement M
 fields-in-spec =

@@ -5,7 +5,7 @@ use Rattle.model.specs.Search.{scan, anyBelow, allBelow, countBelow, equalBytes
 use Rattle.model.specs.Geometry.{inBounds}
 use Rattle.model.specs.Superblock.{isVolume, geometryIn, journalLength, stateOf, newSuperblock}
 use Rattle.model.specs.Root.{rootIn, newRootSector, updatedRootSector}
-use Rattle.model.specs.Entry.{nameIn, entryIn, isOccupied, hasZero, badName, newEntrySector, updatedEntrySector}
+use Rattle.model.specs.Entry.{nameIn, entryIn, isOccupied, hasZero, badName, newEntrySector, updatedEntrySector, renamedEntrySector}
 use Rattle.model.specs.Table.{tableFile, tableOffset, takenIn, freedIn}
 use Rattle.model.specs.Journal.{entriesIn, journalSector}
 use Rattle.model.specs.Catalogue.{catalogueOf, fileNamed, entryOf}
@@ -18,7 +18,7 @@ use Rattle.cases.specs.Literals.{Literals}
 
 pub literals : Literals
 unfolding beAt beBytes bytesFrom put onesSector zeroSector scan anyBelow allBelow countBelow equalBytes inBounds isVolume geometryIn journalLength stateOf newSuperblock
-    rootIn newRootSector updatedRootSector nameIn entryIn isOccupied hasZero badName newEntrySector updatedEntrySector tableFile tableOffset takenIn freedIn
+    rootIn newRootSector updatedRootSector nameIn entryIn isOccupied hasZero badName newEntrySector updatedEntrySector renamedEntrySector tableFile tableOffset takenIn freedIn
     entriesIn journalSector catalogueOf fileNamed entryOf fault21 fault22 fault23 fault24 fault25 exact fault26 firstFault
     verdictOf isWhole fitsImage imageVerdict soundVerdict judged barrier recordBytes superblockVerdict superblockAnswer sizeNamed readConditions readBy readAnswer
 literals = record {
@@ -29,6 +29,7 @@ literals = record {
   root-updated = refl;
   created = refl;
   written = refl;
+  renamed = refl;
   taken = refl;
   freed = refl;
   journal = refl;

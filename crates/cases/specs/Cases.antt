@@ -6,6 +6,7 @@ use mathlib.Core.List.{List, [], _∷_, _++_}
 use mathlib.Core.Option.{Option, none, some}
 use lib.ListN.{replicate}
 use Rattle.model.specs.declared.Geometry.{Geometry}
+use Rattle.model.specs.declared.Lowest.the-variants.{At, Nowhere}
 use Rattle.model.specs.Search.{tabulate}
 use Rattle.model.specs.Geometry.{tableSectors, reserveExtents, journalAt, tableAt, dataAt, reserveAt}
 use Rattle.model.specs.Disk.{Disk}
@@ -15,7 +16,8 @@ use Rattle.model.specs.WriteList.{Plan, Group, groupsOf, closed, listLength, re
 use Rattle.model.specs.Format.{Format, geometryFor, formatAnswer}
 use Rattle.model.specs.Create.{createPlan}
 use Rattle.model.specs.Write.{writePlan}
-use Rattle.model.specs.Ledger.{Ledger, catalogue, Call, create, delete, write, changed, answer, numberOf, Feed, whole, ledgerAfter}
+use Rattle.model.specs.Rename.{renamePlan}
+use Rattle.model.specs.Ledger.{Ledger, catalogue, Call, create, delete, write, rename, changed, answer, numberOf, Feed, whole, ledgerAfter}
 
 -- a format with F 255
 abbrev pub formatOf : ℕ → Format
@@ -57,6 +59,13 @@ full = fills 99 ∷ makes 99 ∷ fills 98 ∷ makes 98 ∷ fills 97 ∷ makes 97
 
 abbrev pub deleted : List Feed
 deleted = whole (delete (called 98) 0 10000) ∷ full
+
+-- two files, of which the first is full; the second renamed onto the first
+abbrev pub pair : List Feed
+pair = makes 98 ∷ fills 97 ∷ makes 97 ∷ []
+
+abbrev pub replaced : Feed
+replaced = whole (rename (called 98) (called 97) 7 7920)
 
 -- "one byte more"
 abbrev pub oneMore : Call
@@ -126,3 +135,26 @@ pub record Cases : Type 0 where
   pub P10-refused : numberOf (answer (create (replicate 477 97) 97 0 0 5808) (after [])) ≡ 8
   -- longest delete: 514 targets, 17 journal sectors, 1,051 records
   pub longest : recordCount 0 514 ≡ 1051
+  -- T-01: "a" full and "b", then "a" to "b": root, "a" renamed, "b" zeroed; "b" to "a": the same entries, and the table sector of "a"
+  pub rename-order : (d : Disk) → order (groups d (renamePlan (known pair) d 0 (At 1) (called 98) 0)) ≡ (674 ∷ 675 ∷ 676 ∷ 257 ∷ behind (1 ∷ 2 ∷ 3 ∷ []))
+  pub replace-order : (d : Disk) → order (groups d (renamePlan (known pair) d 1 (At 0) (called 97) 0))
+      ≡ (674 ∷ 675 ∷ 676 ∷ 677 ∷ 257 ∷ behind (1 ∷ 2 ∷ 3 ∷ 289 ∷ []))
+  pub rename-new : (d : Disk) → order (groups d (renamePlan (known pair) d 1 Nowhere (called 99) 0)) ≡ (674 ∷ 675 ∷ 257 ∷ behind (1 ∷ 3 ∷ []))
+  pub rename-answer : answer (rename (called 98) (called 97) 0 7920) (after pair) ≡ changed (record { verdict = done; length = 15 * 528 })
+  pub rename-itself : answer (rename (called 98) (called 98) 0 0) (after pair) ≡ changed (record { verdict = done; length = 0 })
+  pub rename-refused : (numberOf (answer (rename [] (called 97) 0 7920) (after pair)) ∷ numberOf (answer (rename (called 97) [] 0 7920) (after pair))
+      ∷ numberOf (answer (rename (called 99) (called 99) 0 7920) (after pair)) ∷ numberOf (answer (rename (called 98) (called 97) 0 7919) (after pair)) ∷ [])
+      ≡ (8 ∷ 8 ∷ 9 ∷ 14 ∷ [])
+  pub rename-table : table (replaced ∷ pair) ≡ (none ∷ none ∷ none ∷ none ∷ [])
+  pub rename-entries : tabulate (known (replaced ∷ pair) .entries) 0 2
+      ≡ (none ∷ some (record { size = 0; version = 1; id = 98; mode = 0; accessTime = 0; changeTime = 7; name = called 97 }) ∷ [])
+  pub rename-root : after (replaced ∷ pair) .root ≡ record { version = 3; id = 1; mode = 0; accessTime = 0; changeTime = 7 }
+  -- T-07: names of one byte, of 33 and 126, and of 32, 127 and 47 (the slash); and "a" to 32
+  pub typable : (numberOf (answer (create (called 33) 97 0 0 5808) (after [])) ∷ numberOf (answer (create (called 126) 97 0 0 5808) (after [])) ∷ [])
+      ≡ (0 ∷ 0 ∷ [])
+  pub untypable : (numberOf (answer (create (called 32) 97 0 0 5808) (after [])) ∷ numberOf (answer (create (called 127) 97 0 0 5808) (after []))
+      ∷ numberOf (answer (create (called 47) 97 0 0 5808) (after [])) ∷ numberOf (answer (rename (called 97) (called 32) 0 7920) (after pair)) ∷ [])
+      ≡ (8 ∷ 8 ∷ 8 ∷ 8 ∷ [])
+  -- T-01: the longest rename, 515 targets: 1,053 records; K for T 126, 512 and 1 with S 128
+  pub longest-rename : recordCount 0 515 ≡ 1053
+  pub reserves : (reserveExtents (shape 16128 128) ∷ reserveExtents (shape 65535 128) ∷ reserveExtents (shape 4 128) ∷ []) ≡ (2 ∷ 5 ∷ 1 ∷ [])

@@ -12,7 +12,7 @@ use Rattle.model.specs.Bytes.{bytesFrom, zeroSector, onesSector}
 use Rattle.model.specs.Disk.{Disk}
 use Rattle.model.specs.Superblock.{newSuperblock, stateOf}
 use Rattle.model.specs.Root.{newRootSector, updatedRootSector}
-use Rattle.model.specs.Entry.{newEntrySector, updatedEntrySector}
+use Rattle.model.specs.Entry.{newEntrySector, updatedEntrySector, renamedEntrySector}
 use Rattle.model.specs.Table.{takenIn, freedIn}
 use Rattle.model.specs.Journal.{journalSector}
 use Rattle.model.specs.Refusals.{done, refusal}
@@ -70,6 +70,10 @@ pub record Literals : Type 0 where
   pub written : bytesFrom (updatedEntrySector 258 825373492 (newEntrySector (104 ∷ 105 ∷ []) 1 0 555885348)) 0 38
       ≡ (255 ∷ 255 ∷ 0 ∷ 0 ∷ 0 ∷ 0 ∷ 0 ∷ 0 ∷ 1 ∷ 2 ∷ 0 ∷ 0 ∷ 0 ∷ 1 ∷ 0 ∷ 0 ∷ 0 ∷ 0 ∷ 0 ∷ 0 ∷ 0 ∷ 1 ∷ 0 ∷ 0 ∷ 0 ∷ 0
       ∷ 33 ∷ 34 ∷ 35 ∷ 36 ∷ 49 ∷ 50 ∷ 51 ∷ 52 ∷ 0 ∷ 2 ∷ 104 ∷ 105 ∷ [])
+  -- T-01: and a rename's of it, from "hi" to "a": version up, change time set, name length 1, and no byte of the old name behind the new one
+  pub renamed : renamedEntrySector (97 ∷ []) 825373492 (newEntrySector (104 ∷ 105 ∷ []) 72623859790382856 286397204 555885348)
+      ≡ padded (255 ∷ 255 ∷ 0 ∷ 0 ∷ 0 ∷ 0 ∷ 0 ∷ 0 ∷ 0 ∷ 0 ∷ 0 ∷ 0 ∷ 0 ∷ 1 ∷ 1 ∷ 2 ∷ 3 ∷ 4 ∷ 5 ∷ 6 ∷ 7 ∷ 8 ∷ 17 ∷ 18 ∷ 19 ∷ 20
+      ∷ 33 ∷ 34 ∷ 35 ∷ 36 ∷ 49 ∷ 50 ∷ 51 ∷ 52 ∷ 0 ∷ 1 ∷ 97 ∷ [])
   -- table entry of extent 1: file index, offset; given to file 258 as its extent 3, and freed again
   pub taken : bytesFrom (takenIn 1 258 3 onesSector) 0 12 ≡ (255 ∷ 255 ∷ 255 ∷ 255 ∷ 1 ∷ 2 ∷ 0 ∷ 3 ∷ 255 ∷ 255 ∷ 255 ∷ 255 ∷ [])
   pub freed : bytesFrom (freedIn (λ k. eqb k 1) zeroSector 128) 0 12 ≡ (0 ∷ 0 ∷ 0 ∷ 0 ∷ 255 ∷ 255 ∷ 255 ∷ 255 ∷ 0 ∷ 0 ∷ 0 ∷ 0 ∷ [])

@@ -1,4 +1,4 @@
-// The calls that fill a write list, on any bytes and any arguments: create, delete, resize, write. The image is only read.
+// The calls that fill a write list, on any bytes and any arguments: create, delete, resize, write, rename. The image is only read.
 use model::Changed;
 ghost use mathlib.Core.Path.{_≡_};
 ghost use lib.ListN.{length};
@@ -7,6 +7,7 @@ ghost use Rattle.model.specs.Create.{createAnswer, createList};
 ghost use Rattle.model.specs.Delete.{deleteAnswer, deleteList};
 ghost use Rattle.model.specs.Resize.{resizeAnswer, resizeList};
 ghost use Rattle.model.specs.Write.{writeAnswer, writeList};
+ghost use Rattle.model.specs.Rename.{renameAnswer, renameList};
 
 pub fn create(img: &[u8], name: &[u8], id: u64, mode: u32, time: u32, list: &mut [u8]) -> Changed
     ensures { λ r. ⌜ r ≡ createAnswer (length (now (img .entry))) (view (now (img .entry))) (now (name .entry)) id mode time (length (now (list .entry))) ⌝ }
@@ -55,6 +56,17 @@ pub fn write(
     let v = soundness::judge(img);
     if v.number == 0 {
         return write::write_in(img, name, offset, bytes, time, list);
+    }
+    commit::refused(v)
+}
+
+pub fn rename(img: &[u8], old: &[u8], new: &[u8], time: u32, list: &mut [u8]) -> Changed
+    ensures { λ r. ⌜ r ≡ renameAnswer (length (now (img .entry))) (view (now (img .entry))) (now (old .entry)) (now (new .entry)) time (length (now (list .entry))) ⌝ }
+    ensures { λ _. ⌜ now (list .exit) ≡ renameList (length (now (img .entry))) (view (now (img .entry))) (now (old .entry)) (now (new .entry)) time (now (list .entry)) ⌝ }
+{
+    let v = soundness::judge(img);
+    if v.number == 0 {
+        return rename::rename_in(img, old, new, time, list);
     }
     commit::refused(v)
 }

@@ -18,12 +18,14 @@ use Rattle.model.specs.Geometry.{superblockAt, rootAt}
 use Rattle.model.specs.Disk.{Disk, view}
 use Rattle.model.specs.Superblock.{geometryIn}
 use Rattle.model.specs.Root.{rootField, rootIn}
-use Rattle.model.specs.Entry.{badName}
+use Rattle.model.specs.Entry.{badNewName}
 use Rattle.model.specs.Catalogue.{Catalogue, catalogueOf, isFree, freeEntry}
 use Rattle.model.specs.Refusals.{Conditions, verdictOf, refusal, done, judged}
 use Rattle.model.specs.WriteList.{Plan, recordSize, Emitted, groupsOf, groupsFor, closed, listLength}
 use Rattle.model.specs.Create.{createConditions, createPlan, createCount, createDecision, createAnswer, createList}
+use Rattle.laws.proofs.Booleans.{or-none}
 use Rattle.laws.proofs.Search.{Hit, scan-hit}
+use Rattle.laws.proofs.Entry.{new-name-good}
 use Rattle.laws.proofs.Named.{short-name}
 use Rattle.commit.proofs.Records.{plan-needs}
 use Rattle.commit.proofs.Decided.{refused-by-own, refused-as-short, done-as-planned}
@@ -33,10 +35,6 @@ use Rattle.commit.proofs.Decided.{refused-by-own, refused-as-short, done-as-pla
 pub root-on : (d : Disk) → catalogueOf d .root .id ≡ numberIn (d rootAt) (rootField .id)
 unfolding catalogueOf rootIn
 root-on d = refl
-
-pub or-false : (a b : Bool) → (a || b) ≡ false → a ≡ false
-or-false true b e = e
-or-false false b e = refl
 
 below : (p : ℕ → Bool) (n : ℕ) (q : Lowest) → Hit p (n - 0) 0 q → indexOf q ≤ n
 below p n (At i) h = omega (arith, h .1)
@@ -51,7 +49,7 @@ free-below d =
 
 pub good-name : (c : Catalogue) (name : List ℕ) (id : ℕ) → verdictOf (createConditions c name id) .number ≡ 0 → length name ≤ 476
 unfolding createConditions verdictOf
-good-name c name id h = short-name name (or-false (badName name) (eqb id 0) (go (badName name || eqb id 0) _ h))
+good-name c name id h = short-name name (new-name-good name (or-none (badNewName name) (eqb id 0) (go (badNewName name || eqb id 0) _ h) .0))
   where
     go : (b : Bool) (v : Verdict) → cond b (refusal 8) v .number ≡ 0 → b ≡ false
     go true v e = let z : _≡_ {A = ℕ} 8 0 = e in absurd (omega arith)

@@ -13,7 +13,7 @@ ghost use lib.Dec.{eqb};
 ghost use lib.ListN.{length};
 ghost use Rattle.model.specs.Search.{anyBelow, isAt, indexOf};
 ghost use Rattle.model.specs.Disk.{view};
-ghost use Rattle.model.specs.Entry.{badName, longestName};
+ghost use Rattle.model.specs.Entry.{badNewName, longestName};
 ghost use Rattle.model.specs.Catalogue.{catalogueOf, fileNamed, hasId};
 ghost use Rattle.model.specs.Refusals.{verdictOf, judged};
 ghost use Rattle.model.specs.WriteList.{sectorWrite, recordSize, closed, groupsOf, Emitted};
@@ -44,9 +44,9 @@ fn index_of(p: Lowest) -> usize
 }
 
 fn bad_argument(name: &[u8], id: u64) -> bool
-    ensures { λ r. ⌜ r ≡ (badName (now (name .entry)) || eqb id 0) ⌝ }
+    ensures { λ r. ⌜ r ≡ (badNewName (now (name .entry)) || eqb id 0) ⌝ }
 {
-    if directory::bad_name(name) {
+    if directory::bad_new_name(name) {
         return true;
     }
     id == 0

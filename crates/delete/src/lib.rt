@@ -47,7 +47,7 @@ fn put_freed_sector(
 }
 
 // The copies of all such table sectors, from record k on.
-fn put_freed(
+pub fn put_freed(
     list: &mut [u8],
     k: usize,
     numbers: &mut [u64],
@@ -75,7 +75,7 @@ fn put_freed(
 // ---- shrinking
 
 // How many records the list of n targets has that come with no data sectors.
-fn records_for(n: u64) -> usize
+pub fn records_for(n: u64) -> usize
     requires { ⌜ n ≤ 1024 ⌝ }
     ensures { λ r. ⌜ r ≡ recordCount 0 n ⌝ }
 {

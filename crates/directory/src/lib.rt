@@ -5,16 +5,16 @@ use model::Geometry;
 use model::Lowest;
 use model::Sector;
 ghost use mathlib.Core.Path.{_≡_};
-ghost use mathlib.Core.Bool.{_&&_, _||_};
+ghost use mathlib.Core.Bool.{not, _&&_, _||_};
 ghost use Prim.Native.Nat.{_+_, _*_, _≤_, _<_};
 ghost use lib.Dec.{eqb, ltb};
-ghost use lib.ListN.{length};
+ghost use lib.ListN.{length, getD};
 ghost use Rattle.model.specs.Bytes.{numberIn};
 ghost use Rattle.model.specs.Search.{first, anyBelow, equalBytes};
 ghost use Rattle.model.specs.Geometry.{usable, extentBytes, rootAt, entryAt};
 ghost use Rattle.model.specs.Disk.{view};
 ghost use Rattle.model.specs.Root.{rootField, updatedRootSector};
-ghost use Rattle.model.specs.Entry.{entryField, entryIn, fieldsOf, longestName, isOccupied, nameIn, badName, updatedEntrySector};
+ghost use Rattle.model.specs.Entry.{entryField, entryIn, fieldsOf, longestName, isOccupied, nameIn, badName, isTypable, badNewName, updatedEntrySector, renamedEntrySector};
 ghost use Rattle.model.specs.Catalogue.{catalogueOf, hasId, fileNamed, freeEntry};
 ghost use Rattle.model.specs.Faults.{fault21, fault22};
 ghost use Rattle.model.specs.Opened.{Bounded, Opened};
@@ -113,6 +113,68 @@ pub fn updated_entry(img: &[u8], i: FileIndex, size: u64, time: u32) -> [u8; 512
     layout::entry::updated(fields::sector_part(img, i.sector()), size, time)
 }
 
+// Entry i's sector with the new name, the version up and the change time set.
+pub fn renamed_entry(img: &[u8], i: FileIndex, name: &[u8], time: u32) -> [u8; 512]
+    requires { ⌜ 512 * entryAt (i .0) + 512 ≤ length (now img) ⌝ }
+    requires { ⌜ length (now name) ≤ longestName ⌝ }
+    ensures { λ r. ⌜ r ≡ renamedEntrySector (now (name .entry)) time (view (now (img .entry)) (entryAt (i .0))) ⌝ }
+{
+    layout::entry::renamed(fields::sector_part(img, i.sector()), name, time)
+}
+
+// ---- names
+
+// The length isn't 1 to 476, or a byte is 0.
+pub fn bad_name(name: &[u8]) -> bool
+    ensures { λ r. ⌜ r ≡ badName (now (name .entry)) ⌝ }
+{
+    let n = name.len();
+    if 1 <= n {
+        if n <= layout::entry::LONGEST_NAME {
+            return fields::has_zero(name);
+        }
+        return true;
+    }
+    true
+}
+
+// A byte that nobody can type, or the slash.
+fn is_untypable(b: u8) -> bool
+    ensures { λ r. ⌜ r ≡ not (isTypable b) ⌝ }
+{
+    if 33 <= b {
+        if b <= 126 {
+            return b == 47;
+        }
+        return true;
+    }
+    true
+}
+
+// Such a byte stands in the name.
+fn has_untypable(name: &[u8]) -> bool
+    ensures { λ r. ⌜ r ≡ anyBelow (λ k. not (isTypable (getD (now (name .entry)) k 0))) (length (now (name .entry))) ⌝ }
+{
+    let mut i: usize = 0;
+    while i < name.len() {
+        if is_untypable(name[i]) {
+            return true;
+        }
+        i += 1;
+    }
+    false
+}
+
+// The rule for a name that create or rename gives.
+pub fn bad_new_name(name: &[u8]) -> bool
+    ensures { λ r. ⌜ r ≡ badNewName (now (name .entry)) ⌝ }
+{
+    if bad_name(name) {
+        return true;
+    }
+    has_untypable(name)
+}
+
 // ---- searches
 
 // The file of that name.
@@ -196,21 +258,7 @@ pub fn fault21(img: &[u8], g: Geometry) -> Lowest
 
 // ---- fault 22
 
-// The length isn't 1 to 476, or a byte is 0.
-pub fn bad_name(name: &[u8]) -> bool
-    ensures { λ r. ⌜ r ≡ badName (now (name .entry)) ⌝ }
-{
-    let n = name.len();
-    if 1 <= n {
-        if n <= layout::entry::LONGEST_NAME {
-            return fields::has_zero(name);
-        }
-        return true;
-    }
-    true
-}
-
-// The same of the name in entry i.
+// The name in entry i is bad.
 fn bad_name_at(img: &[u8], i: FileIndex) -> bool
     requires { ⌜ 512 * entryAt (i .0) + 512 ≤ length (now img) ⌝ }
     ensures { λ r. ⌜ r ≡ badName (nameIn (view (now (img .entry)) (entryAt (i .0)))) ⌝ }

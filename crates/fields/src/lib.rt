@@ -1,6 +1,7 @@
 // Leaves on byte slices: big-endian numbers, runs of bytes copied and compared, sectors by value.
 use model::Sector;
 ghost use mathlib.Core.Path.{_≡_};
+ghost use mathlib.Core.List.{[]};
 ghost use Prim.Native.Nat.{_+_, _*_, _≤_, _<_, _^_, min};
 ghost use lib.ListN.{length};
 ghost use Rattle.model.specs.Bytes.{beAt, beBytes, bytesFrom, put};
@@ -58,6 +59,18 @@ pub fn copy_bytes(src: &[u8], from: usize, dst: &mut [u8], at: usize, n: usize)
     }
 }
 
+// Writes `n` zeros at `at`.
+pub fn put_zeros(b: &mut [u8], at: usize, n: usize)
+    requires { ⌜ at + n ≤ length (now b) ⌝ }
+    ensures { λ _. ⌜ now (b .exit) ≡ put (now (b .entry)) at (bytesFrom [] 0 n) ⌝ }
+{
+    let mut i: usize = 0;
+    while i < n {
+        b[at + i] = 0;
+        i += 1;
+    }
+}
+
 // Sector k of an image, by value.
 pub fn sector(img: &[u8], k: Sector) -> [u8; 512]
     requires { ⌜ 512 * k .0 + 512 ≤ length (now img) ⌝ }
@@ -91,6 +104,16 @@ pub fn starts_with(part: &[u8], text: &[u8]) -> bool
         i += 1;
     }
     true
+}
+
+// Whether both are the same bytes.
+pub fn is_same(a: &[u8], b: &[u8]) -> bool
+    ensures { λ r. ⌜ r ≡ equalBytes (now (a .entry)) (now (b .entry)) ⌝ }
+{
+    if a.len() == b.len() {
+        return starts_with(a, b);
+    }
+    false
 }
 
 fn lesser(a: u8, b: u8) -> u8

@@ -18,6 +18,7 @@ ghost use Rattle.model.specs.Create.{createAnswer, createList};
 ghost use Rattle.model.specs.Delete.{deleteAnswer, deleteList};
 ghost use Rattle.model.specs.Resize.{resizeAnswer, resizeList};
 ghost use Rattle.model.specs.Write.{writeAnswer, writeList};
+ghost use Rattle.model.specs.Rename.{renameAnswer, renameList};
 ghost use Rattle.model.specs.Recovery.{recoveryAnswer, recoveryList};
 ghost use Rattle.model.specs.Format.{formatAnswer, formatOutput};
 ghost use Rattle.model.specs.CarryOut.{carryAnswer, carryImage};
@@ -308,6 +309,21 @@ pub extern "C" fn goofs_write(
     ensures { λ _. ⌜ now (list .exit) ≡ writeList (length (now (img .entry))) (view (now (img .entry))) (now (name .entry)) offset (now (bytes .entry)) time (now (list .entry)) ⌝ }
 {
     let a = changes::write(img, name, offset, bytes, time, list);
+    change_result(a)
+}
+
+#[no_mangle]
+pub extern "C" fn goofs_rename(
+    img: &[u8],
+    old: &[u8],
+    new: &[u8],
+    time: u32,
+    list: &mut [u8],
+) -> ChangeResult
+    ensures { λ r. ⌜ r ≡ changeNumbers (renameAnswer (length (now (img .entry))) (view (now (img .entry))) (now (old .entry)) (now (new .entry)) time (length (now (list .entry)))) ⌝ }
+    ensures { λ _. ⌜ now (list .exit) ≡ renameList (length (now (img .entry))) (view (now (img .entry))) (now (old .entry)) (now (new .entry)) time (now (list .entry)) ⌝ }
+{
+    let a = changes::rename(img, old, new, time, list);
     change_result(a)
 }
 

@@ -5,8 +5,9 @@ ghost use mathlib.Core.Path.{_≡_};
 ghost use Prim.Native.Nat.{_≤_};
 ghost use lib.ListN.{length};
 ghost use Rattle.model.specs.Bytes.{numberIn, bytesFrom};
-ghost use Rattle.model.specs.Entry.{entryField, entryIn, fieldsOf, isOccupied, longestName, nameIn, newEntrySector, updatedEntrySector};
+ghost use Rattle.model.specs.Entry.{entryField, entryIn, fieldsOf, isOccupied, longestName, nameIn, newEntrySector, updatedEntrySector, renamedEntrySector};
 ghost use Rattle.layout.specs.Front.{entryFront};
+ghost use Rattle.layout.specs.Unnamed.{unnamedSector};
 
 const MARK: Field = Field {
     offset: 0,
@@ -171,5 +172,31 @@ pub fn updated(s: &[u8], size: u64, time: u32) -> [u8; 512]
     super::set_to(&mut a, SIZE, size);
     super::set_to(&mut a, VERSION, version);
     super::set_to(&mut a, CHANGE_TIME, time as u64);
+    a
+}
+
+// The sector with the version up, the change time set, the length of a new name, and zeros for the name.
+fn unnamed(s: &[u8], n: usize, time: u32) -> [u8; 512]
+    requires { ⌜ length (now s) ≡ 512 ⌝ }
+    ensures { λ r. ⌜ r ≡ unnamedSector n time (now (s .entry)) ⌝ }
+{
+    let mut a = super::owned(s);
+    let version = super::raised_version(super::number_in(s, VERSION));
+    super::set_to(&mut a, VERSION, version);
+    super::set_to(&mut a, CHANGE_TIME, time as u64);
+    super::set_to(&mut a, NAME_LENGTH, n as u64);
+    fields::put_zeros(&mut a, NAME, LONGEST_NAME);
+    a
+}
+
+// Rename's: the version is up, the change time set, and the bytes after the new name are 0.
+pub fn renamed(s: &[u8], name: &[u8], time: u32) -> [u8; 512]
+    requires { ⌜ length (now s) ≡ 512 ⌝ }
+    requires { ⌜ length (now name) ≤ longestName ⌝ }
+    ensures { λ r. ⌜ r ≡ renamedEntrySector (now (name .entry)) time (now (s .entry)) ⌝ }
+{
+    let n = name.len();
+    let mut a = unnamed(s, n, time);
+    fields::copy_bytes(name, 0, &mut a, NAME, n);
     a
 }

@@ -11,15 +11,15 @@ use Rattle.model.specs.Search.{anyBelow, isAt, indexOf}
 use Rattle.model.specs.Geometry.{rootAt, entryAt}
 use Rattle.model.specs.Disk.{Disk}
 use Rattle.model.specs.Root.{updatedRootSector}
-use Rattle.model.specs.Entry.{badName, newEntrySector}
+use Rattle.model.specs.Entry.{badNewName, newEntrySector}
 use Rattle.model.specs.Catalogue.{Catalogue, catalogueOf, fileNamed, freeEntry, hasId}
 use Rattle.model.specs.Refusals.{Conditions, refusal}
 use Rattle.model.specs.WriteList.{Plan, sectorWrite, recordCount, Decision, decided, answerOf, listAfter}
 
--- 8 bad name or id 0; 10 name already there, or id an occupied entry's or the root's; 11 no free entry
+-- 8 bad new name or id 0; 10 name already there, or id an occupied entry's or the root's; 11 no free entry
 unfoldable pub createConditions : Catalogue → List ℕ → ℕ → Conditions
 createConditions c name id =
-    (badName name || eqb id 0, refusal 8)
+    (badNewName name || eqb id 0, refusal 8)
     ∷ (isAt (fileNamed c name) || anyBelow (λ i. hasId id (c .entries i)) (c .geometry .files) || eqb id (c .root .id), refusal 10)
     ∷ (not (isAt (freeEntry c)), refusal 11) ∷ []
 

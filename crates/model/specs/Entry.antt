@@ -92,6 +92,13 @@ hasZero n = anyBelow (λ k. eqb (getD n k 0) 0) (length n)
 unfoldable pub badName : List ℕ → Bool
 badName n = not (leb 1 (length n) && leb (length n) longestName) || hasZero n
 
+-- T-07: "Create and rename accept only bytes 33 to 126 without the slash; others get 8"; the name that a file already has keeps the former rule
+abbrev pub isTypable : ℕ → Bool
+isTypable b = leb 33 b && leb b 126 && not (eqb b 47)
+
+unfoldable pub badNewName : List ℕ → Bool
+badNewName n = badName n || anyBelow (λ k. not (isTypable (getD n k 0))) (length n)
+
 -- create's: "size 0, version 0, given id, mode and time (both times), bytes after the name zero"
 unfoldable pub newEntrySector : List ℕ → ℕ → ℕ → ℕ → List ℕ
 newEntrySector name id mode time =
@@ -105,3 +112,10 @@ updatedEntrySector size time s =
     withStores s
     (setTo (entryField .size) size ∷ setTo (entryField .version) (raised (numberIn s (entryField .version)))
     ∷ setTo (entryField .changeTime) time ∷ [])
+
+-- rename's: "a new name (bytes after it zero), raises its version, sets its change time"; all else stays
+unfoldable pub renamedEntrySector : List ℕ → ℕ → List ℕ → List ℕ
+renamedEntrySector name time s =
+    withStores s
+    (setTo (entryField .version) (raised (numberIn s (entryField .version))) ∷ setTo (entryField .changeTime) time
+    ∷ setTo (entryField .nameLength) (length name) ∷ (entryField .name, bytesFrom [] 0 longestName) ∷ (entryField .name, name) ∷ [])

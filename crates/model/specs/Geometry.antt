@@ -25,11 +25,11 @@ extentBytes g = 512 * extentSectors g
 abbrev pub tableSectors : Geometry → ℕ
 tableSectors g = (g .extents + 127) / 128
 
--- the most targets that a list has: a delete's root, entry and all table sectors
+-- the most targets that a list has: a rename's root, two entries and all table sectors. T-01: "Longest list: 515 targets"
 abbrev pub mostTargets : Geometry → ℕ
-mostTargets g = tableSectors g + 2
+mostTargets g = tableSectors g + 3
 
--- "The last K extents, K = (T + 2) / S rounded up, are the reserve and never belong to a file. The first N - K are usable."
+-- "The last K extents ... are the reserve and never belong to a file. The first N - K are usable." T-01: "K = (T + 3) / S rounded up"
 abbrev pub reserveExtents : Geometry → ℕ
 reserveExtents g = (mostTargets g + (extentSectors g - 1)) / extentSectors g
 

@@ -1,4 +1,4 @@
--- The definitions, in reading order. Every file says which sentences of document 01 it renders.
+-- The definitions, in reading order. Every file says which sentences of document 01, or of a request of 02, it renders.
 pub mod Bytes
 pub mod Search
 pub mod Geometry
@@ -20,6 +20,7 @@ pub mod Create
 pub mod Delete
 pub mod Write
 pub mod Resize
+pub mod Rename
 pub mod Recovery
 pub mod Format
 pub mod CarryOut

@@ -176,7 +176,7 @@ impl Geometry {
         ensures { λ r. ⌜ r ≡ reserveExtents self ⌝ }
     {
         let s = self.extent_sectors as u64;
-        (self.table_sectors() + 2 + (s - 1)) / s
+        (self.table_sectors() + 3 + (s - 1)) / s
     }
 
     pub fn usable(self) -> u64

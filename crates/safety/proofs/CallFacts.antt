@@ -8,7 +8,7 @@ use mathlib.Core.Option.{none}
 use lib.Dec.{eqb, ltb}
 use borrow.Author.Tests.{eqb-true}
 use Rattle.model.specs.Ledger.{Ledger, fileOf, Call, summary, check, find, list, read, create, delete, resize, write, numberOf, partlyWritten, step, answer, Feed, whole, cutMarked, cutUnmarked}
-use Rattle.model.specs.Ledger.{callOf, fed}
+use Rattle.model.specs.Ledger.{rename, callOf, fed}
 use Rattle.model.specs.Run.{onVolume, volumeAnswer, volumePlan, Fits}
 use Rattle.safety.specs.Naming.{Spares, fileIn}
 use Rattle.safety.proofs.Induction.{Effect, nothing}
@@ -18,7 +18,8 @@ use Rattle.safety.proofs.Create.{create-same, create-effect}
 use Rattle.safety.proofs.Delete.{delete-same, delete-effect}
 use Rattle.safety.proofs.Resize.{resize-same, resize-effect}
 use Rattle.safety.proofs.Write.{write-same, write-effect}
-use Rattle.safety.proofs.Naming.{create-fresh, delete-found, resize-found, write-found, created-other, freed-other, renewed-other, resized-other, written-other}
+use Rattle.safety.proofs.Rename.{rename-same, rename-effect}
+use Rattle.safety.proofs.Naming.{create-fresh, delete-found, resize-found, write-found, created-other, freed-other, renewed-other, resized-other, written-other, rename-found, renamed-other}
 
 pub record CallFacts (c : Call) : Type 0 where
   -- its answer is the ledger's, and its effect, whole or cut
@@ -74,6 +75,12 @@ facts (write name offset bytes time room) = record {
   done-other = λ L n ne e. written-other L name n (ne .0) (write-found L name offset bytes time room e) offset bytes time;
   cut-other = λ L n ne e mask. renewed-other L name n (ne .0) (write-found L name offset bytes time room e)
       (record { entry = fileOf L name .entry; bytes = partlyWritten (fileOf L name) offset bytes mask; extents = fileOf L name .extents }) refl;
+}
+facts (rename old new time room) = record {
+  same = λ L img h f. rename-same L img h old new time room;
+  effect = λ L img h f. rename-effect L img h old new time room (f .2);
+  done-other = λ L n ne e. renamed-other L old n (ne .0) (rename-found L old new time room e) new (ne .1 .0) time;
+  cut-other = λ L n ne e mask. refl;
 }
 
 -- ---- what is said of a file that is not named

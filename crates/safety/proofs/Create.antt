@@ -14,7 +14,7 @@ use Rattle.model.specs.Search.{tabulate, anyBelow, isAt, indexOf}
 use Rattle.model.specs.Geometry.{rootAt, entryAt, extentsFor}
 use Rattle.model.specs.Disk.{view}
 use Rattle.model.specs.Root.{rootIn, updatedRootSector}
-use Rattle.model.specs.Entry.{badName, isOccupied, newEntrySector}
+use Rattle.model.specs.Entry.{badName, badNewName, isOccupied, newEntrySector}
 use Rattle.model.specs.Table.{tableSectorOf}
 use Rattle.model.specs.Catalogue.{Catalogue, catalogueOf, fileNamed, freeEntry, isFree, hasName, hasId, fileBytes}
 use Rattle.model.specs.Faults.{fault21}
@@ -23,8 +23,9 @@ use Rattle.model.specs.WriteList.{Plan, Record, sectorWrite, groupsFor, listLen
 use Rattle.model.specs.Create.{createConditions, createPlan, createCount, createDecision}
 use Rattle.model.specs.Ledger.{Ledger, File, entryOfFile, catalogue, create, newEntry, updatedRoot, step, answer}
 use Rattle.model.specs.Run.{volumeAnswer, onVolume}
+use Rattle.laws.proofs.Entry.{new-name-good}
 use Rattle.laws.proofs.Disk.{length-view}
-use Rattle.safety.proofs.OwnWords.{named-is, slot-is, ids-is, name-is}
+use Rattle.safety.proofs.OwnWords.{named-is, slot-is, ids-is, new-name-is}
 use Rattle.safety.proofs.Searches.{place-found, place-none, or-left-no, or-right-no, anyBelow-none}
 use Rattle.safety.proofs.Apply.{over-here, over-skip, over-none}
 use Rattle.safety.proofs.Plan.{UsableGeometry, WellFormed, metadata-directory}
@@ -69,7 +70,7 @@ module _ (L : Ledger) (img : List ℕ) (rep : Rep L img) (name : List ℕ) (id m
 
   decides : Decides L img (create name id mode time room) conditions (λ x. some (plan x)) room createCount
   unfolding onVolume createDecision step createConditions catalogue
-  decides = record { volume = refl; reply = refl; conditions = rw (name-is name, named-is L name, ids-is L id, slot-is L); refusing = refl; size = size }
+  decides = record { volume = refl; reply = refl; conditions = rw (new-name-is name, named-is L name, ids-is L id, slot-is L); refusing = refl; size = size }
 
   pub create-same : volumeAnswer (create name id mode time room) img ≡ answer (create name id mode time room) L
   create-same = same-changing L img rep _ _ _ room createCount decides
@@ -79,11 +80,11 @@ module _ (L : Ledger) (img : List ℕ) (rep : Rep L img) (name : List ℕ) (id m
 
     good : badName name ≡ false
     unfolding createConditions
-    good = or-left-no (badName name) (eqb id 0) (passed .0)
+    good = new-name-good name (or-left-no (badNewName name) (eqb id 0) (passed .0))
 
     some-id : eqb id 0 ≡ false
     unfolding createConditions
-    some-id = or-right-no (badName name) (eqb id 0) (passed .0)
+    some-id = or-right-no (badNewName name) (eqb id 0) (passed .0)
 
     new-name : (k : ℕ) → k < L .geometry .files → hasName name (catalogue L .entries k) ≡ false
     unfolding createConditions fileNamed catalogue

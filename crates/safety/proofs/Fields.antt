@@ -13,11 +13,11 @@ use Rattle.model.specs.Bytes.{Field, beAt, beBytes, bytesFrom, numberIn, put, w
 use Rattle.model.specs.Search.{allBelow, equalBytes}
 use Rattle.model.specs.Superblock.{superblockField, magic, newSuperblock, geometryIn, journalLength, isVolume}
 use Rattle.model.specs.Root.{rootField, rootIn, updatedRootSector, newRootSector}
-use Rattle.model.specs.Entry.{entryField, nameIn, entryIn, isOccupied, badName, newEntrySector, freeMark, occupiedMark, updatedEntrySector}
-use Rattle.model.specs.Ledger.{newEntry, updatedEntry, updatedRoot, newRoot}
+use Rattle.model.specs.Entry.{entryField, nameIn, entryIn, isOccupied, badName, newEntrySector, freeMark, occupiedMark, updatedEntrySector, longestName, renamedEntrySector}
+use Rattle.model.specs.Ledger.{newEntry, updatedEntry, renamedEntry, updatedRoot, newRoot}
 use Rattle.laws.proofs.Bytes.{length-put, length-zeroSector, number-same, bytes-other, bytesFrom-put-same, zeros-at}
 use Rattle.laws.proofs.Named.{short-name}
-use Rattle.safety.proofs.Stores.{Numbers, storesOf, Holds, kept, kept-before, kept-behind, stored}
+use Rattle.safety.proofs.Stores.{Numbers, storesOf, ends, Holds, kept, kept-before, kept-behind, stored}
 
 -- ---- sectors of one byte
 
@@ -196,6 +196,53 @@ module _ (size time : ℕ) (s : List ℕ) where
         let p4 = kept s (entryField .mode) changed refl in
         let p5 = kept s (entryField .accessTime) changed refl in
         λ j. record { size = r .0 j; version = r .1 .0 j; id = p3 j; mode = p4 j; accessTime = p5 j; changeTime = r .1 .1 .0 j; name = updated-name j }
+
+-- ---- a renamed entry
+
+module _ (name : List ℕ) (time : ℕ) (s : List ℕ) where
+  abbrev renewed : Numbers
+  renewed = (entryField .version, raised (numberIn s (entryField .version))) ∷ (entryField .changeTime, time) ∷ (entryField .nameLength, length name) ∷ []
+
+  -- the sector but for the name, and with zeros in its place
+  abbrev unnamed : List ℕ
+  unnamed = withStores s (storesOf renewed)
+
+  abbrev cleared : List ℕ
+  cleared = put unnamed (entryField .name) (bytesFrom [] 0 longestName)
+
+  pub length-renamedEntrySector : length (renamedEntrySector name time s) ≡ length s
+  unfolding renamedEntrySector
+  length-renamedEntrySector = simp length-put
+
+  -- a field that ends before the name reads what it does without the name
+  before-name : (f : Field) → ends f (entryField .name) ≡ true → numberIn (put cleared (entryField .name) name) f ≡ numberIn unnamed f
+  before-name f h = kept-before cleared (entryField .name) name f h ∙ kept-before unnamed (entryField .name) (bytesFrom [] 0 longestName) f h
+
+  pub renamed-occupied : isOccupied (renamedEntrySector name time s) ≡ isOccupied s
+  unfolding isOccupied renamedEntrySector
+  renamed-occupied = ap (λ n. eqb n occupiedMark) (before-name (entryField .mark) refl ∙ kept s (entryField .mark) renewed refl)
+
+  module _ (l : length s ≡ 512) (good : badName name ≡ false) (ht : time < 2 ^ 32) where
+    filled-in : Holds unnamed renewed
+    filled-in = stored s 512 renewed l refl refl (mod-lt _ (lit< tt), (ht, (omega (arith, short-name name good), tt)))
+
+    renamed-name : nameIn (renamedEntrySector name time s) ≡ name
+    unfolding nameIn renamedEntrySector
+    renamed-name =
+        let k : length cleared ≡ 512 = simp (length-put, l) in
+        let n = before-name (entryField .nameLength) refl ∙ filled-in .1 .1 .0 in
+        ap (λ m. bytesFrom (put cleared 36 name) 36 m) n ∙ bytesFrom-put-same cleared 36 name (length name) refl (omega (arith, short-name name good))
+
+    pub renamed-entry : entryIn (renamedEntrySector name time s) ≡ renamedEntry name time (entryIn s)
+    unfolding entryIn renamedEntry renamedEntrySector
+    renamed-entry =
+        let p1 = before-name (entryField .size) refl ∙ kept s (entryField .size) renewed refl in
+        let p2 = before-name (entryField .version) refl ∙ filled-in .0 in
+        let p3 = before-name (entryField .id) refl ∙ kept s (entryField .id) renewed refl in
+        let p4 = before-name (entryField .mode) refl ∙ kept s (entryField .mode) renewed refl in
+        let p5 = before-name (entryField .accessTime) refl ∙ kept s (entryField .accessTime) renewed refl in
+        let p6 = before-name (entryField .changeTime) refl ∙ filled-in .1 .0 in
+        λ j. record { size = p1 j; version = p2 j; id = p3 j; mode = p4 j; accessTime = p5 j; changeTime = p6 j; name = renamed-name j }
 
 pub zero-free : isOccupied zeroSector ≡ false
 unfolding isOccupied

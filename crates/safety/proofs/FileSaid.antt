@@ -1,4 +1,4 @@
--- What the ledger says of the file that a create, delete, resize or write names, and that an image says of a file what the ledger says.
+-- What the ledger says of the file that a create, delete, resize, write or rename names, and that an image says of a file what the ledger says.
 -- Assumes nothing.
 use Prim.Native.Nat.{ℕ, _+_, _-_, _≤_, _<_, max}
 use mathlib.Core.Path.{_≡_, refl, sym, ap, _∙_}
@@ -21,14 +21,14 @@ use Rattle.model.specs.Catalogue.{Catalogue, catalogueOf, hasName, fileNamed, e
 use Rattle.model.specs.Faults.{holdsOf}
 use Rattle.model.specs.Resize.{zeros}
 use Rattle.model.specs.Ledger.{Ledger, File, fileOr, entryOfFile, catalogue, create, delete, resize, write, withFile, withRootUpdated, shrunk, newEntry, updatedEntry, holdsName, slotNamed}
-use Rattle.model.specs.Ledger.{freeSlot, fileOf, written, afterWrite, step}
+use Rattle.model.specs.Ledger.{freeSlot, fileOf, written, afterWrite, rename, updatedRoot, renamedEntry, renamedFile, withSlot, slotsWithout, afterRename, step}
 use Rattle.model.specs.Demand3.{Says}
 use Rattle.laws.proofs.Booleans.{and-left}
 use Rattle.laws.proofs.Bytes.{length-bytesFrom, getD-bytesFrom, bytesFrom-all, length-put, getD-put}
 use Rattle.laws.proofs.Search.{length-tabulate, Hit, first-none}
 use Rattle.safety.specs.Naming.{Contents, contentsAt, fileOn, contentsIn, fileIn}
 use Rattle.safety.proofs.OwnWords.{name-if, named-is, zeros-are}
-use Rattle.safety.proofs.Searches.{place-none}
+use Rattle.safety.proofs.Searches.{place-none, same-no}
 use Rattle.safety.proofs.Rep.{catalogue-is, NoFaults}
 use Rattle.safety.proofs.Replaced.{names-apart}
 use Rattle.safety.proofs.TakenFile.{first-only}
@@ -83,9 +83,18 @@ module _ (L : Ledger) (m : List ℕ) where
       go k l true e q = eqb-true k i e
       go k l false e q = absurd (true≢false (sym q ∙ place-none (λ x. holdsName m (L .slots x)) (L .geometry .files) (h .unused) k l))
 
-  -- where no two files have one name, none has the name after a delete
+  -- where no two files have one name
+  only-one : NoFaults (catalogue L) → (i k : ℕ) → i < L .geometry .files → k < L .geometry .files → k ≢ i → holdsName m (L .slots i) ≡ true → holdsName m (L .slots k) ≡ false
+  unfolding catalogue
+  only-one nf i k li lk ne q = apart (L .slots i) q (names-apart (catalogue L) nf i k li lk ne)
+    where
+      apart : (o : Option File) → holdsName m o ≡ true → holdsOf (entryOfFile o) (λ e. hasName (e .name) (entryOfFile (L .slots k))) ≡ false → holdsName m (L .slots k) ≡ false
+      apart none q r = absurd (false≢true q)
+      apart (some f) q r = name-if m (L .slots k) ∙ ap (λ (x : List ℕ). hasName x (entryOfFile (L .slots k))) (sym (same-true (f .entry .name) m q)) ∙ r
+
+  -- none has the name after a delete
   pub deleted-said : NoFaults (catalogue L) → Found L m → (time room : ℕ) → fileIn (step (delete m time room) L .done) m ≡ none
-  unfolding step fileIn slotNamed catalogue
+  unfolding step fileIn slotNamed
   deleted-said nf h time room =
       ap (contentsIn (withRootUpdated L time i none))
       (first-none (λ k. holdsName m (cond (eqb k i) none (L .slots k))) (L .geometry .files) (λ k l. go k l (eqb k i) refl))
@@ -93,13 +102,9 @@ module _ (L : Ledger) (m : List ℕ) where
       i : ℕ
       i = slotOf L m
 
-      apart : (o : Option File) (k : ℕ) → holdsName m o ≡ true → holdsOf (entryOfFile o) (λ e. hasName (e .name) (entryOfFile (L .slots k))) ≡ false → holdsName m (L .slots k) ≡ false
-      apart none k q r = absurd (false≢true q)
-      apart (some f) k q r = name-if m (L .slots k) ∙ ap (λ (x : List ℕ). hasName x (entryOfFile (L .slots k))) (sym (same-true (f .entry .name) m q)) ∙ r
-
       go : (k : ℕ) → k < L .geometry .files → (b : Bool) → eqb k i ≡ b → holdsName m (cond b none (L .slots k)) ≡ false
       go k l true q = refl
-      go k l false q = apart (L .slots i) k (h .has) (names-apart (catalogue L) nf i k (h .within) l (eqb-false k i q))
+      go k l false q = only-one nf i k (h .within) l (eqb-false k i q) (h .has)
 
   written-file : Found L m → (offset : ℕ) (bytes : List ℕ) (time : ℕ)
       → fileIn (withFile L (slotOf L m) (written L (slotOf L m) offset bytes time)) m ≡ some (writtenInto (fileOf L m) offset bytes time)
@@ -112,6 +117,71 @@ module _ (L : Ledger) (m : List ℕ) where
   written-said h offset bytes time room anyBelow =
       ap (λ (b : Bool). fileIn (cond b L (withFile L (slotOf L m) (written L (slotOf L m) offset bytes time))) m) (ne-eqb (length bytes) 0 (λ e. omega arith))
       ∙ written-file h offset bytes time
+
+-- after a rename the file has the new name, and none has the old one
+module _ (L : Ledger) (m new : List ℕ) (nf : NoFaults (catalogue L)) (h : Found L m) (other : equalBytes m new ≡ false) (time room : ℕ) where
+  abbrev at : ℕ
+  at = slotOf L m
+
+  abbrev renamed : File
+  renamed = renamedFile new time (fileOf L m)
+
+  -- the ledger afterwards, by where the new name was
+  abbrev after : Lowest → Ledger
+  after r = record { geometry = L .geometry; root = updatedRoot time (L .root); slots = withSlot (slotsWithout L r) at (some renamed) }
+
+  after-is : step (rename m new time room) L .done ≡ after (slotNamed L new)
+  unfolding step afterRename
+  after-is = ap (λ (b : Bool). cond b L (after (slotNamed L new))) other
+
+  holds-here : (r : Lowest) → after r .slots at ≡ some renamed
+  holds-here r = ap (λ (b : Bool). cond b (some renamed) (slotsWithout L r at)) (eq-eqb at at refl)
+
+  -- no other slot has the new name
+  unused : (r : Lowest) → Hit (λ k. holdsName new (L .slots k)) (L .geometry .files - 0) 0 r → (k : ℕ) → k < L .geometry .files → holdsName new (slotsWithout L r k) ≡ false
+  unused Nowhere q k l = q k (omega arith) (omega arith)
+  unused (At j) q k l = go (eqb k j) refl
+    where
+      go : (b : Bool) → eqb k j ≡ b → holdsName new (cond b none (L .slots k)) ≡ false
+      go true e = refl
+      go false e = only-one L new nf j k (omega (arith, q .1)) l (eqb-false k j e) (q .2)
+
+  -- nor has any the old one
+  gone : (r : Lowest) (k : ℕ) → k < L .geometry .files → k ≢ at → holdsName m (slotsWithout L r k) ≡ false
+  gone Nowhere k l ne = only-one L m nf at k (h .within) l ne (h .has)
+  gone (At j) k l ne = go (eqb k j)
+    where
+      go : (b : Bool) → holdsName m (cond b none (L .slots k)) ≡ false
+      go true = refl
+      go false = only-one L m nf at k (h .within) l ne (h .has)
+
+  pub renamed-said : fileIn (step (rename m new time room) L .done) new ≡ some (record { entry = renamedEntry new time (fileOf L m .entry); bytes = fileOf L m .bytes })
+  unfolding slotNamed renamedEntry
+  renamed-said =
+      ap (λ (X : Ledger). fileIn X new) after-is
+      ∙ said-at L new (after r) at renamed (holds-here r)
+      (first-only (λ k. holdsName new (after r .slots k)) (L .geometry .files) at (h .within)
+      (ap (λ (o : Option File). holdsName new o) (holds-here r) ∙ same-refl new) (λ k l. go k l (eqb k at) refl))
+    where
+      r : Lowest
+      r = slotNamed L new
+
+      go : (k : ℕ) → k < L .geometry .files → (b : Bool) → eqb k at ≡ b → holdsName new (cond b (some renamed) (slotsWithout L r k)) ≡ true → k ≡ at
+      go k l true e q = eqb-true k at e
+      go k l false e q = absurd (true≢false (sym q ∙ unused r (named-hit L new) k l))
+
+  pub renamed-gone : fileIn (step (rename m new time room) L .done) m ≡ none
+  unfolding slotNamed fileIn renamedEntry
+  renamed-gone =
+      ap (λ (X : Ledger). fileIn X m) after-is
+      ∙ ap (contentsIn (after r)) (first-none (λ k. holdsName m (after r .slots k)) (L .geometry .files) (λ k l. go k l (eqb k at) refl))
+    where
+      r : Lowest
+      r = slotNamed L new
+
+      go : (k : ℕ) → k < L .geometry .files → (b : Bool) → eqb k at ≡ b → holdsName m (cond b (some renamed) (slotsWithout L r k)) ≡ false
+      go k l true e = same-no m new other
+      go k l false e = gone r k l (eqb-false k at e)
 
 -- zeros written at the end of a file's bytes are what lies past them
 zeros-at-end : (b : List ℕ) (o s : ℕ) → length b ≡ o → o ≤ s → put (bytesFrom b 0 s) o (zeros (s - o)) ≡ bytesFrom b 0 s

@@ -14,6 +14,7 @@ use Rattle.model.specs.Search.{anyBelow}
 use Rattle.model.specs.Geometry.{superblockAt, extentBytes, usable, entryAt, extentsFor}
 use Rattle.model.specs.Disk.{view}
 use Rattle.model.specs.Superblock.{geometryIn}
+use Rattle.model.specs.Root.{Root}
 use Rattle.model.specs.Entry.{Entry, entryIn, isOccupied, badName, updatedEntrySector}
 use Rattle.model.specs.Catalogue.{catalogueOf, isFree, hasName, hasId}
 use Rattle.model.specs.Faults.{holdsOf, fault21, fault22, fault24, fault25, exact}
@@ -47,7 +48,7 @@ module _ (L : Ledger) (img : List ℕ) (rep : Rep L img) (i : ℕ) (f : File) (h
   unfolding catalogue
   entry-of = ap entryOfFile has
 
-  occupied : (ltb i (L .geometry .files) ≡ true) × (isOccupied (view img (entryAt i)) ≡ true) × (entryIn (view img (entryAt i)) ≡ f .entry)
+  pub occupied : (ltb i (L .geometry .files) ≡ true) × (isOccupied (view img (entryAt i)) ≡ true) × (entryIn (view img (entryAt i)) ≡ f .entry)
   occupied =
       occupied-slot (ltb i (L .geometry .files)) (view img (entryAt i)) (f .entry)
       (sym (entry-is (L .geometry) (view img) (view img) (rep .ready .volume .geometry) (rep .ready .volume .geometry) i) ∙ rep .says .directory i ∙ entry-of)
@@ -60,7 +61,7 @@ module _ (L : Ledger) (img : List ℕ) (rep : Rep L img) (i : ℕ) (f : File) (h
   E = extentBytes (L .geometry)
 
   -- name and size, as fault 22 asks
-  well-named : (badName (f .entry .name) || ltb (usable (L .geometry) * extentBytes (L .geometry)) (f .entry .size)) ≡ false
+  pub well-named : (badName (f .entry .name) || ltb (usable (L .geometry) * extentBytes (L .geometry)) (f .entry .size)) ≡ false
   unfolding fault22 catalogue
   well-named =
       sym (ap (λ (o : Option Entry). holdsOf o (λ e. badName (e .name) || ltb (usable (L .geometry) * E) (e .size))) entry-of) ∙ rep .faultless .f22 i slot-within
@@ -84,18 +85,19 @@ module _ (L : Ledger) (img : List ℕ) (rep : Rep L img) (i : ℕ) (f : File) (h
     unfolding fault21
     mark-updated = occupied-mark (view out (entryAt i)) (ap isOccupied at-entry ∙ updated-occupied z time (view img (entryAt i)) ∙ occupied .1)
 
-  -- ---- a file that keeps name and id
+  -- no other file has its name
+  pub name-apart : (k : ℕ) → k < L .geometry .files → k ≢ i → hasName (f .entry .name) (catalogue L .entries k) ≡ false
+  unfolding catalogue
+  name-apart k l ne =
+      sym (ap (λ (o : Option Entry). holdsOf o (λ e. hasName (e .name) (catalogue L .entries k))) entry-of) ∙ names-apart (catalogue L) (rep .faultless) i k slot-within l ne
 
-  module _ (y : File) (name : y .entry .name ≡ f .entry .name) (id : y .entry .id ≡ f .entry .id) (small : y .entry .size ≤ usable (L .geometry) * extentBytes (L .geometry))
-      (others : OthersKept L (L .root) i (some y))
-      (owned : (e : ℕ) → e < L .geometry .extents → holdsOf (catalogue (replaced L (L .root) i (some y)) .table e) (λ w. eqb (w .file) i && leb (usable (L .geometry)) e) ≡ false)
-      (exact-new : exact (catalogue (replaced L (L .root) i (some y))) i (extentsFor (L .geometry) (y .entry .size)) ≡ true) where
-    name-apart : (k : ℕ) → k < L .geometry .files → k ≢ i → hasName (y .entry .name) (catalogue L .entries k) ≡ false
-    unfolding catalogue
-    name-apart k l ne =
-        ap (λ (n : List ℕ). hasName n (catalogue L .entries k)) name ∙ sym (ap (λ (o : Option Entry). holdsOf o (λ e. hasName (e .name) (catalogue L .entries k))) entry-of)
-        ∙ names-apart (catalogue L) (rep .faultless) i k slot-within l ne
+  -- ---- a file that keeps its id
 
+  module _ (root : Root) (same-id : root .id ≡ L .root .id) (y : File) (good : badName (y .entry .name) ≡ false)
+      (own-name : (k : ℕ) → k < L .geometry .files → k ≢ i → hasName (y .entry .name) (catalogue L .entries k) ≡ false)
+      (id : y .entry .id ≡ f .entry .id) (small : y .entry .size ≤ usable (L .geometry) * extentBytes (L .geometry)) (others : OthersKept L root i (some y))
+      (owned : (e : ℕ) → e < L .geometry .extents → holdsOf (catalogue (replaced L root i (some y)) .table e) (λ w. eqb (w .file) i && leb (usable (L .geometry)) e) ≡ false)
+      (exact-new : exact (catalogue (replaced L root i (some y))) i (extentsFor (L .geometry) (y .entry .size)) ≡ true) where
     id-apart : (k : ℕ) → k < L .geometry .files → k ≢ i → hasId (y .entry .id) (catalogue L .entries k) ≡ false
     unfolding catalogue
     id-apart k l ne =
@@ -109,15 +111,24 @@ module _ (L : Ledger) (img : List ℕ) (rep : Rep L img) (i : ℕ) (f : File) (h
         ∙ or-left-no _ _ (sym (ap (λ (o : Option Entry). holdsOf o (λ e. eqb (e .id) 0 || eqb (e .id) (L .root .id) || anyBelow (λ j. hasId (e .id) (catalogue L .entries j)) i)) entry-of)
         ∙ rep .faultless .f24 i slot-within)
 
-    pub admissible-kept : Admissible L (L .root) i (some y)
-    admissible-kept = record {
-      root-id = refl;
-      entry = ap₂ (λ (n : List ℕ) (t : Bool). badName n || t) name (le-ltb (usable (L .geometry) * E) (y .entry .size) small)
-          ∙ ap (λ (t : Bool). t || false) (or-left-no (badName (f .entry .name)) (ltb (usable (L .geometry) * E) (f .entry .size)) well-named);
+    pub admissible-id : Admissible L root i (some y)
+    admissible-id = record {
+      root-id = same-id;
+      entry = ap₂ (λ (s t : Bool). s || t) good (le-ltb (usable (L .geometry) * E) (y .entry .size) small);
       id = good-id;
-      names = name-apart;
+      names = own-name;
       ids = id-apart;
       others = others;
       owned = owned;
       exactly = ap not exact-new;
     }
+
+  -- and its name, and the root stays
+  module _ (y : File) (name : y .entry .name ≡ f .entry .name) (id : y .entry .id ≡ f .entry .id) (small : y .entry .size ≤ usable (L .geometry) * extentBytes (L .geometry))
+      (others : OthersKept L (L .root) i (some y))
+      (owned : (e : ℕ) → e < L .geometry .extents → holdsOf (catalogue (replaced L (L .root) i (some y)) .table e) (λ w. eqb (w .file) i && leb (usable (L .geometry)) e) ≡ false)
+      (exact-new : exact (catalogue (replaced L (L .root) i (some y))) i (extentsFor (L .geometry) (y .entry .size)) ≡ true) where
+    pub admissible-kept : Admissible L (L .root) i (some y)
+    admissible-kept =
+        admissible-id (L .root) refl y (ap badName name ∙ or-left-no (badName (f .entry .name)) (ltb (usable (L .geometry) * E) (f .entry .size)) well-named)
+        (λ k l ne. ap (λ (n : List ℕ). hasName n (catalogue L .entries k)) name ∙ name-apart k l ne) id small others owned exact-new

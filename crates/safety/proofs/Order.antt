@@ -4,7 +4,7 @@ use Prim.Native.Nat.{ℕ, suc, _≤_}
 use mathlib.Core.Path.{_≡_, refl, sym, ap, _∙_, fun-ext}
 use mathlib.Core.Logic.{_≢_}
 use mathlib.Core.Bool.{Bool, true, false, cond}
-use mathlib.Core.List.{List, [], _∷_}
+use mathlib.Core.List.{List, [], _∷_, _++_}
 use native.Mathlib.Omega.{arith}
 use lib.Dec.{eqb}
 use lib.ListN.{length}
@@ -21,6 +21,11 @@ pub data Reordered : Group → Group → Type 0 where
   swapped : {v w : Record} {ws : Group} → Reordered (v ∷ w ∷ ws) (w ∷ v ∷ ws)
   behind : {w : Record} {vs ws : Group} → Reordered vs ws → Reordered (w ∷ vs) (w ∷ ws)
   again : {us vs ws : Group} → Reordered us vs → Reordered vs ws → Reordered us ws
+
+-- the first one last
+pub to-end : (w : Record) (ws : Group) → Reordered (w ∷ ws) (ws ++ (w ∷ []))
+to-end w [] = same
+to-end w (v ∷ ws) = again swapped (behind (to-end w ws))
 
 all-reordered : (P : Record → Type 0) {vs ws : Group} → Reordered vs ws → All P vs → All P ws
 all-reordered P same h = h
@@ -39,7 +44,7 @@ either-first j s t u v x ne true true p q = absurd (ne (sym (eqb-true j s p) ∙
 either-first j s t u v x ne true false p q = refl
 either-first j s t u v x ne false b p q = refl
 
-over-reordered : {vs ws : Group} → Reordered vs ws → Own vs → (j : ℕ) (x : List ℕ) → over vs j x ≡ over ws j x
+pub over-reordered : {vs ws : Group} → Reordered vs ws → Own vs → (j : ℕ) (x : List ℕ) → over vs j x ≡ over ws j x
 unfolding over
 over-reordered same h j x = refl
 over-reordered (swapped {v} {w} {ws}) h j x =

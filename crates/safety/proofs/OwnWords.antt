@@ -16,14 +16,14 @@ use Rattle.model.specs.declared.Verdict.{Verdict}
 use Rattle.model.specs.Bytes.{bytesFrom}
 use Rattle.model.specs.Search.{anyBelow, tabulate, isAt, indexOf}
 use Rattle.model.specs.Geometry.{FileNumber, ExtentNumber, usable}
-use Rattle.model.specs.Entry.{hasZero, badName, longestName}
+use Rattle.model.specs.Entry.{hasZero, badName, isTypable, badNewName, longestName}
 use Rattle.model.specs.Catalogue.{entryOr, fileNamed, freeEntry, freeExtent, entryOf, hasName, hasId, isFree}
 use Rattle.model.specs.Refusals.{Conditions, verdictOf, isDone, refusal}
 use Rattle.model.specs.Find.{nameConditions}
 use Rattle.model.specs.Write.{touchedSectors}
 use Rattle.model.specs.Resize.{zeros}
 use Rattle.model.specs.Ledger.{Ledger, File, fileOr, entryOfFile, holderOf, ownerFrom, catalogue, holdsName, holdsId, slotNamed, freeSlot, unheldExtent, fileOf, Answer, summarized, checked, found}
-use Rattle.model.specs.Ledger.{listed, gave, changed, numberOf, numbered, refused, Refusals, lowest, unfitName, spannedSectors, zeroBytes, Step, answerBy}
+use Rattle.model.specs.Ledger.{listed, gave, changed, numberOf, numbered, refused, Refusals, lowest, unfitName, unfitNewName, spannedSectors, zeroBytes, Step, answerBy}
 use Rattle.laws.proofs.Booleans.{not-and, not-leb}
 use Rattle.laws.proofs.Search.{first-ext, anyBelow-ext}
 
@@ -89,6 +89,19 @@ name-is name = ap (λ (b : Bool). b || anyBelow (λ k. eqb (getD name k 0) 0) (l
 
     bounds : (n : ℕ) → (eqb n 0 || ltb 476 n) ≡ not (leb 1 n && leb n longestName)
     bounds n = ap₂ (λ a b. a || b) (none-if n ∙ sym (not-leb 1 n)) (sym (not-leb n longestName)) ∙ sym (not-and (leb 1 n) (leb n longestName))
+
+pub new-name-is : (name : List ℕ) → unfitNewName name ≡ badNewName name
+unfolding unfitNewName badNewName
+new-name-is name = ap₂ (λ a b. a || b) (name-is name) (anyBelow-ext _ _ (length name) (λ k l. untyped (getD name k 0)))
+  where
+    as-or : (a b c : Bool) → (not a || not b || c) ≡ not (a && b && not c)
+    as-or true true true = refl
+    as-or true true false = refl
+    as-or true false c = refl
+    as-or false b c = refl
+
+    untyped : (b : ℕ) → (ltb b 33 || ltb 126 b || eqb b 47) ≡ not (isTypable b)
+    untyped b = ap₂ (λ x y. x || y || eqb b 47) (sym (not-leb 33 b)) (sym (not-leb b 126)) ∙ as-or (leb 33 b) (leb b 126) (eqb b 47)
 
 pub zeros-are : (n : ℕ) → zeroBytes n ≡ zeros n
 unfolding zeroBytes tabulate bytesFrom

@@ -23,6 +23,7 @@ use Rattle.model.specs.Create.{createDecision, createAnswer, createList}
 use Rattle.model.specs.Delete.{deleteDecision, deleteAnswer, deleteList}
 use Rattle.model.specs.Resize.{resizeDecision, resizeAnswer, resizeList}
 use Rattle.model.specs.Write.{writeDecision, writeAnswer, writeList}
+use Rattle.model.specs.Rename.{renameDecision, renameAnswer, renameList}
 use Rattle.laws.proofs.Bytes.{put-nil}
 use Rattle.laws.proofs.WriteList.{emit-nil}
 use Rattle.safety.specs.Refused.{notChanged, RefusedWith}
@@ -92,7 +93,8 @@ module _ (img : List ℕ) (ne : checkAnswer (length img) (view img) .verdict .nu
 
   -- EVERY CALL ANSWERS WHAT CHECK DOES
   pub refused-alike : RefusedWith (checkAnswer (length img) (view img) .verdict) img
-  unfolding checkAnswer createAnswer createList createDecision deleteAnswer deleteList deleteDecision resizeAnswer resizeList resizeDecision writeAnswer writeList writeDecision
+  unfolding checkAnswer createAnswer createList createDecision deleteAnswer deleteList deleteDecision resizeAnswer resizeList resizeDecision writeAnswer writeList
+      writeDecision renameAnswer renameList renameDecision
   refused-alike = record {
     check = refl;
     find = refuses-find;
@@ -102,4 +104,5 @@ module _ (img : List ℕ) (ne : checkAnswer (length img) (view img) .verdict .nu
     delete = λ name time list. refuses-change _ list (decides _ _ (length list));
     resize = λ name size time list. refuses-change _ list (decides _ _ (length list));
     write = λ name offset bytes time list. refuses-change _ list (decides _ _ (length list));
+    rename = λ old new time list. refuses-change _ list (decides _ _ (length list));
   }

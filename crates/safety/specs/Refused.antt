@@ -14,6 +14,7 @@ use Rattle.model.specs.Create.{createAnswer, createList}
 use Rattle.model.specs.Delete.{deleteAnswer, deleteList}
 use Rattle.model.specs.Resize.{resizeAnswer, resizeList}
 use Rattle.model.specs.Write.{writeAnswer, writeList}
+use Rattle.model.specs.Rename.{renameAnswer, renameList}
 
 abbrev pub notChanged : Verdict → Changed
 notChanged v = record { verdict = v; length = 0 }
@@ -37,3 +38,6 @@ pub record RefusedWith (v : Verdict) (img : List ℕ) : Type 0 where
   pub write : (name : List ℕ) (offset : ℕ) (bytes : List ℕ) (time : ℕ) (list : List ℕ)
       → (writeAnswer (length img) (view img) name offset bytes time (length list) ≡ notChanged v)
       × (writeList (length img) (view img) name offset bytes time list ≡ list)
+  pub rename : (old new : List ℕ) (time : ℕ) (list : List ℕ)
+      → (renameAnswer (length img) (view img) old new time (length list) ≡ notChanged v)
+      × (renameList (length img) (view img) old new time list ≡ list)

@@ -2,8 +2,9 @@
 use mathlib.Core.Path.{sym, _∙_}
 use Rattle.model.specs.Refusals.{verdictOf}
 use Rattle.model.specs.Create.{createConditions}
+use Rattle.laws.proofs.Booleans.{or-none}
+use Rattle.laws.proofs.Entry.{new-name-good}
 use Rattle.laws.proofs.Named.{short-name}
-use Rattle.create.proofs.Laws.{or-false}
 use borrow.Author.Needs.{needs}
 use Rattle.create.proofs.own_verdict.Statement.{statement}
 use Rattle.create.proofs.own_verdict.Tie as tie
@@ -19,7 +20,7 @@ unfolding createConditions verdictOf
 returns c = rw (← c .before .before .bad-argument .ensures, c .before .if1 .taken) (c .refusal .ensures)
 
 is-taken-requires : tie.Need-is-taken-requires
-is-taken-requires c κs = (c .before .before .before .before .pre, short-name _ (or-false _ _ (sym (c .before .bad-argument .ensures) ∙ c .if1 .left)))
+is-taken-requires c κs = (c .before .before .before .before .pre, short-name _ (new-name-good _ (or-none _ _ (sym (c .before .bad-argument .ensures) ∙ c .if1 .left) .0)))
 
 refusal-requires-2 : tie.Need-refusal-requires-2
 refusal-requires-2 c κs = search needs

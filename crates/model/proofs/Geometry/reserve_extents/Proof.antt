@@ -1,4 +1,4 @@
--- `model::Geometry::reserve_extents` meets its contract. The quotient of T + 2 by S, rounded up.
+-- `model::Geometry::reserve_extents` meets its contract. The quotient of T + 3 by S, rounded up.
 use borrow.Author.Needs.{needs}
 use Rattle.model.proofs.Geometry.reserve_extents.Statement.{statement}
 use Rattle.model.proofs.Geometry.reserve_extents.Tie as tie

@@ -1,0 +1,40 @@
+-- `changes::rename` meets its contract. The judgement refuses, or `rename::rename_in` gives the answer and the list.
+use mathlib.Core.Path.{sym, ap, _∙_}
+use lib.ListN.{length}
+use Rattle.model.specs.declared.Verdict.{Verdict}
+use Rattle.model.specs.Disk.{view}
+use Rattle.model.specs.Catalogue.{catalogueOf}
+use Rattle.model.specs.Rename.{renameConditions, renamePlanned, renameDecision, renameAnswer, renameList}
+use Rattle.commit.proofs.Decided.{refused-as-judged}
+use borrow.Author.Needs.{needs}
+use Rattle.changes.proofs.rename.Statement.{statement}
+use Rattle.changes.proofs.rename.Tie as tie
+
+judge-requires : tie.Need-judge-requires
+judge-requires c κs = search needs
+
+rename-in-requires : tie.Need-rename-in-requires
+rename-in-requires c κs = ap (λ (v : Verdict). v .number) (sym (c .before .before .before .judge .ensures)) ∙ c .before .if1 .taken
+
+same-length : tie.Need-same-length
+same-length c = search needs
+
+returns : tie.Need-returns
+returns c = search needs
+
+refused-requires : tie.Need-refused-requires
+refused-requires c κs = search needs
+
+returns-2 : tie.Need-returns-2
+unfolding renameAnswer renameList renameDecision
+returns-2 c =
+    let a = c .before .before .before .before .before .before .before .before .args in
+    let d = view (a .img .now) in
+    let h = refused-as-judged (length (a .img .now)) d (renameConditions (catalogueOf d) (a .old .now) (a .new .now)) (renamePlanned (catalogueOf d) d (a .old .now) (a .new .now) (a .time)) (a .list .now)
+    (c .before .before .before .judge .result) (c .before .before .before .judge .ensures) (c .before .if1 .left) in
+    (c .refused .ensures ∙ h .0, h .1)
+
+pub rename-spec : {M : Type 1} → statement M
+rename-spec =
+    tie.close
+    (tie.spec judge-requires rename-in-requires same-length returns refused-requires returns-2)

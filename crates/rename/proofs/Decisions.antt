@@ -1,0 +1,98 @@
+-- What a rename comes to, test by test. Assumes nothing.
+use Prim.Native.Nat.{ℕ, _≤_, _<_}
+use mathlib.Core.Path.{_≡_, refl, sym, ap, _∙_}
+use mathlib.Core.Bool.{Bool, true, false, _||_}
+use mathlib.Core.List.{List}
+use mathlib.Core.Option.{Option, none, some}
+use native.Mathlib.Omega.{arith}
+use lib.Dec.{ltb}
+use lib.ListN.{length}
+use borrow.Author.Tests.{eq-eqb, lt-ltb, le-ltb}
+use Rattle.model.specs.declared.Changed.{Changed}
+use Rattle.model.specs.declared.Geometry.{Geometry}
+use Rattle.model.specs.declared.Lowest.{Lowest}
+use Rattle.model.specs.declared.Lowest.the-variants.{At, Nowhere}
+use Rattle.model.specs.Search.{indexOf, equalBytes}
+use Rattle.model.specs.Disk.{Disk, view}
+use Rattle.model.specs.Entry.{badName, badNewName}
+use Rattle.model.specs.Catalogue.{Catalogue, catalogueOf, fileNamed}
+use Rattle.model.specs.Refusals.{Conditions, verdictOf, refusal, done, judged}
+use Rattle.model.specs.WriteList.{Plan, Emitted, closed, groupsFor, listLength, Decision, decided, answerOf, listAfter}
+use Rattle.model.specs.Rename.{renameConditions, renamePlan, renamePlanned, renameDecision, renameAnswer, renameList}
+use Rattle.model.specs.Opened.{Opened}
+use Rattle.laws.proofs.Named.{named-at}
+use Rattle.laws.proofs.WriteList.{emit-nil}
+use Rattle.commit.proofs.Decided.{ComesTo, refused-by-own, done-with-nothing}
+use Rattle.rename.specs.Renaming.{fitted, renamedTo}
+
+-- ---- where the new name is
+
+pub place-below : {img : List ℕ} {g : Geometry} (place : Lowest) (name : List ℕ) → Opened img g → place ≡ fileNamed (catalogueOf (view img)) name → indexOf place < g .files
+place-below Nowhere name o e = omega (arith, o .bounded .files-low)
+place-below {img} {g} (At j) name o e = let low = named-at (view img) name j e .0 in let f = ap (λ (x : Geometry). x .files) (o .is) in omega arith
+
+-- ---- a change that nothing but 14 can refuse
+
+module _ (d : Disk) (plan : Plan) (list : List ℕ) where
+  pub fitted-short : length list < listLength (groupsFor d (some plan)) → ComesTo d (fitted d (some plan) (length list)) list (record { verdict = refusal 14; length = 0 }) list
+  unfolding groupsFor
+  fitted-short h = rw (lt-ltb _ _ h) (refl, sym (emit-nil list 0))
+
+  pub fitted-done : {m : List ℕ} {j n : ℕ} → n ≡ listLength (groupsFor d (some plan)) → n ≤ length list → Emitted list 0 (closed (groupsFor d (some plan))) m j
+      → ComesTo d (fitted d (some plan) (length list)) list (record { verdict = done; length = n }) m
+  fitted-done q h e = rw (le-ltb (length list) (listLength (groupsFor d (some plan))) (omega arith), q) (refl, e .holds)
+
+-- a call whose own conditions let it pass
+decided-fitted : (len : ℕ) (d : Disk) (cs : Conditions) (plan : Option Plan) (room : ℕ) → judged len d .number ≡ 0 → done ≡ verdictOf cs → decided len d cs plan room ≡ fitted d plan room
+unfolding decided verdictOf
+decided-fitted len d cs plan room ok own = go (ltb room (listLength (groupsFor d plan))) refl
+  where
+    go : (b : Bool) → ltb room (listLength (groupsFor d plan)) ≡ b → decided len d cs plan room ≡ fitted d plan room
+    go true e = rw (eq-eqb _ _ ok, ← own, e)
+    go false e = rw (eq-eqb _ _ ok, ← own, e)
+
+-- ---- rename's answer and list, test by test
+
+abbrev pub Comes : List ℕ → List ℕ → List ℕ → List ℕ → ℕ → Changed → List ℕ → Type 0
+Comes img list old new time answer after =
+    (answer ≡ renameAnswer (length img) (view img) old new time (length list)) × (after ≡ renameList (length img) (view img) old new time list)
+
+module _ (img list old new : List ℕ) (time : ℕ) (ok : judged (length img) (view img) .number ≡ 0) where
+  abbrev c : Catalogue
+  c = catalogueOf (view img)
+
+  abbrev cs : Conditions
+  cs = renameConditions c old new
+
+  abbrev planned : Option Plan
+  planned = renamePlanned c (view img) old new time
+
+  bad : (badName old || badNewName new) ≡ true → refusal 8 ≡ verdictOf cs
+  unfolding verdictOf renameConditions
+  bad h = rw h
+
+  missing : (badName old || badNewName new) ≡ false → fileNamed c old ≡ Nowhere → refusal 9 ≡ verdictOf cs
+  unfolding verdictOf renameConditions
+  missing h n = rw (h, n)
+
+  pub rename-bad : (badName old || badNewName new) ≡ true → Comes img list old new time (record { verdict = refusal 8; length = 0 }) list
+  unfolding renameAnswer renameList renameDecision
+  rename-bad h = refused-by-own (length img) (view img) cs planned list ok (refusal 8) (bad h) (λ (e : _≡_ {A = ℕ} 8 0). omega arith)
+
+  pub rename-missing : (badName old || badNewName new) ≡ false → fileNamed c old ≡ Nowhere → Comes img list old new time (record { verdict = refusal 9; length = 0 }) list
+  unfolding renameAnswer renameList renameDecision
+  rename-missing h n = refused-by-own (length img) (view img) cs planned list ok (refusal 9) (missing h n) (λ (e : _≡_ {A = ℕ} 9 0). omega arith)
+
+  module _ (i : ℕ) (good : (badName old || badNewName new) ≡ false) (found : fileNamed c old ≡ At i) where
+    own : done ≡ verdictOf cs
+    unfolding verdictOf renameConditions
+    own = rw (good, found)
+
+    pub rename-itself : equalBytes old new ≡ true → Comes img list old new time (record { verdict = done; length = 0 }) list
+    unfolding renameAnswer renameList renameDecision renamePlanned
+    rename-itself e = rw e (done-with-nothing (length img) (view img) cs list ok done own refl)
+
+    pub rename-other : {answer : Changed} {m : List ℕ} → equalBytes old new ≡ false → ComesTo (view img) (renamedTo (view img) i new time (length list)) list answer m
+        → Comes img list old new time answer m
+    unfolding renameAnswer renameList renameDecision renamePlanned
+    rename-other e r = rw (e, decided-fitted (length img) (view img) cs (some (renamePlan c (view img) (indexOf (fileNamed c old)) (fileNamed c new) new time)) (length list) ok own, found) r

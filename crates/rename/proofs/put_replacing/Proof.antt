@@ -1,0 +1,34 @@
+-- `rename::put_replacing` meets its contract.
+use native.Mathlib.Omega.{arith}
+use Rattle.model.specs.Rename.{replacingRecords}
+use Rattle.delete.proofs.Laws.{added-then}
+use borrow.Author.Needs.{needs}
+use Rattle.rename.proofs.put_replacing.Statement.{statement}
+use Rattle.rename.proofs.put_replacing.Tie as tie
+
+put-entries-requires : tie.Need-put-entries-requires
+put-entries-requires c κs = (c .before .before .before .before .before .before .pre .0, ((omega arith, omega arith, omega arith), (omega arith, omega arith)))
+
+put-freed-requires : tie.Need-put-freed-requires
+put-freed-requires c κs =
+    let n = c .before .before .before .before .before .before .put-entries .ensures .1 in
+    (c .before .before .before .before .before .before .before .before .before .before .before .before .before .pre .0, (omega arith, (omega (arith, n), omega (arith, n))))
+
+same-length : tie.Need-same-length
+same-length c = search needs
+
+same-length-2 : tie.Need-same-length-2
+same-length-2 c = search needs
+
+returns : tie.Need-returns
+unfolding replacingRecords
+returns c =
+    let f = c .before .before .before .before in
+    let p = f .before .before .before .before .before .before .before in (
+      added-then (p .put-entries .ensures .0) (f .put-freed .ensures .0),
+      (omega (arith, p .put-entries .ensures .1, f .put-freed .ensures .1 .0), omega (arith, p .put-entries .ensures .1, f .put-freed .ensures .1 .1)),
+    )
+
+pub put-replacing-spec : {M : Type 1} → statement M
+put-replacing-spec =
+    tie.close (tie.spec put-entries-requires put-freed-requires same-length same-length-2 returns)

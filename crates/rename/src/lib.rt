@@ -1,0 +1,249 @@
+// Rename, also onto an existing name, on a volume that the refusals 1 to 7 let pass.
+use model::Changed;
+use model::FileIndex;
+use model::Geometry;
+use model::Lowest;
+use model::Sector;
+ghost use mathlib.Core.Path.{_≡_};
+ghost use mathlib.Core.Bool.{cond, _||_};
+ghost use mathlib.Core.List.{[], _∷_};
+ghost use mathlib.Core.Option.{some};
+ghost use Prim.Native.Nat.{_+_, _*_, _≤_, _<_};
+ghost use lib.Dec.{ltb};
+ghost use lib.ListN.{length};
+ghost use Rattle.model.specs.Bytes.{zeroSector};
+ghost use Rattle.model.specs.Search.{indexOf};
+ghost use Rattle.model.specs.Geometry.{entryAt, tableSectors};
+ghost use Rattle.model.specs.Disk.{view};
+ghost use Rattle.model.specs.Entry.{longestName, badName, badNewName};
+ghost use Rattle.model.specs.Catalogue.{catalogueOf, sectorsFrom};
+ghost use Rattle.model.specs.Refusals.{judged};
+ghost use Rattle.model.specs.WriteList.{sectorWrite, recordSize, recordCount, groupsFor, closed, Emitted, answerOf, listAfter};
+ghost use Rattle.model.specs.Rename.{renamedRecord, replacingRecords, renamingRecords, renamePlan, renameAnswer, renameList};
+ghost use Rattle.model.specs.Opened.{Bounded, Opened};
+ghost use Rattle.delete.specs.Staging.{Added};
+ghost use Rattle.rename.specs.Renaming.{renamingCount, renamedTo};
+
+// ---- refusal 8
+
+// The old name by the rule that every name keeps, the new one by that for names to come.
+fn bad_names(old: &[u8], new: &[u8]) -> bool
+    ensures { λ r. ⌜ r ≡ (badName (now (old .entry)) || badNewName (now (new .entry))) ⌝ }
+{
+    if directory::bad_name(old) {
+        return true;
+    }
+    directory::bad_new_name(new)
+}
+
+// ---- the entries
+
+// The copy of file i's entry with its new name is record k.
+fn put_renamed(
+    list: &mut [u8],
+    k: usize,
+    numbers: &mut [u64],
+    img: &[u8],
+    g: Geometry,
+    i: FileIndex,
+    name: &[u8],
+    time: u32,
+) -> usize
+    requires { ⌜ Opened (now img) g ⌝ }
+    requires { ⌜ (i .0 < g .files) × (length (now name) ≤ longestName) ⌝ }
+    requires { ⌜ ((k + 1) * recordSize ≤ length (now list)) × (k < length (now numbers)) ⌝ }
+    ensures { λ r. ⌜ Added g (now (numbers .entry)) (now (list .entry)) k (renamedRecord (view (now (img .entry))) (i .0) (now (name .entry)) time ∷ []) (now (numbers .exit)) (now (list .exit)) r ⌝ }
+    ensures { λ r. ⌜ r ≡ k + 1 ⌝ }
+{
+    let s = directory::renamed_entry(img, i, name, time);
+    commit::put_copy(list, k, g, numbers, k, i.sector(), s)
+}
+
+// The copy of file j's entry, freed, is record k.
+fn put_freed_entry(
+    list: &mut [u8],
+    k: usize,
+    numbers: &mut [u64],
+    g: Geometry,
+    j: FileIndex,
+) -> usize
+    requires { ⌜ Bounded g ⌝ }
+    requires { ⌜ j .0 < g .files ⌝ }
+    requires { ⌜ ((k + 1) * recordSize ≤ length (now list)) × (k < length (now numbers)) ⌝ }
+    ensures { λ r. ⌜ Added g (now (numbers .entry)) (now (list .entry)) k (sectorWrite (entryAt (j .0)) zeroSector ∷ []) (now (numbers .exit)) (now (list .exit)) r ⌝ }
+    ensures { λ r. ⌜ r ≡ k + 1 ⌝ }
+{
+    let s = [0u8; 512];
+    commit::put_copy(list, k, g, numbers, k, j.sector(), s)
+}
+
+// The copies of both, by index, from record k on.
+fn put_entries(
+    list: &mut [u8],
+    k: usize,
+    numbers: &mut [u64],
+    img: &[u8],
+    g: Geometry,
+    i: FileIndex,
+    j: FileIndex,
+    name: &[u8],
+    time: u32,
+) -> usize
+    requires { ⌜ Opened (now img) g ⌝ }
+    requires { ⌜ (i .0 < g .files) × (j .0 < g .files) × (length (now name) ≤ longestName) ⌝ }
+    requires { ⌜ ((k + 2) * recordSize ≤ length (now list)) × (k + 1 < length (now numbers)) ⌝ }
+    ensures { λ r. ⌜ Added g (now (numbers .entry)) (now (list .entry)) k (cond (ltb (i .0) (j .0)) (renamedRecord (view (now (img .entry))) (i .0) (now (name .entry)) time ∷ sectorWrite (entryAt (j .0)) zeroSector ∷ []) (sectorWrite (entryAt (j .0)) zeroSector ∷ renamedRecord (view (now (img .entry))) (i .0) (now (name .entry)) time ∷ [])) (now (numbers .exit)) (now (list .exit)) r ⌝ }
+    ensures { λ r. ⌜ r ≡ k + 2 ⌝ }
+{
+    if i.0 < j.0 {
+        let n = put_renamed(list, k, numbers, img, g, i, name, time);
+        return put_freed_entry(list, n, numbers, g, j);
+    }
+    let n = put_freed_entry(list, k, numbers, g, j);
+    put_renamed(list, n, numbers, img, g, i, name, time)
+}
+
+// ---- the targets
+
+// Behind the root, where file j has the new name: the copies of both entries and of the table sectors that hold an extent of file j,
+// from record k on.
+fn put_replacing(
+    list: &mut [u8],
+    k: usize,
+    numbers: &mut [u64],
+    img: &[u8],
+    g: Geometry,
+    i: FileIndex,
+    j: FileIndex,
+    name: &[u8],
+    time: u32,
+) -> usize
+    requires { ⌜ Opened (now img) g ⌝ }
+    requires { ⌜ (i .0 < g .files) × (j .0 < g .files) × (length (now name) ≤ longestName) ⌝ }
+    requires { ⌜ ((k + 2 + sectorsFrom (catalogueOf (view (now img))) (j .0) 0 + 1) * recordSize ≤ length (now list)) × (k + 2 + tableSectors g ≤ length (now numbers)) ⌝ }
+    ensures { λ r. ⌜ Added g (now (numbers .entry)) (now (list .entry)) k (replacingRecords (catalogueOf (view (now (img .entry)))) (view (now (img .entry))) (i .0) (j .0) (now (name .entry)) time) (now (numbers .exit)) (now (list .exit)) r ⌝ }
+    ensures { λ r. ⌜ (r ≡ k + 2 + sectorsFrom (catalogueOf (view (now (img .entry)))) (j .0) 0) × (r ≤ k + 2 + tableSectors g) ⌝ }
+{
+    let n = put_entries(list, k, numbers, img, g, i, j, name, time);
+    delete::put_freed(list, n, numbers, img, g, j, 0)
+}
+
+// The same by where the new name is: nowhere, or at a file that is replaced.
+fn put_renaming(
+    list: &mut [u8],
+    k: usize,
+    numbers: &mut [u64],
+    img: &[u8],
+    g: Geometry,
+    i: FileIndex,
+    place: Lowest,
+    name: &[u8],
+    time: u32,
+) -> usize
+    requires { ⌜ Opened (now img) g ⌝ }
+    requires { ⌜ (i .0 < g .files) × (indexOf place < g .files) × (length (now name) ≤ longestName) ⌝ }
+    requires { ⌜ ((k + renamingCount (catalogueOf (view (now img))) place + 1) * recordSize ≤ length (now list)) × (k + 2 + tableSectors g ≤ length (now numbers)) ⌝ }
+    ensures { λ r. ⌜ Added g (now (numbers .entry)) (now (list .entry)) k (renamingRecords (catalogueOf (view (now (img .entry)))) (view (now (img .entry))) (i .0) place (now (name .entry)) time) (now (numbers .exit)) (now (list .exit)) r ⌝ }
+    ensures { λ r. ⌜ (r ≡ k + renamingCount (catalogueOf (view (now (img .entry)))) place) × (r ≤ k + 2 + tableSectors g) ⌝ }
+{
+    match place {
+        Lowest::At(j) => put_replacing(
+            list,
+            k,
+            numbers,
+            img,
+            g,
+            i,
+            FileIndex(j as u64),
+            name,
+            time,
+        ),
+        Lowest::Nowhere => put_renamed(list, k, numbers, img, g, i, name, time),
+    }
+}
+
+// ---- the list
+
+// How many records it has, by where the new name is.
+fn rename_count(img: &[u8], g: Geometry, place: Lowest) -> usize
+    requires { ⌜ Opened (now img) g ⌝ }
+    requires { ⌜ indexOf place < g .files ⌝ }
+    ensures { λ r. ⌜ r ≡ recordCount 0 (1 + renamingCount (catalogueOf (view (now (img .entry)))) place) ⌝ }
+    ensures { λ r. ⌜ r ≤ 2048 ⌝ }
+{
+    match place {
+        Lowest::At(j) => delete::records_for(
+            3 + table::sectors_from(img, g, FileIndex(j as u64), 0),
+        ),
+        Lowest::Nowhere => delete::records_for(2),
+    }
+}
+
+// The whole list, which has room for it.
+fn put_rename(
+    img: &[u8],
+    g: Geometry,
+    i: FileIndex,
+    place: Lowest,
+    name: &[u8],
+    time: u32,
+    list: &mut [u8],
+) -> usize
+    requires { ⌜ Opened (now img) g ⌝ }
+    requires { ⌜ (i .0 < g .files) × (indexOf place < g .files) × (length (now name) ≤ longestName) ⌝ }
+    requires { ⌜ recordCount 0 (1 + renamingCount (catalogueOf (view (now img))) place) * recordSize ≤ length (now list) ⌝ }
+    ensures { λ r. ⌜ Emitted (now (list .entry)) 0 (closed (groupsFor (view (now (img .entry))) (some (renamePlan (catalogueOf (view (now (img .entry)))) (view (now (img .entry))) (i .0) place (now (name .entry)) time)))) (now (list .exit)) r ⌝ }
+{
+    let mut numbers = [0u64; 1024];
+    let root = directory::updated_root(img, time);
+    let k = commit::put_copy(list, 0, g, &mut numbers, 0, Sector(1), root);
+    let n = put_renaming(list, k, &mut numbers, img, g, i, place, name, time);
+    commit::put_commit(list, n, img, g, &numbers, n)
+}
+
+// ---- the call
+
+// File i to a name that is not its own.
+fn rename_file(
+    img: &[u8],
+    g: Geometry,
+    i: FileIndex,
+    name: &[u8],
+    time: u32,
+    list: &mut [u8],
+) -> Changed
+    requires { ⌜ Opened (now img) g ⌝ }
+    requires { ⌜ (i .0 < g .files) × (length (now name) ≤ longestName) ⌝ }
+    ensures { λ r. ⌜ r ≡ answerOf (view (now (img .entry))) (renamedTo (view (now (img .entry))) (i .0) (now (name .entry)) time (length (now (list .entry)))) ⌝ }
+    ensures { λ _. ⌜ now (list .exit) ≡ listAfter (view (now (img .entry))) (renamedTo (view (now (img .entry))) (i .0) (now (name .entry)) time (length (now (list .entry)))) (now (list .entry)) ⌝ }
+{
+    let place = directory::file_named(img, g, name);
+    let needed = lists::RECORD_SIZE * rename_count(img, g, place);
+    if needed <= list.len() {
+        put_rename(img, g, i, place, name, time, list);
+        let verdict = volume::refusal(0);
+        return Changed {
+            verdict,
+            length: needed as u64,
+        };
+    }
+    commit::refused(volume::refusal(14))
+}
+
+pub fn rename_in(img: &[u8], old: &[u8], new: &[u8], time: u32, list: &mut [u8]) -> Changed
+    requires { ⌜ judged (length (now img)) (view (now img)) .number ≡ 0 ⌝ }
+    ensures { λ r. ⌜ r ≡ renameAnswer (length (now (img .entry))) (view (now (img .entry))) (now (old .entry)) (now (new .entry)) time (length (now (list .entry))) ⌝ }
+    ensures { λ _. ⌜ now (list .exit) ≡ renameList (length (now (img .entry))) (view (now (img .entry))) (now (old .entry)) (now (new .entry)) time (now (list .entry)) ⌝ }
+{
+    if bad_names(old, new) {
+        return commit::refused(volume::refusal(8));
+    }
+    let g = volume::geometry_in(img);
+    if let Lowest::At(i) = directory::file_named(img, g, old) {
+        if fields::is_same(old, new) {
+            return commit::refused(volume::refusal(0));
+        }
+        return rename_file(img, g, FileIndex(i as u64), new, time, list);
+    }
+    commit::refused(volume::refusal(9))
+}

@@ -63,10 +63,12 @@ extern "C" {
 #define GOOFS_RECORDS(data, targets) ((data) + 2 * (targets) + ((targets) + 31) / 32 + 2 + 4)
 #define GOOFS_RECOVERY_RECORDS(targets) ((targets) + 1 + 2)
 
-/* The longest list that each call can give, in bytes. Targets are the root, the entry and at most 512 sectors of the allocation
- * table; a write touches at most 129 data sectors and one of the table; a journal has at most 1,024 entries. */
+/* The longest list that each call can give, in bytes. Targets are the root, the entry, that of a file which a rename replaces, and
+ * at most 512 sectors of the allocation table; a write touches at most 129 data sectors and one of the table; a journal has at most
+ * 1,024 entries. */
 #define GOOFS_CREATE_LIST (GOOFS_RECORDS(0, 2) * GOOFS_RECORD)
 #define GOOFS_DELETE_LIST (GOOFS_RECORDS(0, 2 + 512) * GOOFS_RECORD)
+#define GOOFS_RENAME_LIST (GOOFS_RECORDS(0, 3 + 512) * GOOFS_RECORD)
 #define GOOFS_RESIZE_LIST (GOOFS_RECORDS(0, 1 + 512) * GOOFS_RECORD)
 #define GOOFS_WRITE_LIST (GOOFS_RECORDS(129, 2) * GOOFS_RECORD)
 #define GOOFS_RECOVER_LIST (GOOFS_RECOVERY_RECORDS(1024) * GOOFS_RECORD)
@@ -80,9 +82,10 @@ enum goofs_code {
     GOOFS_WAITING = 5,           /* a change was cut; recover first */
     GOOFS_DAMAGED = 6,           /* volume damaged, or in recovery a bad journal entry */
     GOOFS_NOT_SOUND = 7,         /* `fault` and `place` (a file index, for GOOFS_FAULT_TABLE an extent) go with it */
-    GOOFS_BAD_ARGUMENT = 8,      /* a name that isn't 1 to 476 bytes without 0; create with id 0; a read or write of more than
-                                  * 65,536 bytes; a resize that grows by more than that; a list index past the directory; a
-                                  * format without a geometry; a bad record */
+    GOOFS_BAD_ARGUMENT = 8,      /* a name that isn't 1 to 476 bytes without 0; a name to create or to rename to that has a byte
+                                  * other than 33 to 126, or a slash; create with id 0; a read or write of more than 65,536
+                                  * bytes; a resize that grows by more than that; a list index past the directory; a format
+                                  * without a geometry; a bad record */
     GOOFS_NOT_THERE = 9,         /* no such name, listed entry is free, or format position past the last record */
     GOOFS_ALREADY_THERE = 10,    /* create: name already there, or id an occupied entry's or the root's */
     GOOFS_DIRECTORY_FULL = 11,   /* create: no free entry */
@@ -153,14 +156,22 @@ goofs_list_result goofs_list(const uint8_t *image, size_t image_length, uint64_t
 goofs_read_result goofs_read(const uint8_t *image, size_t image_length, const uint8_t *name, size_t name_length, uint64_t offset,
                              uint64_t count, uint8_t *out, size_t out_length);
 
-/* A new, empty file in the lowest free entry. Gives 0 to 8, 10, 11 and 14. List: at most GOOFS_CREATE_LIST. No call gives the
- * root's id; where the name is not there, 10 says that the id is taken, so a free one can be found by trying. */
+/* A new, empty file in the lowest free entry. Gives 0 to 8, 10, 11 and 14. List: at most GOOFS_CREATE_LIST. The name has bytes 33
+ * to 126 without the slash, else 8 is given, also where a file of that name is there: a volume of before this rule may hold one. No
+ * call gives the root's id; where the name is not there, 10 says that the id is taken, so a free one can be found by trying. */
 goofs_change_result goofs_create(const uint8_t *image, size_t image_length, const uint8_t *name, size_t name_length, uint64_t id,
                                  uint32_t mode, uint32_t time, uint8_t *list, size_t list_length);
 
 /* The file's entry and its extents are freed. Gives 0 to 9 and 14. List: at most GOOFS_DELETE_LIST. */
 goofs_change_result goofs_delete(const uint8_t *image, size_t image_length, const uint8_t *name, size_t name_length, uint32_t time,
                                  uint8_t *list, size_t list_length);
+
+/* The file of the old name gets the new one, at once: after a cut the name is the old or the new one. A file that had the new name is
+ * deleted in the same change, so a file saved under another name is swapped in, and after any cut the new name stands for one of
+ * the two, whole. The entry keeps its index, size, id, mode and access time. The new name follows the rule of create, the old one is
+ * any that can be on a volume. Gives 0 to 9 and 14. List: at most GOOFS_RENAME_LIST. The same name twice gives an empty list. */
+goofs_change_result goofs_rename(const uint8_t *image, size_t image_length, const uint8_t *old_name, size_t old_length,
+                                 const uint8_t *new_name, size_t new_length, uint32_t time, uint8_t *list, size_t list_length);
 
 /* Another size: extents behind it are freed, or zeros are written at the end, at most 65,536. Gives 0 to 9, 13 and 14. List: at
  * most GOOFS_RESIZE_LIST. The same size gives an empty list. */

@@ -202,8 +202,8 @@ fn after_refusal(refusal: Refusal, card: &str) -> String {
              put the files back"
         ),
         Refusal::BadArgument => {
-            "keep to the bounds: a name has 1 to 476 bytes and no zero byte, an id is not 0, one \
-             write has at most 65536 bytes; a format has 255 to 65535 files and sectors for at least \
+            "keep to the bounds: a new name has 1 to 476 letters that can be typed and no slash, an id \
+             is not 0, one write has at most 65536 bytes; a format has 255 to 65535 files and sectors for at least \
              two extents"
                 .to_string()
         }

@@ -170,6 +170,7 @@ fn words(change: &Change) -> String {
     match change {
         Change::Create { name, .. } => format!("create {}", text::word(name)),
         Change::Delete { name, .. } => format!("rm {}", text::word(name)),
+        Change::Rename { old, new, .. } => format!("mv {} {}", text::word(old), text::word(new)),
         Change::Resize { name, size, .. } => format!("resize {} {size}", text::word(name)),
         Change::Write { name, offset, .. } => format!("write {} at {offset}", text::word(name)),
     }

@@ -49,6 +49,12 @@ pub enum Change<'c> {
         name: &'c [u8],
         time: u32,
     },
+    /// Another name. A file that has it is deleted with the same change.
+    Rename {
+        old: &'c [u8],
+        new: &'c [u8],
+        time: u32,
+    },
     /// Another size; what is added, at most 65,536 bytes, is zero.
     Resize {
         name: &'c [u8],
@@ -131,6 +137,8 @@ impl Image {
             // Root and entry.
             Change::Create { .. } => records(0, 2),
             Change::Delete { .. } => records(0, 2 + MOST_TABLE_SECTORS),
+            // Both entries.
+            Change::Rename { .. } => records(0, 3 + MOST_TABLE_SECTORS),
             // The entry. What a growing one writes is shorter.
             Change::Resize { .. } => records(0, 1 + MOST_TABLE_SECTORS),
             Change::Write { .. } => records(MOST_DATA_SECTORS, 2),
@@ -145,6 +153,7 @@ impl Image {
                 time,
             } => crate::create(image, name, id, mode, time, list),
             Change::Delete { name, time } => crate::delete(image, name, time, list),
+            Change::Rename { old, new, time } => crate::rename(image, old, new, time, list),
             Change::Resize { name, size, time } => crate::resize(image, name, size, time, list),
             Change::Write {
                 name,
@@ -264,12 +273,13 @@ impl Format {
 mod tests {
     use super::*;
 
-    /// The lengths that the rules of the volume name: a first create, the longest delete, and a write
-    /// of 65,536 bytes into an empty file.
+    /// The lengths that the rules of the volume name: a first create, the longest delete, the longest
+    /// rename, and a write of 65,536 bytes into an empty file.
     #[test]
     fn records_of_changes() {
         assert_eq!(records(0, 2), 11);
         assert_eq!(records(0, 2 + MOST_TABLE_SECTORS), 1_051);
+        assert_eq!(records(0, 3 + MOST_TABLE_SECTORS), 1_053);
         assert_eq!(records(LONGEST_TRANSFER / SECTOR, 2), 139);
         assert_eq!(MOST_JOURNAL_ENTRIES, 1_024);
     }

@@ -118,6 +118,11 @@ calls! {
     /// Frees the file's entry and its extents.
     delete is goofs_delete(image: bytes, name: bytes, time: u32, list: buffer) -> ChangeAnswer;
 
+    /// Gives the file of the old name the new one; a file that had it is deleted.
+    rename is goofs_rename(
+        image: bytes, old_name: bytes, new_name: bytes, time: u32, list: buffer
+    ) -> ChangeAnswer;
+
     /// Gives the file another size; what is added at its end is zero.
     resize is goofs_resize(
         image: bytes, name: bytes, size: u64, time: u32, list: buffer
@@ -164,6 +169,10 @@ mod tests {
             );
             assert_eq!(
                 goofs_delete(null(), 0, null(), 0, 0, null_mut(), 0).code,
+                one
+            );
+            assert_eq!(
+                goofs_rename(null(), 0, null(), 0, null(), 0, 0, null_mut(), 0).code,
                 one
             );
             assert_eq!(

@@ -99,7 +99,7 @@ impl Summary {
 
     /// The extents at the end that hold the copies of a change and never belong to a file.
     pub fn reserve_extents(&self) -> u64 {
-        (self.table_sectors() + 2).div_ceil(self.extent_sectors)
+        (self.table_sectors() + 3).div_ceil(self.extent_sectors)
     }
 
     pub fn usable_extents(&self) -> u64 {

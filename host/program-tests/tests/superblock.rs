@@ -35,7 +35,7 @@ impl Superblock {
     fn expected(&self, state: &str) -> String {
         let (f, n, s) = (self.files as u64, self.extents as u64, self.extent_sectors as u64);
         let t = n.div_ceil(128);
-        let k = (t + 2).div_ceil(s);
+        let k = (t + 3).div_ceil(s);
         format!(
             "files {f}\nextents {n}\nextent-sectors {s}\ntable-sectors {t}\njournal-at {}\ntable-at {}\ndata-at {}\nreserve-extents {k}\nstate {state}\n",
             2 + f,

@@ -4,6 +4,8 @@
 use std::fmt;
 use std::io;
 
+use crate::names::SAVING;
+
 /// A refusal of the volume code. It never comes with a changed byte.
 #[derive(Clone, Copy, Debug, PartialEq, Eq)]
 pub enum Refusal {
@@ -185,6 +187,8 @@ pub enum Error {
     /// A write or barrier failed when the volume was opened, so it isn't known whether what the device
     /// shows is on the medium. No byte was changed.
     Unsettled(io::Error),
+    /// A name that a file has only while it is saved (see `names`). Nothing was written.
+    NameBeside,
     /// The caller stopped between two changes. These are done; nothing was written of the others.
     Stopped { changes_done: usize },
     /// A write or a barrier failed in the middle of a list.
@@ -224,6 +228,10 @@ impl fmt::Display for Error {
             Error::Unsettled(cause) => write!(
                 f,
                 "the medium failed at the opening ({cause}), so it is not known what stands on it"
+            ),
+            Error::NameBeside => write!(
+                f,
+                "names that end in {SAVING} are for files while they are saved"
             ),
             Error::Stopped { changes_done } => {
                 write!(f, "stopped after {changes_done} changes, each done whole")

@@ -26,6 +26,8 @@ pub mod error;
 pub mod image;
 #[allow(unsafe_code)]
 pub mod map;
+pub mod names;
+pub mod save;
 #[allow(unsafe_code)]
 pub mod system;
 pub mod volume;

@@ -8,6 +8,7 @@ use crate::change::{step, Change, Format, List, Step, FORMAT_BARRIERS};
 use crate::device::{Device, SECTOR};
 use crate::error::{Error, Interrupted};
 use crate::image::{Image, State};
+use crate::save::Save;
 
 #[derive(Debug)]
 pub struct Volume<D> {
@@ -97,6 +98,21 @@ impl<D: Device> Volume<D> {
             stopped = progress(Stage::Done, done + 1).is_break();
         }
         Ok(())
+    }
+
+    /// Saves a file under this name, old or new. After a cut and a recovery the name stands for the old
+    /// file or for the new one, each whole; a new file is there whole or not at all. What a cut leaves
+    /// is a file of the name beside (`names::beside`), which the next save of this name removes.
+    ///
+    /// The new file has an id of its own, and the old one's mode. Until the old file is gone both need
+    /// room and an entry: where there is none, the save is refused with `NoRoom` or `DirectoryFull`,
+    /// and nothing is written. `Save` has the changes one by one, also those that write over the old
+    /// file, and lets id and mode be given.
+    pub fn save(&mut self, name: &[u8], contents: &[u8], time: u32) -> Result<(), Error> {
+        let image = self.image()?;
+        let id = image.unused_id(&[])?;
+        let save = Save::new(image, name, id, None, time)?;
+        self.apply(&save.changes(contents))
     }
 
     /// Finishes a change that was cut. Gives whether there was one.

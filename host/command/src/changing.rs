@@ -1,4 +1,4 @@
-//! Commands that change a volume: format, rm and recover, and what they share with put and resize.
+//! Commands that change a volume: format, rm, mv and recover, and what they share with put and resize.
 
 use std::ffi::OsStr;
 use std::fs::{self, File};
@@ -12,14 +12,19 @@ use goofs::change::{Change, Format};
 use goofs::device::{Device, Disk, SECTOR};
 use goofs::error::{Error, Refusal};
 use goofs::image::Image;
+use goofs::save::MODE;
 use goofs::system::{self, Held};
 use goofs::volume::{self, Stage, Volume};
 
 use crate::arguments::Arguments;
 use crate::card;
-use crate::failure::{of_call, of_card, of_file, of_opening, quoted, Detail, Failure};
+use crate::failure::{
+    not_beside, of_call, of_card, of_file, of_opening, of_rename, quoted, Detail, Failure,
+};
 use crate::output::{print, sync_folder};
 use crate::progress::Progress;
+use crate::reading::leftovers;
+use crate::text;
 
 const LARGEST_32: u64 = u32::MAX as u64;
 /// Sectors that a format takes off for what stands before the data, besides one for each file.
@@ -246,7 +251,7 @@ fn print_done(card: &OsStr, text: &str) -> Result<(), Failure> {
 /// The id and mode of a file that a command makes, if they are given.
 pub struct NewFile {
     pub id: Option<u64>,
-    mode: Option<u32>,
+    pub mode: Option<u32>,
 }
 
 impl NewFile {
@@ -261,27 +266,23 @@ impl NewFile {
         self.id.is_some() || self.mode.is_some()
     }
 
-    /// The change that makes the file, beside others with these ids that are not on the image yet.
+    /// The change that makes the file.
     pub fn change<'c>(
         &self,
         image: &Image,
-        new_ids: &[u64],
         name: &'c [u8],
         time: u32,
     ) -> Result<Change<'c>, Refusal> {
         let id = match self.id {
             Some(id) => id,
-            None => image.unused_id(new_ids)?,
+            None => image.unused_id(&[])?,
         };
-        let create = Change::Create {
+        Ok(Change::Create {
             name,
             id,
-            mode: self.mode.unwrap_or(0o644),
+            mode: self.mode.unwrap_or(MODE),
             time,
-        };
-        // A name or id that is refused is known before anything else is done for it.
-        image.list_of(&create)?;
-        Ok(create)
+        })
     }
 }
 
@@ -290,7 +291,33 @@ pub fn rm(arguments: &Arguments) -> Result<(), Failure> {
     let time = time(arguments)?;
     let (card, name) = (&places[0], places[1].as_bytes());
     let mut volume = card::volume(card, arguments.wait()?)?;
-    apply(&mut volume, &[Change::Delete { name, time }]).map_err(of_call(card, name, None))
+    apply(&mut volume, &[Change::Delete { name, time }]).map_err(of_call(card, name))
+}
+
+pub fn mv(arguments: &Arguments) -> Result<(), Failure> {
+    let places = arguments.places(&["CARD", "OLD", "NEW"])?;
+    let time = time(arguments)?;
+    let (card, old, new) = (&places[0], places[1].as_bytes(), places[2].as_bytes());
+    not_beside(new, "take another NEW")?;
+    let mut volume = card::volume(card, arguments.wait()?)?;
+    let replaced = volume.image().map_err(of_card(card))?.find(new);
+    apply(&mut volume, &[Change::Rename { old, new, time }]).map_err(of_rename(card, old, new))?;
+    match replaced {
+        Ok(_) if old == new => print_done(
+            card,
+            &format!("nothing to do: {} has this name\n", text::word(old)),
+        ),
+        Ok(file) => print_done(
+            card,
+            &format!(
+                "replaced: the old {}, of {} bytes and with id {}, is gone\n",
+                text::word(new),
+                file.size,
+                file.id
+            ),
+        ),
+        Err(_) => Ok(()),
+    }
 }
 
 pub fn recover(arguments: &Arguments) -> Result<(), Failure> {
@@ -299,16 +326,15 @@ pub fn recover(arguments: &Arguments) -> Result<(), Failure> {
     let _held = Held::new();
     let was_cut = volume.recover().map_err(of_card::<Error>(card))?;
     // Recovery itself does not judge the volume.
-    let judged = volume.image().map_err(of_card(card))?.check();
-    print_done(
-        card,
-        match (was_cut, judged.is_ok()) {
-            (true, _) => "recovered: the change that was cut is done now\n",
-            (false, true) => "nothing to do: the volume is clean and sound\n",
-            (false, false) => "nothing to recover: no change was cut\n",
-        },
-    )?;
-    judged.map_err(|refusal| Failure::Judged {
+    let files = volume.image().map_err(of_card(card))?.entries();
+    let left = files.as_deref().map(|files| leftovers(card, files));
+    let what = match (was_cut, files.is_ok()) {
+        (true, _) => "recovered: the change that was cut is done now\n",
+        (false, true) => "nothing to do: the volume is clean and sound\n",
+        (false, false) => "nothing to recover: no change was cut\n",
+    };
+    print_done(card, &[what, &left.unwrap_or_default()].concat())?;
+    files.map(drop).map_err(|refusal| Failure::Judged {
         card: card.to_owned(),
         refusal,
     })

@@ -7,6 +7,7 @@ use std::os::unix::ffi::OsStrExt;
 
 use goofs::error::{Error, Refusal};
 use goofs::image::LONGEST_NAME;
+use goofs::names;
 
 use crate::card::is_device_name;
 use crate::space::Space;
@@ -106,19 +107,43 @@ pub fn of_card<E: Into<Error>>(card: &OsStr) -> impl Fn(E) -> Failure + '_ {
     }
 }
 
-/// Makes failures of a call with this file name and, if a file is to be made, this id.
-pub fn of_call<'c, E: Into<Error>>(
+/// Makes failures of a call with the name of a file that is to be there.
+pub fn of_call<'c, E: Into<Error>>(card: &'c OsStr, name: &'c [u8]) -> impl Fn(E) -> Failure + 'c {
+    move |error| {
+        let error = error.into();
+        let detail = match &error {
+            Error::Refused(Refusal::BadArgument) => bad_length("the name", name),
+            Error::Refused(Refusal::NotThere) => {
+                Some(Detail::new(format!("the name was {}", word(name))))
+            }
+            _ => None,
+        };
+        Failure::Card {
+            card: card.to_owned(),
+            error,
+            detail,
+        }
+    }
+}
+
+/// Makes failures of a file that is to be made with this name and, if one is given, this id.
+/// `another` is how to give another name.
+pub fn of_new<'c, E: Into<Error>>(
     card: &'c OsStr,
     name: &'c [u8],
     id: Option<u64>,
+    another: &'c str,
 ) -> impl Fn(E) -> Failure + 'c {
     move |error| {
         let error = error.into();
         let detail = match &error {
-            Error::Refused(Refusal::BadArgument) => bad_argument(name, id),
-            Error::Refused(Refusal::NotThere) => {
-                Some(Detail::new(format!("the name was {}", word(name))))
-            }
+            Error::Refused(Refusal::BadArgument) => match id {
+                Some(0) => Some(Detail::with_next(
+                    "no file may have the id 0".to_string(),
+                    "take another id, or leave --id out",
+                )),
+                _ => bad_new_name("the name", name, another),
+            },
             Error::Refused(Refusal::AlreadyThere) => Some(Detail::new(match id {
                 Some(id) => format!("name {}, id {id}", word(name)),
                 None => format!("name {}", word(name)),
@@ -133,6 +158,23 @@ pub fn of_call<'c, E: Into<Error>>(
     }
 }
 
+/// Makes failures of a rename.
+pub fn of_rename<'c, E: Into<Error>>(
+    card: &'c OsStr,
+    old: &'c [u8],
+    new: &'c [u8],
+) -> impl Fn(E) -> Failure + 'c {
+    move |error| match error.into() {
+        error @ Error::Refused(Refusal::BadArgument) => Failure::Card {
+            card: card.to_owned(),
+            error,
+            detail: bad_length("the old name", old)
+                .or_else(|| bad_new_name("the new name", new, "take another NEW")),
+        },
+        error => of_call(card, old)(error),
+    }
+}
+
 /// Makes the failure of a file that needs more extents than there are.
 pub fn no_room(card: &OsStr, name: &[u8], space: Space) -> Failure {
     Failure::Card {
@@ -142,21 +184,67 @@ pub fn no_room(card: &OsStr, name: &[u8], space: Space) -> Failure {
     }
 }
 
-/// Which of the arguments it was, if it was one of these.
-fn bad_argument(name: &[u8], id: Option<u64>) -> Option<Detail> {
-    const NAME: &str = "take a name of 1 to 476 bytes";
-    match id {
-        _ if name.is_empty() => Some(Detail::with_next("the name is empty".to_string(), NAME)),
-        _ if name.len() > LONGEST_NAME => Some(Detail::with_next(
-            format!("the name has {} bytes", name.len()),
-            NAME,
+/// Makes the failure of a save for which there is no room, or no entry, beside the old file.
+pub fn no_room_for_both(card: &OsStr, refusal: Refusal, what: String) -> Failure {
+    let next = format!(
+        "remove a file that is not needed (goofs rm {} NAME) and give the command again; or add \
+         --in-place, which writes over the old file: then a cut of the power can leave a part of \
+         the new bytes among the old ones",
+        quoted(card)
+    );
+    Failure::Card {
+        card: card.to_owned(),
+        error: refusal.into(),
+        detail: Some(Detail::with_next(
+            format!("{what} is saved beside the old file, and there is no room for both"),
+            &next,
         )),
-        Some(0) => Some(Detail::with_next(
-            "no file may have the id 0".to_string(),
-            "take another id, or leave --id out",
-        )),
-        _ => None,
     }
+}
+
+/// A name that is no file's while nothing is saved.
+pub fn not_beside(name: &[u8], next: &str) -> Result<(), Failure> {
+    match names::is_beside(name) {
+        true => Err(Failure::Other(format!(
+            "{}: {}, and what a put that was cut has left so is removed by the next. Nothing was changed.\n\
+             Next: {next}.",
+            word(name),
+            Error::NameBeside
+        ))),
+        false => Ok(()),
+    }
+}
+
+/// The name's length, if that is out of bounds.
+fn bad_length(what: &str, name: &[u8]) -> Option<Detail> {
+    let length = match name.len() {
+        1..=LONGEST_NAME => return None,
+        0 => "is empty".to_string(),
+        bytes => format!("has {bytes} bytes"),
+    };
+    Some(Detail::with_next(
+        format!("{what} {length}"),
+        "take a name of 1 to 476 bytes",
+    ))
+}
+
+/// What is wrong with a name that a file is to get.
+fn bad_new_name(what: &str, name: &[u8], next: &str) -> Option<Detail> {
+    let untypable = || {
+        let at = names::untypable(name)?;
+        let byte = match name[at] {
+            b' ' => "a space".to_string(),
+            b'/' => "a slash".to_string(),
+            byte => format!("the byte {byte}"),
+        };
+        Some(Detail::with_next(
+            format!("{what} {} has {byte} at place {}", word(name), at + 1),
+            &format!(
+                "{next}; a new name has letters, digits and signs of ASCII only, without space and slash"
+            ),
+        ))
+    };
+    bad_length(what, name).or_else(untypable)
 }
 
 /// Makes failures of a file.
@@ -202,9 +290,9 @@ fn after_refusal(refusal: Refusal, card: &str) -> String {
              put the files back"
         ),
         Refusal::BadArgument => {
-            "keep to the bounds: a new name has 1 to 476 letters that can be typed and no slash, an id \
-             is not 0, one write has at most 65536 bytes; a format has 255 to 65535 files and sectors for at least \
-             two extents"
+            "keep to the bounds: a new name has 1 to 476 letters, digits and signs of ASCII without \
+             space and slash, an id is not 0, one write has at most 65536 bytes; a format has 255 to \
+             65535 files and sectors for at least two extents"
                 .to_string()
         }
         Refusal::NotThere => format!("see which names there are: goofs ls {card}"),

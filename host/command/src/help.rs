@@ -15,6 +15,7 @@ goofs - files on a volume that survives a cut of the power
   goofs get CARD NAME... [--as FILE]  copy files from the card
   goofs put CARD FILE... [--as NAME]  copy files to the card
   goofs rm CARD NAME                  remove a file
+  goofs mv CARD OLD NEW               give a file another name
   goofs resize CARD NAME SIZE         give a file another size
   goofs recover CARD                  finish a change that was cut
   goofs format CARD [--sectors N]     make an empty volume
@@ -52,7 +53,8 @@ pub const CHECK: &str = "\
 goofs check CARD
 
 Says whether the volume is clean and sound. If not, it says which fault it has and where, and the exit
-status is 1. It changes nothing, and does not read the bytes of the files.
+status is 1. It changes nothing, and does not read the bytes of the files. A file that a put, cut
+short, has left beside another is no fault; it is told with what to do about it.
 ";
 
 pub const LS: &str = "\
@@ -62,6 +64,9 @@ Lists the files in the directory's order: size, version, id, mode (octal), time 
 name. A name is printed as a word for the shell, so that it can be given back as it stands there: in
 quotes where it needs them, and as $'...' where it has bytes that a terminal does not show.
   --numeric   the times in seconds since 1970; else day and time in UTC
+
+A file NAME.goofs-saving was left by a put that was cut. It is in the list, and told on the standard
+error, too, with what to do about it.
 ";
 
 pub const GET: &str = "\
@@ -77,24 +82,30 @@ by --as only, so that `goofs get CARD *.cal` never writes over one of the files 
 ";
 
 pub const PUT: &str = "\
-goofs put CARD FILE... [--as NAME] [--id ID] [--mode M] [--time T]
+goofs put CARD FILE... [--as NAME] [--id ID] [--mode M] [--time T] [--in-place]
 
 Copies files to the card, each under the last part of its own name. A file of that name on the card is
-written over. A name has 1 to 476 bytes.
+replaced. A name has 1 to 476 letters, digits and signs of ASCII, without space and slash.
   --as NAME   the name on the card, for one FILE; `-` as FILE is the standard input and needs it
-  --id ID     the id of a new file; else the number after the greatest id in use
-  --mode M    the mode of new files, octal; else 644
+  --id ID     the id of the new file; else the number after the greatest id in use
+  --mode M    the mode of new files, octal; else that of the file that is replaced, or 644
   --time T    the time of the change, in seconds since 1970; else now
-With --id or --mode, a file that is there already is an error: they can't be changed.
+  --in-place  write over a file that is there, which keeps its id and mode
 
-A put is several changes, one after the other: the file is created if it isn't there, written in
-pieces of at most 65536 bytes, and shortened at the end if it was longer. Each change is atomic: after
-a cut of the power and `goofs recover` it is done or not done. What is added to a file shows up with
-its change and not before. But bytes that replace old bytes go to their place at once: after a cut,
-each sector of them is the old or the new one. Where that matters, put under a new name and remove the
-old file after it.
+A file is written beside the old one, as NAME.goofs-saving, and when it is whole it takes the name, in
+one change with the end of the old file. So after a cut of the power and `goofs recover`, NAME is the
+old file or the new one, each whole, and a new file is there whole or not at all. The file that a cut
+leaves beside is told by ls and check, and removed by the next put of NAME. So no other file may get a
+name that ends like that.
+
+Until the old file is gone, both need room. Where there is not so much, put says so. With --in-place
+the changes are made to the old file, one after the other: pieces of at most 65536 bytes are written,
+and what is longer is cut off. Each is done or not done after a cut, all of them together are not: a
+cut can leave new bytes up to some place and old ones behind it, or sectors of a piece old and new.
+
 All changes of all FILEs are tried in memory first: if one is refused, for want of room too, nothing is
-changed. A FILE is read into memory, and no further than there is room for it on the card.
+changed. Then one file after the other is saved. A FILE is read into memory, and no further than there
+is room for it on the card.
 ";
 
 pub const RM: &str = "\
@@ -102,6 +113,18 @@ goofs rm CARD NAME [--time T]
 
 Removes the file. Its extents are free at once.
   --time T    the time of the change, in seconds since 1970; else now
+";
+
+pub const MV: &str = "\
+goofs mv CARD OLD NEW [--time T]
+
+Gives the file OLD the name NEW, in one change. A file that has the name NEW already is replaced: it is
+removed with the same change, which is told. After a cut of the power and `goofs recover` both files
+are as before, or only the one is there, as NEW. It keeps its size, id and mode.
+  --time T    the time of the change, in seconds since 1970; else now
+
+NEW has 1 to 476 letters, digits and signs of ASCII, without space and slash. OLD may be a name with
+other bytes, from a volume of before this rule, as ls prints it.
 ";
 
 pub const RESIZE: &str = "\
@@ -142,9 +165,10 @@ refused.
 ";
 
 pub const TRIAL: &str = "\
-goofs trial CARD put FILE [--as NAME]
+goofs trial CARD put FILE [--as NAME] [--in-place]
 goofs trial CARD create NAME
 goofs trial CARD rm NAME
+goofs trial CARD mv OLD NEW
 goofs trial CARD resize NAME SIZE
 goofs trial CARD write NAME OFFSET FILE
     [--id ID] [--mode M] [--time T] [--seed S] [--every] [--leave FILE]

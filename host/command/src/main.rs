@@ -50,7 +50,7 @@ const fn command(
     }
 }
 
-const COMMANDS: [Command; 10] = [
+const COMMANDS: [Command; 11] = [
     command("info", help::INFO, &[], &[], reading::info),
     command("check", help::CHECK, &[], &[], reading::check),
     command("ls", help::LS, &[], &["numeric"], reading::ls),
@@ -59,10 +59,11 @@ const COMMANDS: [Command; 10] = [
         "put",
         help::PUT,
         &["as", "id", "mode", "time"],
-        &[],
+        &["in-place"],
         writing::put,
     ),
     command("rm", help::RM, &["time"], &[], changing::rm),
+    command("mv", help::MV, &["time"], &[], changing::mv),
     command("resize", help::RESIZE, &["time"], &[], writing::resize),
     command("recover", help::RECOVER, &[], &[], changing::recover),
     command(
@@ -76,7 +77,7 @@ const COMMANDS: [Command; 10] = [
         "trial",
         help::TRIAL,
         &["as", "id", "mode", "time", "seed", "leave"],
-        &["every"],
+        &["every", "in-place"],
         trial::run,
     ),
 ];

@@ -8,12 +8,13 @@ use std::os::unix::ffi::OsStrExt;
 use std::path::{Component, Path};
 
 use goofs::error::Refusal;
-use goofs::image::State;
+use goofs::image::{Entry, State};
+use goofs::names;
 
 use crate::arguments::Arguments;
 use crate::card;
 use crate::failure::{of_call, of_card, of_file, quoted, Failure};
-use crate::output::{print, print_bytes, save};
+use crate::output::{print, print_bytes, print_error, save};
 use crate::space::Space;
 use crate::text;
 
@@ -104,8 +105,23 @@ pub fn info(arguments: &Arguments) -> Result<(), Failure> {
 pub fn check(arguments: &Arguments) -> Result<(), Failure> {
     let card = &arguments.places(&["CARD"])?[0];
     let image = card::read(card, arguments.wait()?)?;
-    let files = image.entries().map_err(of_card(card))?.len();
-    print(&format!("sound, {files} files\n"))
+    let files = image.entries().map_err(of_card(card))?;
+    let left = leftovers(card, &files);
+    print(&format!("sound, {} files\n{left}", files.len()))
+}
+
+/// A line for each file that a put, cut short, has left beside another, with what to do about it.
+pub fn leftovers(card: &OsStr, files: &[Entry]) -> String {
+    let left = files.iter().filter(|file| names::is_beside(&file.name));
+    left.map(|file| {
+        let (card, name) = (quoted(card), text::word(&file.name));
+        format!(
+            "left by a put that was cut: {name}, {} bytes. \
+             Next: give the put again, which removes it, or goofs rm {card} -- {name}.\n",
+            file.size
+        )
+    })
+    .collect()
 }
 
 pub fn ls(arguments: &Arguments) -> Result<(), Failure> {
@@ -116,7 +132,9 @@ pub fn ls(arguments: &Arguments) -> Result<(), Failure> {
         false => text::time(seconds),
     };
     let mut lines = String::new();
-    for entry in image.entries().map_err(of_card(card))? {
+    let files = image.entries().map_err(of_card(card))?;
+    drop(image);
+    for entry in &files {
         let _ = writeln!(
             lines,
             "{:>12} bytes  version {:<4} id {:<6} mode {:<6o} changed {}  {}",
@@ -128,8 +146,10 @@ pub fn ls(arguments: &Arguments) -> Result<(), Failure> {
             text::word(&entry.name)
         );
     }
-    drop(image);
-    print(&lines)
+    print(&lines)?;
+    // Not among the lines, which a program may read.
+    print_error(&leftovers(card, &files));
+    Ok(())
 }
 
 pub fn get(arguments: &Arguments) -> Result<(), Failure> {
@@ -158,10 +178,10 @@ pub fn get(arguments: &Arguments) -> Result<(), Failure> {
     // A name that isn't there is found out before the first file is written.
     for name in names {
         let name = name.as_bytes();
-        image.find(name).map_err(of_call(card, name, None))?;
+        image.find(name).map_err(of_call(card, name))?;
     }
     let contents = |name: &OsStr| {
-        let failure = of_call(card, name.as_bytes(), None);
+        let failure = of_call(card, name.as_bytes());
         image.contents(name.as_bytes()).map_err(failure)
     };
     if let [name] = names {

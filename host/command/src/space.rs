@@ -32,6 +32,12 @@ impl Space {
         (self.free + self.extents(size)) * self.extent_bytes
     }
 
+    /// What is free when a file of this size is gone.
+    pub fn without(self, size: u64) -> Space {
+        let free = self.free + self.extents(size);
+        Space { free, ..self }
+    }
+
     /// What is left when a file has the new size instead of the old one, if there is so much.
     pub fn after(self, old_size: u64, new_size: u64) -> Option<Space> {
         let available = self.free + self.extents(old_size);

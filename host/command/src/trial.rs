@@ -8,18 +8,20 @@ use std::os::unix::ffi::OsStrExt;
 
 use goofs::change::{Change, List, Write};
 use goofs::device::SECTOR;
-use goofs::error::Error;
+use goofs::error::{Error, Refusal};
 use goofs::image::Image;
 
 use crate::arguments::Arguments;
 use crate::card;
 use crate::changing::{time, NewFile};
-use crate::failure::{of_call, of_card, of_file, quoted, Failure};
+use crate::failure::{not_beside, of_call, of_card, of_file, of_new, of_rename, quoted, Failure};
 use crate::output::{print, save_image};
 use crate::progress::Progress;
 use crate::space::Space;
 use crate::text;
-use crate::writing::{look_up, one_write, put_changes, read_all, resize_changes, size, Source};
+use crate::writing::{
+    look_up, of_put, one_write, put_changes, read_all, resize_changes, size, Source,
+};
 
 /// Groups of up to this many writes are cut in every way.
 const SMALL_GROUP: usize = 8;
@@ -32,11 +34,12 @@ pub fn run(arguments: &Arguments) -> Result<(), Failure> {
     let names: &[&str] = match arguments.places_or_more(&["CARD", "CHANGE"])?[1].as_bytes() {
         b"put" => &["FILE"],
         b"create" | b"rm" => &["NAME"],
+        b"mv" => &["OLD", "NEW"],
         b"resize" => &["NAME", "SIZE"],
         b"write" => &["NAME", "OFFSET", "FILE"],
         other => {
             return Err(Failure::Usage(format!(
-                "trial knows put, create, rm, resize and write, not {}",
+                "trial knows put, create, rm, mv, resize and write, not {}",
                 text::word(other)
             )))
         }
@@ -46,8 +49,11 @@ pub fn run(arguments: &Arguments) -> Result<(), Failure> {
     let seed = arguments.number("seed", 10, u64::MAX)?.unwrap_or(1);
     let leave = arguments.word("leave");
     let (card, kind, rest) = (&places[0], places[1].as_bytes(), &places[2..]);
-    if kind != b"put" && arguments.word("as").is_some() {
-        return Err(Failure::Usage("--as is for put".to_string()));
+    let in_place = arguments.flag("in-place");
+    if kind != b"put" && (in_place || arguments.word("as").is_some()) {
+        return Err(Failure::Usage(
+            "--as and --in-place are for put".to_string(),
+        ));
     }
     // A trial may be long, so this is found out before it.
     if let Some(file) = leave.filter(|file| fs::symlink_metadata(file).is_ok()) {
@@ -60,7 +66,7 @@ pub fn run(arguments: &Arguments) -> Result<(), Failure> {
         _ => Vec::new(),
     };
     let (puts, space) = (
-        look_up(card, &image, &sources, &new_file, time)?,
+        look_up(card, &image, &sources, &new_file, in_place, time)?,
         Space::of(&image),
     );
     let contents = match kind {
@@ -73,11 +79,20 @@ pub fn run(arguments: &Arguments) -> Result<(), Failure> {
     };
     let changes = match kind {
         b"create" => {
-            let create = new_file.change(&image, &[], name, time);
-            vec![create.map_err(of_call(card, name, new_file.id))?]
+            let create = new_file.change(&image, name, time);
+            vec![create.map_err(of_card(card))?]
         }
         b"rm" => vec![Change::Delete { name, time }],
-        b"put" => put_changes(card, space, &puts, &contents, time)?,
+        b"mv" => {
+            let new = rest[1].as_bytes();
+            not_beside(new, "take another NEW")?;
+            vec![Change::Rename {
+                old: name,
+                new,
+                time,
+            }]
+        }
+        b"put" => put_changes(card, space, &puts, &contents)?,
         b"resize" => resize_changes(card, &image, name, size(&rest[1])?, time)?,
         _ => vec![Change::Write {
             name,
@@ -88,9 +103,15 @@ pub fn run(arguments: &Arguments) -> Result<(), Failure> {
     };
     // A refusal of any change comes before the first line of the table.
     let mut tried = Progress::new("changes tried", changes.len() as u64);
+    let refused = |refusal: Refusal| match kind {
+        b"create" => of_new(card, name, new_file.id, "take another NAME")(refusal),
+        b"mv" => of_rename(card, name, rest[1].as_bytes())(refusal),
+        b"put" => of_put(card, &puts)(refusal.into()),
+        _ => of_call(card, name)(refusal),
+    };
     image
         .try_out(&changes, &mut |count| tried.at(count as u64))
-        .map_err(of_call(card, name, new_file.id))?;
+        .map_err(refused)?;
     drop(tried);
 
     let mut draw = Draw(seed);
@@ -246,8 +267,8 @@ impl<E: Into<Error>> From<E> for End {
 /// change writes, the bytes that belong to a file. A trial writes to nothing else, so that its memory
 /// and time do not depend on how many bytes the files have.
 ///
-/// Create and delete raise the root's version and set its change time; write and resize leave the
-/// root as it is. In all of them the root, the entries and the table change with the start mark,
+/// Create, delete and rename raise the root's version and set its change time; write and resize leave
+/// the root as it is. In all of them the root, the entries and the table change with the start mark,
 /// together. So at an end the metadata are all as before or all as after. Only bytes of files may be
 /// old in one sector and new in another, and only where the metadata are as before.
 #[derive(Debug)]

@@ -8,12 +8,15 @@ use std::path::Path;
 
 use goofs::change::Change;
 use goofs::error::{Error, Refusal};
-use goofs::image::{Image, LONGEST_TRANSFER};
+use goofs::image::{Entry, Image, LONGEST_TRANSFER};
+use goofs::save::Save;
 
 use crate::arguments::{self, Arguments};
 use crate::card;
 use crate::changing::{apply, time, NewFile};
-use crate::failure::{no_room, of_call, of_card, of_file, quoted, Failure};
+use crate::failure::{
+    no_room, no_room_for_both, not_beside, of_call, of_card, of_file, of_new, quoted, Failure,
+};
 use crate::space::Space;
 use crate::text;
 
@@ -51,6 +54,7 @@ impl Source<'_> {
                 ));
             };
             let name = name.as_bytes();
+            not_beside(name, "give another name with --as NAME")?;
             if let Some(same) = sources.iter().find(|source| source.name == name) {
                 return usage(format!(
                     "{} and {} would have the same name on the card",
@@ -106,12 +110,12 @@ pub fn one_write(file: &OsStr) -> Result<Vec<u8>, Failure> {
     Ok(contents.unwrap_or_else(|| vec![0; LONGEST_TRANSFER + 1]))
 }
 
-/// A file to be put, and how it stands on the volume.
+/// A file to be put.
 pub struct Put<'p> {
     source: &'p Source<'p>,
-    /// The change that creates it, if it isn't there.
-    create: Option<Change<'p>>,
-    old_size: u64,
+    save: Save<'p>,
+    /// Whether an old file is written over.
+    in_place: bool,
 }
 
 /// Looks the files up on the volume.
@@ -120,44 +124,50 @@ pub fn look_up<'p>(
     image: &Image,
     sources: &'p [Source],
     new_file: &NewFile,
+    in_place: bool,
     time: u32,
 ) -> Result<Vec<Put<'p>>, Failure> {
+    let another = match sources {
+        [_] => "give another with --as NAME",
+        _ => "put this file alone, with --as NAME",
+    };
     let mut new_ids = Vec::new();
     let mut puts = Vec::new();
     for source in sources {
         let name = source.name;
-        let failure = of_call(card, name, new_file.id);
-        let (create, old_size) = match image.find(name) {
-            Ok(_) if new_file.is_given() => return Err(already_there(card, name)),
-            Ok(entry) => (None, entry.size),
-            Err(Refusal::NotThere) => {
-                let create = new_file.change(image, &new_ids, name, time);
-                (Some(create.map_err(failure)?), 0)
-            }
-            Err(refusal) => return Err(failure(refusal)),
+        let id = match new_file.id {
+            Some(id) => id,
+            None => image.unused_id(&new_ids).map_err(of_card(card))?,
         };
-        if let Some(Change::Create { id, .. }) = create {
-            new_ids.push(id);
+        new_ids.push(id);
+        let save = Save::new(image, name, id, new_file.mode, time);
+        let save = save.map_err(of_card(card))?;
+        match &save.old {
+            Some(_) if in_place && new_file.is_given() => return Err(already_there(card, name)),
+            Some(_) if in_place => (),
+            Some(old) if new_file.id == Some(old.id) => return Err(same_id(card, name, old.id)),
+            old => save.judge(image).map_err(|refusal| match old {
+                Some(_) if refusal == Refusal::BadArgument && id != 0 => not_replaced(card, name),
+                _ => of_new(card, name, new_file.id, another)(refusal),
+            })?,
         }
         puts.push(Put {
             source,
-            create,
-            old_size,
+            save,
+            in_place,
         });
     }
     Ok(puts)
 }
 
-/// Reads the files, none further than there is room for it beside those before it.
+/// Reads the files, none further than there is room for it after those before it.
 pub fn read_all(card: &OsStr, space: Space, puts: &[Put]) -> Result<Vec<Vec<u8>>, Failure> {
     let mut left = space;
     let contents = puts.iter().map(|put| {
-        let read = put.source.read(left.most(put.old_size))?;
-        let fitting = read.and_then(|bytes| {
-            left = left.after(put.old_size, bytes.len() as u64)?;
-            Some(bytes)
-        });
-        fitting.ok_or_else(|| no_room(card, put.source.name, space))
+        let bytes = put.source.read(put.most(left))?;
+        let size = bytes.as_ref().map(|bytes| bytes.len() as u64);
+        left = put.after(card, space, left, size)?;
+        Ok(bytes.unwrap_or_default())
     });
     contents.collect()
 }
@@ -168,46 +178,99 @@ pub fn put_changes<'c>(
     space: Space,
     puts: &'c [Put],
     contents: &'c [Vec<u8>],
-    time: u32,
 ) -> Result<Vec<Change<'c>>, Failure> {
     let mut left = space;
     let mut changes = Vec::new();
     for (put, contents) in puts.iter().zip(contents) {
-        left = left
-            .after(put.old_size, contents.len() as u64)
-            .ok_or_else(|| no_room(card, put.source.name, space))?;
-        changes.extend(put.changes(contents, time));
+        left = put.after(card, space, left, Some(contents.len() as u64))?;
+        changes.extend(match put.in_place {
+            true => put.save.changes_in_place(contents),
+            false => put.save.changes(contents),
+        });
     }
     Ok(changes)
 }
 
-/// Id and mode are set when a file is created, and there is no call that changes them.
+/// Makes failures of the changes of a put.
+pub fn of_put<'p>(card: &'p OsStr, puts: &'p [Put]) -> impl Fn(Error) -> Failure + 'p {
+    move |error| match error {
+        // Where all of them are there, none needs an entry in place.
+        Error::Refused(refusal @ Refusal::DirectoryFull)
+            if puts.iter().all(|put| put.save.old.is_some()) =>
+        {
+            no_room_for_both(card, refusal, "each new file".to_string())
+        }
+        error => of_card(card)(error),
+    }
+}
+
+/// In place, id and mode stay: they are set when a file is created, and no call changes them.
 fn already_there(card: &OsStr, name: &[u8]) -> Failure {
-    let (card, name) = (quoted(card), text::word(name));
     Failure::Other(format!(
-        "{card}: {name} is there already, and --id and --mode are for a new file. Nothing was changed.\n\
-         Next: leave them out to write over the file, or remove it first: goofs rm {card} -- {name}."
+        "{}: {} is there already, and in place it keeps its id and mode. Nothing was changed.\n\
+         Next: leave --id and --mode out, or leave --in-place out to replace the file.",
+        quoted(card),
+        text::word(name)
     ))
 }
 
+/// The new file can't have the old one's id, as for a while both are there.
+fn same_id(card: &OsStr, name: &[u8], id: u64) -> Failure {
+    Failure::Other(format!(
+        "{}: {} has the id {id} itself, and the new file is saved beside it, with an id of its own. \
+         Nothing was changed.\n\
+         Next: leave --id out, or give --in-place instead of it, which writes over the old file and \
+         leaves it its id: then a cut of the power can leave a part of the new bytes among the old ones.",
+        quoted(card),
+        text::word(name)
+    ))
+}
+
+/// A file of a name that can't be given any more stays as it is, or is written over.
+fn not_replaced(card: &OsStr, name: &[u8]) -> Failure {
+    let (card, name) = (quoted(card), text::word(name));
+    Failure::Other(format!(
+        "{card}: refused (8): {name} is a name that no new file may have, so the file can't be replaced. \
+         Nothing was changed.\n\
+         Next: give the file a name of letters, digits and signs of ASCII first: \
+         goofs mv {card} -- {name} NEW; and put to that one. Or add --in-place, which writes over the \
+         old file: then a cut of the power can leave a part of the new bytes among the old ones."
+    ))
+}
+
+fn size_of(entry: &Option<Entry>) -> u64 {
+    entry.as_ref().map_or(0, |entry| entry.size)
+}
+
 impl Put<'_> {
-    /// Creates the file if it isn't there, writes the contents in pieces, and cuts off what is longer.
-    fn changes<'c>(&'c self, contents: &'c [u8], time: u32) -> Vec<Change<'c>> {
+    /// The most bytes that the file may have, in place of an old one.
+    fn most(&self, left: Space) -> u64 {
+        left.without(size_of(&self.save.leftover))
+            .most(size_of(&self.save.old))
+    }
+
+    /// The room after the put of a file of this size, or of one that is longer than can be.
+    fn after(
+        &self,
+        card: &OsStr,
+        space: Space,
+        left: Space,
+        size: Option<u64>,
+    ) -> Result<Space, Failure> {
         let name = self.source.name;
-        let mut changes = Vec::from_iter(self.create);
-        for (i, data) in contents.chunks(LONGEST_TRANSFER).enumerate() {
-            changes.push(Change::Write {
-                name,
-                offset: (i * LONGEST_TRANSFER) as u64,
-                data,
-                time,
-            });
+        let left = left.without(size_of(&self.save.leftover));
+        let old_size = size_of(&self.save.old);
+        let in_place = size.and_then(|size| left.after(old_size, size));
+        let after = in_place.ok_or_else(|| no_room(card, name, space))?;
+        // Beside, the old file goes when the new one is there.
+        match self.in_place || left.after(0, size.unwrap_or(0)).is_some() {
+            true => Ok(after),
+            false => Err(no_room_for_both(
+                card,
+                Refusal::NoRoom,
+                format!("{}: {space}; the new file", text::word(name)),
+            )),
         }
-        let size = contents.len() as u64;
-        if size < self.old_size {
-            changes.push(Change::Resize { name, size, time });
-        }
-        changes
     }
 }
 
@@ -215,6 +278,7 @@ pub fn put(arguments: &Arguments) -> Result<(), Failure> {
     let places = arguments.places_or_more(&["CARD", "FILE"])?;
     let (new_file, time) = (NewFile::options(arguments)?, time(arguments)?);
     let (card, files) = (&places[0], &places[1..]);
+    let in_place = arguments.flag("in-place");
     if let (Some(id), 2..) = (new_file.id, files.len()) {
         return Err(Failure::Usage(format!(
             "--id {id} is for one file, and there are {} FILEs",
@@ -226,7 +290,7 @@ pub fn put(arguments: &Arguments) -> Result<(), Failure> {
     // may come from this card.
     let image = card::read(card, arguments.wait()?)?;
     let (puts, space) = (
-        look_up(card, &image, &sources, &new_file, time)?,
+        look_up(card, &image, &sources, &new_file, in_place, time)?,
         Space::of(&image),
     );
     drop(image);
@@ -234,9 +298,9 @@ pub fn put(arguments: &Arguments) -> Result<(), Failure> {
 
     let mut volume = card::volume(card, arguments.wait()?)?;
     let image = volume.image().map_err(of_card(card))?;
-    let puts = look_up(card, image, &sources, &new_file, time)?;
-    let changes = put_changes(card, Space::of(image), &puts, &contents, time)?;
-    apply(&mut volume, &changes).map_err(of_card::<Error>(card))
+    let puts = look_up(card, image, &sources, &new_file, in_place, time)?;
+    let changes = put_changes(card, Space::of(image), &puts, &contents)?;
+    apply(&mut volume, &changes).map_err(of_put(card, &puts))
 }
 
 /// One change, or several where the file grows by more than one may.
@@ -247,7 +311,7 @@ pub fn resize_changes<'c>(
     size: u64,
     time: u32,
 ) -> Result<Vec<Change<'c>>, Failure> {
-    let mut reached = image.find(name).map_err(of_call(card, name, None))?.size;
+    let mut reached = image.find(name).map_err(of_call(card, name))?.size;
     // A size for which there is no room is refused before its many steps are counted up.
     let space = Space::of(image);
     if space.after(reached, size).is_none() {
@@ -274,5 +338,5 @@ pub fn resize(arguments: &Arguments) -> Result<(), Failure> {
     let mut volume = card::volume(card, arguments.wait()?)?;
     let image = volume.image().map_err(of_card(card))?;
     let changes = resize_changes(card, image, name, size, time)?;
-    apply(&mut volume, &changes).map_err(of_call(card, name, None))
+    apply(&mut volume, &changes).map_err(of_call(card, name))
 }

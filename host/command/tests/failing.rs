@@ -371,11 +371,26 @@ fn a_full_directory() {
     bytes[..image.bytes().len()].copy_from_slice(image.bytes());
     fs::write(&card, bytes).unwrap();
     let source = folder.write("small", b"s");
-    let err = bad("put", &card, &[source.to_str().unwrap()], 1);
+    let source = source.to_str().unwrap();
+    let err = bad("put", &card, &[source], 1);
     assert!(
-        err.contains("refused (11)") && err.contains("goofs rm"),
+        err.contains("refused (11)") && err.contains("goofs rm") && !err.contains("--in-place"),
         "{err}"
     );
+    // Over an old one, too, as it is saved beside; in place there is an entry.
+    let over = [source, "--as=f7"];
+    for words in [&["put"][..], &["trial", "put"]] {
+        let err = bad(words[0], &card, &[&words[1..], &over].concat(), 1);
+        assert!(
+            err.contains("refused (11)") && err.contains("no room for both"),
+            "{err}"
+        );
+    }
+    good("put", &card, &[&over[..], &["--in-place"]].concat());
+    assert_eq!(good("get", &card, &["f7"]), "s");
+    good("rm", &card, &["f8"]);
+    good("put", &card, &over);
+    assert_eq!(good("check", &card, &[]), "sound, 254 files\n");
 }
 
 #[test]

@@ -185,7 +185,7 @@ fn a_directory_of_65535_files() {
             65_534 => (600, &[2][..]),
             _ => (0, &[][..]),
         };
-        let name = format!("transect {index}").into_bytes();
+        let name = format!("transect-{index}").into_bytes();
         put_file(&mut image, geometry, index, &name, size, extents);
     }
     let card = folder.write("card", &image);
@@ -200,7 +200,7 @@ fn a_directory_of_65535_files() {
     let listed = timed("ls", &[]).text().lines().count();
     assert!(listed >= 65_535, "{listed} lines");
     assert_eq!(timed("info", &[]).status, 0);
-    assert_eq!(timed("get", &["transect 65534"]).out.len(), 600);
+    assert_eq!(timed("get", &["transect-65534"]).out.len(), 600);
     let source = folder.write("source", &[1; 700]);
     let source = source.to_str().unwrap();
     let full = timed("put", &[source, "--as", "new"]);
@@ -208,12 +208,21 @@ fn a_directory_of_65535_files() {
         full.status == 1 && full.err.contains("refused (11)"),
         "{full:?}"
     );
+    // A new file beside the old one needs an entry, too.
+    let full = timed("put", &[source, "--as", "transect-65534"]);
+    assert!(
+        full.status == 1 && full.err.contains("refused (11)") && full.err.contains("--in-place"),
+        "{full:?}"
+    );
     for (command, words) in [
-        ("put", &[source, "--as", "transect 65534"][..]),
-        ("resize", &["transect 65534", "10"]),
-        ("rm", &["transect 7"]),
+        ("put", &[source, "--as", "transect-65534", "--in-place"][..]),
+        ("resize", &["transect-65534", "10"]),
+        ("rm", &["transect-7"]),
+        ("put", &[source, "--as", "transect-65534"]),
         ("put", &[source, "--as", "new"]),
-        ("trial", &["rm", "transect 65534"]),
+        ("mv", &["transect-65534", "transect-7"]),
+        ("mv", &["transect-7", "transect-65534"]),
+        ("trial", &["rm", "transect-65534"]),
     ] {
         let said = timed(command, words);
         assert_eq!(said.status, 0, "{command}: {}", said.err);

@@ -13,7 +13,7 @@ use std::time::Duration;
 
 use oracle::lists::RECORD;
 use oracle::{FormatRequest, Request};
-use shared::{bad, good, goofs, on, run, start, Folder};
+use shared::{bad, good, goofs, name_by_hand, on, run, start, Folder};
 
 /// The sample volume with one file, and a tail past the volume's end.
 fn sample(folder: &Folder) -> PathBuf {
@@ -31,7 +31,7 @@ fn sample(folder: &Folder) -> PathBuf {
         oracle::format_record(&request, position, record);
     }
     assert_eq!(oracle::carry_out(&mut image, &format), 0);
-    let name = b"dark frame".to_vec();
+    let name = b"dark-frame".to_vec();
     for change in [
         Request::Create {
             name: name.clone(),
@@ -65,7 +65,10 @@ fn sample(folder: &Folder) -> PathBuf {
         assert_eq!(answer.code, 0);
         oracle::carry_out(&mut image, &list[..answer.length as usize]);
     }
-    folder.write("card", &image)
+    let card = folder.write("card", &image);
+    // A name that only an older volume has.
+    name_by_hand(&card, 0, b"dark frame");
+    card
 }
 
 #[test]
@@ -222,7 +225,8 @@ fn get_writes_files_as_cp_does() {
     assert_eq!(fs::read_dir(&into).unwrap().count(), 2);
     // A name on the card may not lead out of the folder.
     for name in ["../out", "..", "sub/gain"] {
-        good("put", &card, &[source.to_str().unwrap(), "--as", name]);
+        good("put", &card, &[source.to_str().unwrap(), "--as=led"]);
+        name_by_hand(&card, 2, name.as_bytes());
         bad("get", &card, &[name, "--as", into_name], 2);
         good("rm", &card, &[name]);
     }
@@ -276,6 +280,7 @@ fn names_can_be_given_back() {
     let folder = Folder::new("given-back");
     let card = sample(&folder);
     let source = folder.write("source", b"");
+    let source = source.to_str().unwrap();
     let names: [&[u8]; 6] = [
         b"plain-1.cal",
         b"it's",
@@ -284,12 +289,9 @@ fn names_can_be_given_back() {
         "right\u{202e}left\u{2066}".as_bytes(),
         b"\x1b[2Jback\\slash'",
     ];
-    for name in names {
-        let name = OsStr::from_bytes(name);
-        let words = ["put", "--as"].map(OsStr::new);
-        let (card, source) = (card.as_os_str(), source.as_os_str());
-        let said = goofs(&[words[0], card, source, words[1], name]);
-        assert_eq!(said.status, 0, "{}", said.err);
+    for (i, name) in names.into_iter().enumerate() {
+        good("put", &card, &[source, "--as=given"]);
+        name_by_hand(&card, 1 + i, name);
     }
     let ls = good("ls", &card, &[]);
     assert_eq!(ls.lines().count(), 1 + names.len(), "{ls}");
@@ -391,7 +393,7 @@ fn help_for_each_command() {
     let overview = goofs(&["--help"]);
     assert_eq!(overview.status, 0);
     for command in [
-        "info", "check", "ls", "get", "put", "rm", "resize", "recover", "format", "trial",
+        "info", "check", "ls", "get", "put", "rm", "mv", "resize", "recover", "format", "trial",
     ] {
         let said = goofs(&[command, "--help"]);
         assert_eq!(said.status, 0);

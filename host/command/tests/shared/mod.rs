@@ -132,6 +132,17 @@ pub fn formatted(folder: &Folder) -> PathBuf {
     card
 }
 
+/// Gives the file in this directory entry a name by hand, as a volume of before the rule of names may
+/// have one.
+pub fn name_by_hand(card: &Path, index: usize, name: &[u8]) {
+    let mut image = fs::read(card).unwrap();
+    let entry = &mut image[(2 + index) * 512..(3 + index) * 512];
+    entry[34..36].copy_from_slice(&(name.len() as u16).to_be_bytes());
+    entry[36..].fill(0);
+    entry[36..36 + name.len()].copy_from_slice(name);
+    fs::write(card, image).unwrap();
+}
+
 /// The numbers of a trial's last line in the table. The trial must find no difference and leave the
 /// card alone.
 pub fn numbers_of_trial(card: &Path, rest: &[&str]) -> [u64; 7] {

@@ -1,6 +1,8 @@
-//! The command killed at random moments, a thousand times: after each kill and a recovery the oracle
-//! must find every file as the rules say. What is done is drawn from a seed, which is printed and can
-//! be given again with KILL_SEED; the moments of the kills depend on the machine as well.
+//! The command killed at random moments: a thousand times within puts, of a new file and over an old
+//! one, small and of 1 MiB, and some times within the other changes. After each kill and a recovery the
+//! oracle must find every file as the rules say; of a put that is the old file or the new one, whole.
+//! What is done is drawn from a seed, which is printed and can be given again with KILL_SEED; the
+//! moments of the kills depend on the machine as well.
 
 mod shared;
 
@@ -18,21 +20,50 @@ use oracle::lists::RECORD;
 use oracle::{FormatRequest, Ledger, Request};
 use shared::{good, start, Folder};
 
-const KILLS: u64 = 1_000;
+/// Of each kind, in the order of `KINDS`; a thousand are of puts.
+const KILLS: [u64; 5] = [400, 400, 100, 100, 60];
 /// They are shared out among so many cards, as most of the time is spent at barriers.
-const CARDS: u64 = 4;
+const CARDS: u64 = 8;
 const SIGKILL: i32 = 9;
 const SECTOR: usize = 512;
 /// The most bytes that one change adds or writes.
 const PIECE: u64 = 65_536;
 /// Longer than any list.
 const LIST: usize = 1_100 * RECORD;
-const NAMES: [&str; 6] = ["beam", "gain", "temperature", "depth", "salinity", "clock"];
+const SMALL: [&str; 4] = ["beam", "gain", "temperature", "clock"];
+const LARGE: [&str; 1] = ["transect"];
+const MIB: u64 = 1 << 20;
+
+/// What is killed.
+#[derive(Clone, Copy, Debug, PartialEq, Eq)]
+enum Kind {
+    Put {
+        is_new: bool,
+        is_large: bool,
+    },
+    /// Rm, mv, resize, and a put in place.
+    Other,
+}
+
+const fn put(is_new: bool, is_large: bool) -> Kind {
+    Kind::Put { is_new, is_large }
+}
+
+const KINDS: [Kind; 5] = [
+    put(true, false),
+    put(false, false),
+    put(true, true),
+    put(false, true),
+    Kind::Other,
+];
 
 /// A command, and the calls that it comes to by its help.
 struct Work {
+    name: &'static str,
     words: Vec<String>,
     calls: Vec<Request>,
+    /// What a put saves.
+    contents: Option<Vec<u8>>,
 }
 
 struct Run {
@@ -54,17 +85,17 @@ fn seed() -> u64 {
 impl Run {
     fn new(seed: u64) -> Run {
         let folder = Folder::new(&format!("kills-{seed}"));
-        let card = folder.file("card");
-        // 16 extents, one of them reserved.
+        // Room for all files with what is left beside each, and the reserve.
         let format = FormatRequest {
-            sectors: 546 + 255 + 16 * 128,
+            sectors: 546 + 255 + 50 * 128,
             files: 255,
             id: 1,
             mode: 0o755,
             time: 1_000,
         };
-        let sectors = format.sectors.to_string();
-        good("format", &card, &["--sectors", &sectors, "--time", "1000"]);
+        // Written once, so that the file system has no more to note at the barriers.
+        let card = folder.write("card", &vec![0; format.sectors as usize * SECTOR]);
+        good("format", &card, &["--time", "1000"]);
         Run {
             folder,
             card,
@@ -79,42 +110,85 @@ impl Run {
         files.find(|file| file.name == name.as_bytes())
     }
 
-    /// How long a file of this name may become.
-    fn room(&self, name: &str) -> u64 {
-        let files = self.ledger.slots().iter().flatten();
-        let used: usize = files
-            .filter(|file| file.name != name.as_bytes())
-            .map(|file| file.extents.len())
-            .sum();
-        (self.ledger.geometry().usable_extents() - used as u64) * PIECE
-    }
-
-    /// A put of a new file or over an old one, an rm or a resize.
-    fn work(&mut self) -> Work {
-        let name = *self.draw.pick(&NAMES);
+    /// What is killed next. What it needs is done before, without a kill.
+    fn work(&mut self, kind: Kind) -> Work {
         self.time += 1;
-        let time = self.time;
-        let size = self.draw.below(self.room(name).min(5 * PIECE) + 1);
-        let old_size = self.file(name).map(|file| file.bytes.len() as u64);
-        let mut work = match (old_size, self.draw.below(4)) {
-            (Some(_), 0) => Work {
-                words: ["rm", name].map(String::from).to_vec(),
-                calls: vec![Request::Delete {
-                    name: name.into(),
-                    time,
-                }],
-            },
-            (Some(old_size), 1) => self.resize(name, old_size, size),
-            _ => self.put(name, old_size, size),
+        let mut work = match kind {
+            Kind::Put { is_new, is_large } => {
+                let (names, size) = match is_large {
+                    true => (&LARGE[..], MIB),
+                    false => (&SMALL[..], self.draw.between(1, 3_000)),
+                };
+                // One for which nothing is to be done before, if there is one.
+                let mut fitting = names.to_vec();
+                fitting.retain(|name| self.file(name).is_none() == is_new);
+                let fitting = match fitting.is_empty() {
+                    true => names,
+                    false => &fitting,
+                };
+                let name = *self.draw.pick(fitting);
+                match (is_new, self.file(name).is_some()) {
+                    (true, true) => self.whole(rm(name, self.time)),
+                    (false, false) => {
+                        let first = self.save(name, size);
+                        self.whole(first);
+                    }
+                    _ => (),
+                }
+                self.save(name, size)
+            }
+            Kind::Other => {
+                let name = *self.draw.pick(&SMALL);
+                if self.file(name).is_none() {
+                    let first = self.save(name, 2_500);
+                    self.whole(first);
+                }
+                let size = self.draw.below(2 * PIECE + 1);
+                match self.draw.below(4) {
+                    0 => rm(name, self.time),
+                    1 => self.mv(name),
+                    2 => self.resize(name, size),
+                    _ => self.put_in_place(name, size),
+                }
+            }
         };
-        work.words.extend(["--time".to_string(), time.to_string()]);
+        let time = ["--time".to_string(), self.time.to_string()];
+        work.words.extend(time);
         work
     }
 
+    /// Does it without a kill.
+    fn whole(&mut self, work: Work) {
+        let time = self.time.to_string();
+        let rest: Vec<&str> = work.words[1..].iter().map(String::as_str).collect();
+        let rest = [&rest[..], &["--time", &time]].concat();
+        good(&work.words[0], &self.card, &rest);
+        for call in &work.calls {
+            assert_eq!(self.ledger.call(call, LIST).answer.code(), 0, "{call:?}");
+        }
+    }
+
+    /// Another name, which a file may have: that one is gone then.
+    fn mv(&mut self, name: &'static str) -> Work {
+        let mut others = SMALL.to_vec();
+        others.retain(|other| *other != name);
+        let new = *self.draw.pick(&others);
+        Work {
+            name: new,
+            words: ["mv", name, new].map(String::from).to_vec(),
+            calls: vec![Request::Rename {
+                old: name.into(),
+                new: new.into(),
+                time: self.time,
+            }],
+            contents: None,
+        }
+    }
+
     /// A file grows by at most a piece at a time.
-    fn resize(&self, name: &str, old_size: u64, size: u64) -> Work {
+    fn resize(&self, name: &'static str, size: u64) -> Work {
         let mut calls = Vec::new();
-        let mut reached = old_size;
+        let mut reached = self.file(name).expect("it is there").bytes.len() as u64;
         while reached != size {
             reached = size.min(reached + PIECE);
             calls.push(Request::Resize {
@@ -124,45 +198,97 @@ impl Run {
             });
         }
         Work {
+            name,
             words: ["resize", name, &size.to_string()]
                 .map(String::from)
                 .to_vec(),
             calls,
+            contents: None,
         }
     }
 
-    fn put(&mut self, name: &str, old_size: Option<u64>, size: u64) -> Work {
-        let contents = self.draw.bytes(size as usize);
-        let file = self.folder.write(name, &contents);
-        let time = self.time;
-        let files = self.ledger.slots().iter().flatten();
-        let greatest = files.map(|file| file.id).max().unwrap_or(1);
-        let create = Request::Create {
-            name: name.into(),
-            id: greatest.max(1) + 1,
-            mode: 0o644,
-            time,
-        };
-        let mut calls: Vec<Request> = old_size.is_none().then_some(create).into_iter().collect();
-        for (i, data) in contents.chunks(PIECE as usize).enumerate() {
-            calls.push(Request::Write {
+    /// The contents in pieces, from the start of the file on.
+    fn writes(&self, name: &str, contents: &[u8]) -> Vec<Request> {
+        let pieces = contents.chunks(PIECE as usize).enumerate();
+        pieces
+            .map(|(i, data)| Request::Write {
                 name: name.into(),
                 offset: i as u64 * PIECE,
                 data: data.to_vec(),
-                time,
-            });
+                time: self.time,
+            })
+            .collect()
+    }
+
+    /// What a put that was killed has left is removed by the next one.
+    fn removal(&self, beside: &str) -> Vec<Request> {
+        let time = self.time;
+        let left = self.file(beside).map(|file| Request::Delete {
+            name: file.name.clone(),
+            time,
+        });
+        left.into_iter().collect()
+    }
+
+    /// A put beside and the rename.
+    fn save(&mut self, name: &'static str, size: u64) -> Work {
+        let contents = self.draw.bytes(size as usize);
+        let file = self.folder.write(name, &contents);
+        let beside = format!("{name}.goofs-saving");
+        let files = self.ledger.slots().iter().flatten();
+        let greatest = files.map(|file| file.id).max().unwrap_or(1);
+        let mut calls = self.removal(&beside);
+        calls.push(Request::Create {
+            name: beside.clone().into(),
+            id: greatest.max(1) + 1,
+            mode: 0o644,
+            time: self.time,
+        });
+        calls.extend(self.writes(&beside, &contents));
+        calls.push(Request::Rename {
+            old: beside.into(),
+            new: name.into(),
+            time: self.time,
+        });
+        Work {
+            name,
+            words: vec!["put".to_string(), file.to_str().unwrap().to_string()],
+            calls,
+            contents: Some(contents),
         }
-        if old_size > Some(size) {
+    }
+
+    fn put_in_place(&mut self, name: &'static str, size: u64) -> Work {
+        let contents = self.draw.bytes(size as usize);
+        let file = self.folder.write(name, &contents);
+        let mut calls = self.removal(&format!("{name}.goofs-saving"));
+        calls.extend(self.writes(name, &contents));
+        if self.file(name).expect("it is there").bytes.len() as u64 > size {
             calls.push(Request::Resize {
                 name: name.into(),
                 size,
-                time,
+                time: self.time,
             });
         }
+        let words = ["put", file.to_str().unwrap(), "--in-place"];
         Work {
-            words: vec!["put".to_string(), file.to_str().unwrap().to_string()],
+            name,
+            words: words.map(String::from).to_vec(),
             calls,
+            contents: None,
         }
+    }
+}
+
+fn rm(name: &'static str, time: u32) -> Work {
+    Work {
+        name,
+        words: ["rm", name].map(String::from).to_vec(),
+        calls: vec![Request::Delete {
+            name: name.into(),
+            time,
+        }],
+        contents: None,
     }
 }
 
@@ -243,27 +369,32 @@ fn landed(ledger: &Ledger, call: &Request, image: &[u8]) -> Option<CutReport> {
 }
 
 /// How often a kill came so late that recovery had something to do, between two calls of a command,
-/// and within a write that put bytes in the place of old ones.
+/// and within a write that put bytes in the place of old ones; and, of the puts beside, after how many
+/// kills the name stood for the old file (or for none), and for the new one.
 #[derive(Clone, Copy, Debug, Default)]
 struct Counts {
     recovered: u64,
     between: u64,
     within: u64,
+    old: u64,
+    new: u64,
 }
 
-/// So many kills on one card.
-fn kills(seed: u64, most: u64) -> Counts {
+/// So many kills of each kind on one card.
+fn kills(seed: u64, mut most: [u64; 5]) -> Counts {
     let mut run = Run::new(seed);
     let mut counts = Counts::default();
-    let mut kills = 0;
     // The time of a command without a kill, by the number of its calls.
     let (mut first, mut each) = (Duration::ZERO, Duration::ZERO);
-    for round in 0_u64.. {
-        let work = run.work();
+    for round in 0.. {
+        let Some(kind) = most.iter().position(|left| *left > 0) else {
+            break;
+        };
+        let work = run.work(KINDS[kind]);
         let words = &work.words;
         let calls = work.calls.len() as u32;
-        // Now and then one goes through, so that there is something to change, and its time is taken.
-        let was_killed = if round.is_multiple_of(16) {
+        // Now and then one goes through, and its time is taken.
+        let was_killed = if round % 16 == 0 {
             let begun = Instant::now();
             let rest: Vec<&str> = words[1..].iter().map(String::as_str).collect();
             good(&words[0], &run.card, &rest);
@@ -277,7 +408,7 @@ fn kills(seed: u64, most: u64) -> Counts {
             let moment = run.draw.below(longest.as_nanos() as u64);
             killed_after(Duration::from_nanos(moment), &run.card, words)
         };
-        kills += u64::from(was_killed);
+        most[kind] -= u64::from(was_killed);
         let was_cut = good("recover", &run.card, &[]).starts_with("recovered");
         assert!(was_killed || !was_cut, "KILL_SEED={seed}: {words:?}");
 
@@ -292,12 +423,18 @@ fn kills(seed: u64, most: u64) -> Counts {
         for call in &work.calls[..done] {
             whole.call(call, LIST);
         }
+        let old = run.file(work.name).map(|file| file.bytes.clone());
         counts.recovered += u64::from(was_cut);
         counts.between += u64::from(done > 0 && !is_whole);
         counts.within += u64::from(whole != ledger);
         run.ledger = ledger;
-        if kills == most {
-            break;
+        // In one sentence what the ledger says of a put: never a mixture, never a lost file.
+        if let Some(contents) = work.contents {
+            let now = run.file(work.name).map(|file| file.bytes.clone());
+            let is_new = now.as_ref() == Some(&contents);
+            assert!(is_new || now == old, "KILL_SEED={seed}: {words:?}");
+            counts.new += u64::from(was_killed && is_new);
+            counts.old += u64::from(was_killed && !is_new);
         }
     }
     counts
@@ -307,23 +444,32 @@ fn kills(seed: u64, most: u64) -> Counts {
 fn a_thousand_kills() {
     let seed = seed();
     println!("KILL_SEED={seed}");
+    // The first cards take what is left over.
+    let share = |all: u64, card: u64| all / CARDS + u64::from(card < all % CARDS);
     let counts = thread::scope(|scope| {
-        let cards = [(); CARDS as usize];
-        let mut next = seed;
-        let runs = cards.map(|()| {
-            let seed = next;
-            next = next.wrapping_add(1);
-            scope.spawn(move || kills(seed, KILLS / CARDS))
-        });
-        runs.map(|run| run.join().expect("the files are as the rules say"))
+        let cards: Vec<_> = (0..CARDS)
+            .map(|card| {
+                let most = KILLS.map(|all| share(all, card));
+                scope.spawn(move || kills(seed.wrapping_add(card), most))
+            })
+            .collect();
+        let counts = cards.into_iter().map(|run| run.join());
+        counts
+            .map(|counts| counts.expect("the files are as the rules say"))
+            .collect::<Vec<_>>()
     });
     let sum = |count: fn(&Counts) -> u64| counts.iter().map(count).sum::<u64>();
     let (recovered, between) = (sum(|c| c.recovered), sum(|c| c.between));
-    let within = sum(|c| c.within);
-    println!("{recovered} recovered, {between} between two calls, {within} within a write");
+    let (within, old, new) = (sum(|c| c.within), sum(|c| c.old), sum(|c| c.new));
+    println!(
+        "{recovered} recovered, {between} between two calls, {within} within a write in place; \
+         of {} kills of puts {old} left the old file or none, {new} the new one",
+        old + new
+    );
+    assert_eq!(old + new, 1_000);
     // Else the moments were too early or too late to show anything.
     assert!(
-        recovered > 0 && between > 0 && within > 0,
+        recovered > 0 && between > 0 && old > 0 && new > 0,
         "KILL_SEED={seed}: {counts:?}"
     );
 }

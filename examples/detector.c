@@ -4,8 +4,8 @@
  *     detector IMAGE                    prints the calibration
  *     detector IMAGE TEXT               saves TEXT as the calibration, reads it back and prints it
  *
- * Each start first finishes a change that was cut. The calls take some hundred KiB of stack (include/goofs.h says how much); a
- * thread with a small stack must be given more before it makes one.
+ * Each start first finishes a change that was cut, and removes what a save that was cut has left. The calls take some hundred KiB of
+ * stack (include/goofs.h says how much); a thread with a small stack must be given more before it makes one.
  *
  *     cc -std=c99 -Iinclude examples/detector.c target/staticlib/libgoofs.a -o detector
  */
@@ -25,13 +25,15 @@
 
 #include "goofs.h"
 
-/* The calibration fills exactly one sector, padded with zeros, and never has another size. A write's data sectors go to their
- * places before the start mark, so after a cut a longer file may be new in one sector and old in the next, and one that was to grow
- * may have new bytes and its old size. A single sector of a fixed size is old or new. */
+/* The calibration fills exactly one sector, padded with zeros, and never has another size. */
 enum { CALIBRATION_SIZE = GOOFS_SECTOR };
 
+/* A calibration is written beside the one that is there, under a name of its own, and takes the name with a rename when it is whole.
+ * So after a cut anywhere the name stands for the old one or the new one, of any size. Written over the old one it would not: a
+ * write's data sectors go to their places before the start mark. The command goofs has the same name for a file beside another. */
 static const uint8_t name[] = "calibration";
-enum { NAME_LENGTH = sizeof name - 1 };
+static const uint8_t beside[] = "calibration.goofs-saving";
+enum { NAME_LENGTH = sizeof name - 1, BESIDE_LENGTH = sizeof beside - 1 };
 
 enum { FILES = 255, ROOT_ID = 1, MODE = 0644 };
 
@@ -59,6 +61,8 @@ static const char *const refusals[] = {
 static union {
     uint8_t create[GOOFS_CREATE_LIST];
     uint8_t write[GOOFS_WRITE_LIST];
+    uint8_t rename[GOOFS_RENAME_LIST];
+    uint8_t removal[GOOFS_DELETE_LIST];
     uint8_t recover[GOOFS_RECOVER_LIST];
 } list;
 
@@ -231,12 +235,13 @@ static void format(const char *path, uint64_t sectors)
         system_failure(path);
 }
 
-/* What a detector does first when it is switched on: make sure of what it reads, finish a change that was cut, then see whether the
- * volume is sound. */
+/* What a detector does first when it is switched on: make sure of what it reads, finish a change that was cut, see whether the volume
+ * is sound, and remove a file beside that a save did not come to rename. */
 static void start(struct card *card)
 {
     goofs_summary_result summary;
     goofs_check_result check;
+    goofs_change_result answer;
 
     /* What the system shows may not be on the medium, if a barrier has failed or a program was ended. It is asked to forget that;
      * but it need not, so a mark is sent again before anything rests on it (see goofs.h). */
@@ -260,6 +265,12 @@ static void start(struct card *card)
         fprintf(stderr, "detector: fault %" PRIu64 " at %s %" PRIu64 "\n", check.fault,
                 check.fault == GOOFS_FAULT_TABLE ? "extent" : "file", check.place);
     done("check", check.code);
+    answer = goofs_delete(card->image, card->length, beside, BESIDE_LENGTH, (uint32_t)time(NULL), list.removal, sizeof list.removal);
+    if (answer.code == GOOFS_NOT_THERE)
+        return;
+    done("delete", answer.code);
+    carry_out(card, list.removal, answer.length);
+    fputs("detector: removed what a save that was cut had left\n", stderr);
 }
 
 /* The calibration's entry. Without one the code is GOOFS_NOT_THERE and the size, like all other numbers of a refusal, 0. */
@@ -274,31 +285,34 @@ static goofs_find_result find(const struct card *card)
     return found;
 }
 
+/* A save needs a free entry and a free extent beside the old calibration. If it is refused, that one stays as it is. */
 static void save(struct card *card, const char *text)
 {
     uint32_t now = (uint32_t)time(NULL);
     uint8_t calibration[CALIBRATION_SIZE] = {0};
     goofs_change_result answer;
+    uint64_t id = 0;
 
     if (strlen(text) > sizeof calibration)
         failure("the text is too long");
     memcpy(calibration, text, strlen(text));
-    if (find(card).code == GOOFS_NOT_THERE) {
-        /* The name is not there, so here GOOFS_ALREADY_THERE means that the id is taken. Only the root and the files have ids, and
-         * a refusal changes nothing: a free id is found after at most one attempt for each of them. */
-        uint64_t id = 0;
-        do {
-            id++;
-            answer = goofs_create(card->image, card->length, name, NAME_LENGTH, id, MODE, now, list.create, sizeof list.create);
-        } while (answer.code == GOOFS_ALREADY_THERE);
-        done("create", answer.code);
-        carry_out(card, list.create, answer.length);
-    }
-    /* If the power goes between the two changes, the file is there and empty. */
-    answer = goofs_write(card->image, card->length, name, NAME_LENGTH, 0, calibration, sizeof calibration, now, list.write,
+    (void)find(card); /* a calibration of another program is not replaced */
+    /* The start has removed any file beside, so here GOOFS_ALREADY_THERE means that the id is taken. Only the root and the files have
+     * ids, and a refusal changes nothing: a free id is found after at most one attempt for each of them. */
+    do {
+        id++;
+        answer = goofs_create(card->image, card->length, beside, BESIDE_LENGTH, id, MODE, now, list.create, sizeof list.create);
+    } while (answer.code == GOOFS_ALREADY_THERE);
+    done("create", answer.code);
+    carry_out(card, list.create, answer.length);
+    answer = goofs_write(card->image, card->length, beside, BESIDE_LENGTH, 0, calibration, sizeof calibration, now, list.write,
                          sizeof list.write);
     done("write", answer.code);
     carry_out(card, list.write, answer.length);
+    /* The swap, in one change: from its start mark on the name stands for the new calibration, and the old one is gone. */
+    answer = goofs_rename(card->image, card->length, beside, BESIDE_LENGTH, name, NAME_LENGTH, now, list.rename, sizeof list.rename);
+    done("rename", answer.code);
+    carry_out(card, list.rename, answer.length);
 }
 
 static void print(const struct card *card)

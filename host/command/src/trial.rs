@@ -117,8 +117,12 @@ pub fn run(arguments: &Arguments) -> Result<(), Failure> {
     let mut draw = Draw(seed);
     let every = arguments.flag("every");
     let mut all = Tally::default();
+    // As wide as the longest change.
+    let widths = changes.iter().map(|change| words(change).chars().count());
+    let width = widths.max().unwrap_or(0).max(28);
+    let line = |what: &str, tally: &Tally| line(what, width, tally);
     print(&format!(
-        "{:<28} {:>7} {:>7} {:>10} {:>7} {:>7} {:>7} {:>9}\n",
+        "{:<width$} {:>7} {:>7} {:>10} {:>7} {:>7} {:>7} {:>9}\n",
         "change", "writes", "cuts", "recoveries", "before", "part", "after", "different"
     ))?;
     let unfit = |end| match end {
@@ -197,9 +201,9 @@ fn words(change: &Change) -> String {
     }
 }
 
-fn line(what: &str, tally: &Tally) -> String {
+fn line(what: &str, width: usize, tally: &Tally) -> String {
     format!(
-        "{what:<28} {:>7} {:>7} {:>10} {:>7} {:>7} {:>7} {:>9}\n",
+        "{what:<width$} {:>7} {:>7} {:>10} {:>7} {:>7} {:>7} {:>9}\n",
         tally.writes,
         tally.cuts,
         tally.recoveries,

@@ -184,13 +184,24 @@ pub fn no_room(card: &OsStr, name: &[u8], space: Space) -> Failure {
     }
 }
 
+/// How to write over an old file, and what that means. In place it keeps its id and mode.
+pub fn in_place_instead(is_given: bool) -> String {
+    let options = match is_given {
+        true => " and leave --id and --mode out",
+        false => "",
+    };
+    format!(
+        "add --in-place{options}, which writes over the old file: then a cut of the power can leave a \
+         part of the new bytes among the old ones"
+    )
+}
+
 /// Makes the failure of a save for which there is no room, or no entry, beside the old file.
-pub fn no_room_for_both(card: &OsStr, refusal: Refusal, what: String) -> Failure {
+pub fn no_room_for_both(card: &OsStr, refusal: Refusal, what: String, is_given: bool) -> Failure {
     let next = format!(
-        "remove a file that is not needed (goofs rm {} NAME) and give the command again; or add \
-         --in-place, which writes over the old file: then a cut of the power can leave a part of \
-         the new bytes among the old ones",
-        quoted(card)
+        "remove a file that is not needed (goofs rm {} NAME) and give the command again; or {}",
+        quoted(card),
+        in_place_instead(is_given)
     );
     Failure::Card {
         card: card.to_owned(),

@@ -15,7 +15,8 @@ use crate::arguments::{self, Arguments};
 use crate::card;
 use crate::changing::{apply, time, NewFile};
 use crate::failure::{
-    no_room, no_room_for_both, not_beside, of_call, of_card, of_file, of_new, quoted, Failure,
+    in_place_instead, no_room, no_room_for_both, not_beside, of_call, of_card, of_file, of_new,
+    quoted, Failure,
 };
 use crate::space::Space;
 use crate::text;
@@ -116,6 +117,8 @@ pub struct Put<'p> {
     save: Save<'p>,
     /// Whether an old file is written over.
     in_place: bool,
+    /// Whether the new file's id or mode is given.
+    is_given: bool,
 }
 
 /// Looks the files up on the volume.
@@ -131,6 +134,7 @@ pub fn look_up<'p>(
         [_] => "give another with --as NAME",
         _ => "put this file alone, with --as NAME",
     };
+    let is_given = new_file.is_given();
     let mut new_ids = Vec::new();
     let mut puts = Vec::new();
     for source in sources {
@@ -143,11 +147,13 @@ pub fn look_up<'p>(
         let save = Save::new(image, name, id, new_file.mode, time);
         let save = save.map_err(of_card(card))?;
         match &save.old {
-            Some(_) if in_place && new_file.is_given() => return Err(already_there(card, name)),
+            Some(_) if in_place && is_given => return Err(already_there(card, name)),
             Some(_) if in_place => (),
             Some(old) if new_file.id == Some(old.id) => return Err(same_id(card, name, old.id)),
             old => save.judge(image).map_err(|refusal| match old {
-                Some(_) if refusal == Refusal::BadArgument && id != 0 => not_replaced(card, name),
+                Some(_) if refusal == Refusal::BadArgument && id != 0 => {
+                    not_replaced(card, name, is_given)
+                }
                 _ => of_new(card, name, new_file.id, another)(refusal),
             })?,
         }
@@ -155,6 +161,7 @@ pub fn look_up<'p>(
             source,
             save,
             in_place,
+            is_given,
         });
     }
     Ok(puts)
@@ -198,7 +205,8 @@ pub fn of_put<'p>(card: &'p OsStr, puts: &'p [Put]) -> impl Fn(Error) -> Failure
         Error::Refused(refusal @ Refusal::DirectoryFull)
             if puts.iter().all(|put| put.save.old.is_some()) =>
         {
-            no_room_for_both(card, refusal, "each new file".to_string())
+            let is_given = puts.iter().any(|put| put.is_given);
+            no_room_for_both(card, refusal, "each new file".to_string(), is_given)
         }
         error => of_card(card)(error),
     }
@@ -219,22 +227,22 @@ fn same_id(card: &OsStr, name: &[u8], id: u64) -> Failure {
     Failure::Other(format!(
         "{}: {} has the id {id} itself, and the new file is saved beside it, with an id of its own. \
          Nothing was changed.\n\
-         Next: leave --id out, or give --in-place instead of it, which writes over the old file and \
-         leaves it its id: then a cut of the power can leave a part of the new bytes among the old ones.",
+         Next: leave --id out; or, to keep the id, {}.",
         quoted(card),
-        text::word(name)
+        text::word(name),
+        in_place_instead(true)
     ))
 }
 
 /// A file of a name that can't be given any more stays as it is, or is written over.
-fn not_replaced(card: &OsStr, name: &[u8]) -> Failure {
+fn not_replaced(card: &OsStr, name: &[u8], is_given: bool) -> Failure {
     let (card, name) = (quoted(card), text::word(name));
     Failure::Other(format!(
         "{card}: refused (8): {name} is a name that no new file may have, so the file can't be replaced. \
          Nothing was changed.\n\
          Next: give the file a name of letters, digits and signs of ASCII first: \
-         goofs mv {card} -- {name} NEW; and put to that one. Or add --in-place, which writes over the \
-         old file: then a cut of the power can leave a part of the new bytes among the old ones."
+         goofs mv {card} -- {name} NEW; and put to that one with --as NEW. Or {}.",
+        in_place_instead(is_given)
     ))
 }
 
@@ -269,6 +277,7 @@ impl Put<'_> {
                 card,
                 Refusal::NoRoom,
                 format!("{}: {space}; the new file", text::word(name)),
+                self.is_given,
             )),
         }
     }

@@ -350,6 +350,12 @@ fn no_room_for_both() {
         "{err}"
     );
     assert!(err.contains("goofs rm") && err.contains("--in-place"));
+    // In place the file keeps its mode, and the advice says that, too.
+    let err = bad("put", &card, &[file, "--as=f", "--mode=600"], 1);
+    assert!(
+        err.contains("add --in-place and leave --id and --mode out"),
+        "{err}"
+    );
     // Both advices: in place, or with room for both.
     let held = fs::read(&card).unwrap();
     good("put", &card, &[file, "--as=f", "--in-place"]);

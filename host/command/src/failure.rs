@@ -5,7 +5,7 @@ use std::fmt;
 use std::io::{self, ErrorKind};
 use std::os::unix::ffi::OsStrExt;
 
-use goofs::error::{Error, Refusal};
+use goofs::error::{Error, FaultKind, Refusal};
 use goofs::image::LONGEST_NAME;
 use goofs::names;
 
@@ -295,11 +295,21 @@ fn after_refusal(refusal: Refusal, card: &str) -> String {
             "the files can't be read any more. Keep a copy of the card (dd if={card} of=COPY) if \
              someone is to look at it; then goofs format {card} --yes, and put the files back"
         ),
-        Refusal::NotSound(_) => format!(
-            "no file is read or changed on a volume that is not sound. Keep a copy of the card \
-             (dd if={card} of=COPY) if someone is to look at it; then goofs format {card} --yes, and \
-             put the files back"
-        ),
+        Refusal::NotSound(fault) => {
+            // The reserve of some volumes has grown by an extent, which a file of before may hold.
+            let older = match fault.kind {
+                FaultKind::NameOrSize | FaultKind::TableEntry => {
+                    "If the card was filled by a goofs that had no mv, copy the files with that one \
+                     first: here the reserve may be larger. "
+                }
+                _ => "",
+            };
+            format!(
+                "no file is read or changed on a volume that is not sound. {older}Keep a copy of the \
+                 card (dd if={card} of=COPY) if someone is to look at it; then goofs format {card} \
+                 --yes, and put the files back"
+            )
+        }
         Refusal::BadArgument => {
             "keep to the bounds: a new name has 1 to 476 letters, digits and signs of ASCII without \
              space and slash, an id is not 0, one write has at most 65536 bytes; a format has 255 to \
@@ -463,7 +473,7 @@ impl fmt::Display for Failure {
 #[cfg(test)]
 mod tests {
     use super::*;
-    use goofs::error::{Fault, FaultKind, Interrupted};
+    use goofs::error::{Fault, Interrupted};
 
     const REFUSALS: [Refusal; 14] = [
         Refusal::NotWholeSectors,
@@ -496,6 +506,20 @@ mod tests {
             );
             assert!(text.contains(". Nothing was changed.\nNext: "), "{text}");
             assert!(text.ends_with('.'), "{text}");
+        }
+    }
+
+    /// A full volume of before rename may have a file where the reserve is now.
+    #[test]
+    fn older_volumes() {
+        for (kind, is_told) in [
+            (FaultKind::NameOrSize, true),
+            (FaultKind::TableEntry, true),
+            (FaultKind::SameName, false),
+        ] {
+            let refusal = Refusal::NotSound(Fault { kind, place: 9 });
+            let text = of_card(OsStr::new("card"))(refusal).to_string();
+            assert_eq!(text.contains("a goofs that had no mv"), is_told, "{text}");
         }
     }
 

@@ -180,7 +180,7 @@ pub struct ReadAnswer {
     pub count: u64,
 }
 
-/// The answer of create, delete, resize and write; the length is that of the list, in bytes.
+/// The answer of create, delete, resize, write and rename; the length is that of the list, in bytes.
 #[derive(Clone, Copy, Debug, Default, PartialEq, Eq)]
 pub struct ChangeAnswer {
     pub code: u64,

@@ -47,7 +47,7 @@ pub fn write(
     answer(write_file(image, name, offset, data, time, list))
 }
 
-fn answer(length: Result<u64, Refusal>) -> ChangeAnswer {
+pub(crate) fn answer(length: Result<u64, Refusal>) -> ChangeAnswer {
     match length {
         Ok(length) => ChangeAnswer {
             length,
@@ -221,7 +221,11 @@ fn write_span(
 }
 
 /// The list of a call without data sectors, or refusal 14.
-fn transaction(volume: Volume, targets: &[Target], list: &mut [u8]) -> Result<u64, Refusal> {
+pub(crate) fn transaction(
+    volume: Volume,
+    targets: &[Target],
+    list: &mut [u8],
+) -> Result<u64, Refusal> {
     if list.len() < list_length(0, targets.len()) {
         return Err(Refusal::new(code::BUFFER_TOO_SHORT));
     }
@@ -230,8 +234,8 @@ fn transaction(volume: Volume, targets: &[Target], list: &mut [u8]) -> Result<u6
     Ok(writer.filled())
 }
 
-/// The root after a create or delete.
-fn changed_root(volume: Volume, time: u32) -> Target {
+/// The root after a create, delete or rename.
+pub(crate) fn changed_root(volume: Volume, time: u32) -> Target {
     let mut contents = *volume.root();
     let version = get32(&contents, root::VERSION).wrapping_add(1);
     put32(&mut contents, root::VERSION, version);
@@ -261,7 +265,7 @@ fn changed_entry(volume: Volume, file: FileIndex, size: u64, time: u32) -> Targe
 
 /// The table sectors in which one of these extents is freed, in rising order. A file's extents may
 /// stand in any order and in any table sector.
-fn freed_table(volume: Volume, freed: &[Extent]) -> Vec<Target> {
+pub(crate) fn freed_table(volume: Volume, freed: &[Extent]) -> Vec<Target> {
     let mut freed = freed.to_vec();
     freed.sort_unstable();
     let mut targets: Vec<Target> = Vec::new();

@@ -116,9 +116,9 @@ impl Geometry {
     }
 
     /// Extents at the end of the data area that stage copies and never belong to a file: enough for
-    /// the root, one directory entry and the whole table.
+    /// the root, two directory entries and the whole table.
     pub fn reserve_extents(&self) -> u64 {
-        (self.table_sectors() + 2).div_ceil(self.extent_sectors)
+        (self.table_sectors() + 3).div_ceil(self.extent_sectors)
     }
 
     /// Extents that may belong to a file; they stand before the reserve.

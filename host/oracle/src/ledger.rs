@@ -82,6 +82,12 @@ enum Change {
         extent: Option<Extent>,
         time: u32,
     },
+    Rename {
+        slot: usize,
+        name: Vec<u8>,
+        replaced: Option<usize>,
+        time: u32,
+    },
 }
 
 impl Ledger {
@@ -221,6 +227,7 @@ impl Ledger {
                 data,
                 time,
             } => self.write(name, *offset, data, *time)?,
+            Request::Rename { old, new, time } => self.rename(old, new, *time)?,
             // The other calls have no list.
             _ => (0, Change::Nothing),
         };
@@ -369,6 +376,26 @@ impl Ledger {
         self.put(slot, file, offset as usize, data.to_vec(), time)
     }
 
+    fn rename(&self, old: &[u8], new: &[u8], time: u32) -> Result<(usize, Change), Refusal> {
+        if bad_name(old) || bad_name(new) {
+            return Err(Refusal::new(code::BAD_ARGUMENT));
+        }
+        let (slot, _) = self.find(old)?;
+        if old == new {
+            return Ok((0, Change::Nothing));
+        }
+        let replaced = self.files().find(|(_, file)| file.name == new);
+        let replaced_targets =
+            replaced.map_or(0, |(_, file)| 1 + table_sectors_with(&file.extents));
+        let change = Change::Rename {
+            slot,
+            name: new.to_vec(),
+            replaced: replaced.map(|(slot, _)| slot),
+            time,
+        };
+        Ok((length_by_groups(0, 2 + replaced_targets), change))
+    }
+
     fn put(
         &self,
         slot: usize,
@@ -456,6 +483,18 @@ impl Ledger {
                 }
                 file.bytes[offset..end].copy_from_slice(&data);
                 file.extents.extend(extent);
+            }
+            Change::Rename {
+                slot,
+                name,
+                replaced,
+                time,
+            } => {
+                self.change_root(time);
+                self.changed_file(slot, time).name = name;
+                if let Some(replaced) = replaced {
+                    self.slots[replaced] = None;
+                }
             }
         }
     }

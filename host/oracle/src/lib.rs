@@ -7,6 +7,7 @@
 //! - `judge`: opening an image, its state and its faults;
 //! - `calls`: summary, check, find, list and read;
 //! - `changes`: create, delete, resize and write;
+//! - `rename`: rename, also onto an existing name;
 //! - `recovery`: finishing a transaction that a power cut interrupted;
 //! - `format`: the geometry for a sector count, and the format's records;
 //! - `lists`: write lists and carrying them out;
@@ -31,6 +32,7 @@ pub mod ledger;
 pub mod lists;
 pub mod power;
 pub mod recovery;
+pub mod rename;
 pub mod report;
 pub mod request;
 pub mod testing;
@@ -41,6 +43,7 @@ pub use format::{format_record, FormatRequest};
 pub use ledger::Ledger;
 pub use lists::carry_out;
 pub use recovery::recover;
+pub use rename::rename;
 pub use request::{Answer, Request};
 
 #[cfg(test)]

@@ -43,6 +43,11 @@ pub enum Request {
         data: Vec<u8>,
         time: u32,
     },
+    Rename {
+        old: Vec<u8>,
+        new: Vec<u8>,
+        time: u32,
+    },
 }
 
 #[derive(Clone, Copy, Debug, PartialEq, Eq)]
@@ -86,6 +91,9 @@ impl Request {
                 data,
                 time,
             } => Answer::Change(changes::write(image, name, *offset, data, *time, buffer)),
+            Request::Rename { old, new, time } => {
+                Answer::Change(crate::rename(image, old, new, *time, buffer))
+            }
         }
     }
 }

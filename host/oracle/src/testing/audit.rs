@@ -131,7 +131,7 @@ fn file_named<'l>(ledger: &'l Ledger, name: &[u8]) -> &'l File {
 fn expected_targets(before: &Ledger, after: &Ledger) -> Vec<u64> {
     let geometry = before.geometry();
     let mut sectors = Vec::new();
-    if before.slots().iter().flatten().count() != after.slots().iter().flatten().count() {
+    if before.root() != after.root() {
         sectors.push(1);
     }
     for (index, (old, new)) in before.slots().iter().zip(after.slots()).enumerate() {
@@ -172,10 +172,13 @@ fn expected_target(before: &Ledger, after: &Ledger, image: &[u8], sector: u64) -
         match (&before.slots()[index], &after.slots()[index]) {
             (_, None) => contents = [0; SECTOR],
             (None, Some(file)) => contents = fresh_entry(file),
-            (Some(_), Some(file)) => {
+            (Some(old), Some(file)) => {
                 put64(&mut contents, 2, file.bytes.len() as u64);
                 put32(&mut contents, 10, file.version);
                 put32(&mut contents, 30, file.change_time);
+                if old.name != file.name {
+                    put_name(&mut contents, &file.name);
+                }
             }
         }
     } else {
@@ -199,9 +202,15 @@ fn fresh_entry(file: &File) -> [u8; SECTOR] {
     put32(&mut contents, 22, file.mode);
     put32(&mut contents, 26, file.access_time);
     put32(&mut contents, 30, file.change_time);
-    put16(&mut contents, 34, file.name.len() as u16);
-    contents[36..36 + file.name.len()].copy_from_slice(&file.name);
+    put_name(&mut contents, &file.name);
     contents
+}
+
+/// A new name; the bytes after it are zero.
+fn put_name(contents: &mut [u8; SECTOR], name: &[u8]) {
+    contents[36..].fill(0);
+    put16(contents, 34, name.len() as u16);
+    contents[36..36 + name.len()].copy_from_slice(name);
 }
 
 fn old_sector(image: &[u8], sector: u64) -> [u8; SECTOR] {

@@ -2,7 +2,7 @@
 //! are cut by all prefixes, all singles, all but one, and some random subsets.
 
 use super::audit::audit;
-use super::requests::{create, delete, resize, write};
+use super::requests::{create, delete, rename, resize, write};
 use super::volumes::{format_list, Volume, ANY_LIST, SAMPLE};
 use super::{Counts, Oracle, Subject};
 use crate::answers::{code, state, SummaryAnswer};
@@ -46,6 +46,10 @@ fn calls_with_lists(draw: &mut Draw) -> Vec<Request> {
         resize(b"alpha", 70_001),
         resize(b"alpha", 70_000 + 65_536),
         resize(b"beta", 600),
+        // To a new name; onto a file with extents and onto one without.
+        rename(b"alpha", b"gamma"),
+        rename(b"beta", b"alpha"),
+        rename(b"alpha", b"beta"),
     ]
 }
 
@@ -56,7 +60,7 @@ pub fn cut_each_kind_of_call(subject: &dyn Subject) -> Counts {
     cut_everywhere(subject, &two_files(), &requests, &mut draw)
 }
 
-/// Cuts a delete and a resize everywhere whose freed extents stand in two table sectors.
+/// Cuts a delete, a resize and a rename everywhere whose freed extents stand in two table sectors.
 pub fn cut_over_two_table_sectors(subject: &dyn Subject) -> Counts {
     let format = FormatRequest {
         sectors: 546 + 255 + 130 * 128,
@@ -64,10 +68,15 @@ pub fn cut_over_two_table_sectors(subject: &dyn Subject) -> Counts {
     };
     let mut volume = Volume::formatted(&Oracle, &format);
     volume.done(&create(b"all", 1));
+    volume.done(&create(b"new", 2));
     for extents in 1..=129 {
         volume.done(&resize(b"all", extents * 65_536));
     }
-    let requests = [delete(b"all"), resize(b"all", 65_536)];
+    let requests = [
+        delete(b"all"),
+        resize(b"all", 65_536),
+        rename(b"new", b"all"),
+    ];
     cut_everywhere(subject, &volume, &requests, &mut Draw::new(14))
 }
 

@@ -84,6 +84,9 @@ pub struct Counts {
     /// Changes while some file had several extents, and those with several table sectors.
     pub several_extents: usize,
     pub several_table_sectors: usize,
+    /// Renames with a list, and the files that they replaced.
+    pub renames: usize,
+    pub replaced_files: usize,
     /// Lists that lost a record on the way and were not carried out.
     pub lost_records: usize,
 }

@@ -35,6 +35,14 @@ pub fn write(name: &[u8], offset: u64, data: Vec<u8>) -> Request {
     }
 }
 
+pub fn rename(old: &[u8], new: &[u8]) -> Request {
+    Request::Rename {
+        old: old.to_vec(),
+        new: new.to_vec(),
+        time: 6_000,
+    }
+}
+
 pub fn read(name: &[u8], offset: u64, count: u64) -> Request {
     Request::Read {
         name: name.to_vec(),

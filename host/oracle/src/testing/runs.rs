@@ -62,6 +62,8 @@ impl Counts {
             self.short_recoveries,
             self.several_extents,
             self.lost_records,
+            self.renames,
+            self.replaced_files,
         ] {
             assert!(reached > least, "too rare: {self:?}");
         }
@@ -91,11 +93,13 @@ fn random_run(subject: &dyn Subject, seed: u64, counts: &mut Counts) {
     counts.runs += 1;
     let (two_table_sectors, full_directory) = match draw.below(64) {
         0 => (true, false),
-        1 | 2 => (false, true),
+        1..=4 => (false, true),
         _ => (false, false),
     };
     let geometry = if two_table_sectors {
         Geometry::new(255, draw.between(129, 134), 128)
+    } else if full_directory {
+        Geometry::new(255, draw.between(2, 9), 128)
     } else {
         draw_small_geometry(&mut draw)
     };
@@ -233,6 +237,7 @@ impl Run<'_> {
         }
         audit(request, &before, &after, &self.volume.image, &filled);
         self.count_targets(&filled);
+        self.count_renames(request, &before, &after);
         if self.draw.one_in(20) {
             self.drop_a_record(&filled);
         }
@@ -331,6 +336,15 @@ impl Run<'_> {
         }
     }
 
+    fn count_renames(&mut self, request: &Request, before: &Ledger, after: &Ledger) {
+        if let Request::Rename { .. } = request {
+            self.counts.renames += 1;
+            if after.files().count() < before.files().count() {
+                self.counts.replaced_files += 1;
+            }
+        }
+    }
+
     fn files(&self) -> impl Iterator<Item = &File> {
         self.volume.ledger.slots().iter().flatten()
     }
@@ -359,7 +373,7 @@ impl Run<'_> {
 
     fn draw_request(&mut self) -> Request {
         let time = self.draw.number() as u32;
-        let kind = self.draw.below(20);
+        let kind = self.draw.below(23);
         let name = self.draw_name(if (7..=9).contains(&kind) { 1 } else { 8 });
         match kind {
             0 => Request::Summary,
@@ -392,6 +406,11 @@ impl Run<'_> {
                 let size = self.draw_size(&name);
                 Request::Resize { name, size, time }
             }
+            14..=16 => Request::Rename {
+                old: name,
+                new: self.draw_name(1),
+                time,
+            },
             _ => {
                 let (offset, count) = self.draw_span(&name);
                 Request::Write {

@@ -6,7 +6,7 @@ use crate::draw::Draw;
 use crate::layout::{put16, put32, SECTOR};
 use crate::request::{Answer, Request};
 use crate::testing::damage::{spoil_fields, FAULTS};
-use crate::testing::requests::{create, delete, find, read, resize, write};
+use crate::testing::requests::{create, delete, find, read, rename, resize, write};
 use crate::testing::volumes::{some_files, ANY_LIST};
 use crate::testing::{Oracle, Subject};
 use crate::{check, format_record, recover, summary, FormatRequest};
@@ -55,7 +55,7 @@ fn plain_check(image: &[u8]) -> CheckAnswer {
 
     let extent_bytes = 512 * extent_sectors;
     let mut reserve = 0;
-    while reserve * extent_sectors < table_sectors + 2 {
+    while reserve * extent_sectors < table_sectors + 3 {
         reserve += 1;
     }
     let usable = extents - reserve;
@@ -130,6 +130,7 @@ fn judging_calls() -> Vec<Request> {
         resize(b"ab", 0),
         resize(b"ab", 131_074),
         write(b"abc", 0, vec![1; 600]),
+        rename(b"abc", b"ab"),
     ]
 }
 

@@ -8,4 +8,5 @@ mod directories;
 mod journals;
 mod judging;
 mod refusals;
+mod renames;
 mod runs;

@@ -6,7 +6,7 @@ use crate::layout::{get32, get64, put16, put32, Geometry, SECTOR};
 use crate::lists::{BARRIER, CONTENTS, NUMBER, POSITION, RECORD};
 use crate::request::Request;
 use crate::testing::records::{filled_with, list_of};
-use crate::testing::requests::{create, delete, find, read, resize, write};
+use crate::testing::requests::{create, delete, find, read, rename, resize, write};
 use crate::testing::volumes::{Volume, ANY_LIST, SAMPLE};
 use crate::testing::{Oracle, Subject};
 use crate::{carry_out, check, recover, summary, FormatRequest};
@@ -21,6 +21,7 @@ fn one_of_each_call() -> Vec<Request> {
         delete(b"a"),
         resize(b"a", 1),
         write(b"a", 0, vec![1]),
+        rename(b"a", b"b"),
     ]
 }
 
@@ -176,6 +177,15 @@ fn lowest_number_first() {
         (13, resize(b"a", 65_536)),
         (14, resize(b"full", 0)),
         (0, resize(b"full", 3 * 65_536)),
+        (8, rename(b"", b"")),
+        (8, rename(b"none", b"a\0")),
+        (8, rename(&[b'x'; 477], b"a")),
+        (8, rename(b"a", &[b'x'; 477])),
+        (9, rename(b"none", b"a")),
+        (9, rename(b"none", b"none")),
+        (0, rename(b"a", b"a")),
+        (14, rename(b"a", b"b")),
+        (14, rename(b"a", b"full")),
     ];
     for (expected, request) in answers {
         let (answer, filled) = Oracle.ask(&request, &image, 0);
@@ -223,7 +233,7 @@ fn versions_and_times() {
     assert_eq!(check(&image).code, 0);
 }
 
-/// The reserve is just large enough for root, entry and table.
+/// The reserve is just large enough for root, two entries and the table.
 #[test]
 fn reserves() {
     let reserve = |extents, extent_sectors| {
@@ -232,9 +242,10 @@ fn reserves() {
             .reserve_extents()
     };
     assert_eq!(reserve(65_535, 128), 5);
-    assert_eq!(reserve(126 * 128, 128), 1);
-    assert_eq!(reserve(126 * 128 + 1, 128), 2);
-    assert_eq!(reserve(127 * 128, 129), 1);
+    assert_eq!(reserve(125 * 128, 128), 1);
+    assert_eq!(reserve(125 * 128 + 1, 128), 2);
+    assert_eq!(reserve(126 * 128, 129), 1);
+    assert_eq!(reserve(127 * 128, 129), 2);
     assert_eq!(reserve(2, 128), 1);
     assert_eq!(reserve(2, u64::from(u32::MAX)), 1);
     for (files, extents, extent_sectors) in [

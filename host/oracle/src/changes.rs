@@ -5,7 +5,7 @@ use crate::answers::{code, ChangeAnswer, Refusal};
 use crate::calls::find_file;
 use crate::judge::{open_sound, SoundVolume, Volume};
 use crate::layout::{
-    entry, get32, name_is_good, put16, put32, put64, root, Entry, Extent, FileIndex, Sector,
+    entry, get32, new_name_is_good, put16, put32, put64, root, Entry, Extent, FileIndex, Sector,
     LONGEST_SPAN, NO_FILE, SECTOR,
 };
 use crate::lists::{list_length, ListWriter, Target};
@@ -67,7 +67,7 @@ fn create_file(
 ) -> Result<u64, Refusal> {
     let sound = open_sound(image)?;
     let volume = sound.volume();
-    if !name_is_good(name) || id == 0 {
+    if !new_name_is_good(name) || id == 0 {
         return Err(Refusal::new(code::BAD_ARGUMENT));
     }
     let id_is_taken =

@@ -265,6 +265,15 @@ pub fn name_is_good(name: &[u8]) -> bool {
     (1..=LONGEST_NAME).contains(&name.len()) && !name.contains(&0)
 }
 
+/// Whether a file may be given the name: only bytes that can be typed, and no slash. Files with
+/// other names stand on older volumes.
+pub fn new_name_is_good(name: &[u8]) -> bool {
+    name_is_good(name)
+        && name
+            .iter()
+            .all(|byte| byte.is_ascii_graphic() && *byte != b'/')
+}
+
 pub fn get16(bytes: &[u8], at: usize) -> u16 {
     u16::from_be_bytes(bytes[at..at + 2].try_into().expect("two bytes"))
 }

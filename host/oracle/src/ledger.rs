@@ -131,6 +131,11 @@ impl Ledger {
         &self.slots
     }
 
+    /// Puts in a file that no call of this ledger made: an older volume's, or another writer's.
+    pub fn put_file(&mut self, slot: usize, file: File) {
+        self.slots[slot] = Some(file);
+    }
+
     /// The answer of a call whose list, if it has one, lands whole. The length is that of the lent
     /// buffer.
     pub fn call(&mut self, request: &Request, buffer_length: usize) -> Told {
@@ -296,7 +301,7 @@ impl Ledger {
         mode: u32,
         time: u32,
     ) -> Result<(usize, Change), Refusal> {
-        if bad_name(name) || id == 0 {
+        if bad_new_name(name) || id == 0 {
             return Err(Refusal::new(code::BAD_ARGUMENT));
         }
         if id == self.root.id
@@ -377,7 +382,7 @@ impl Ledger {
     }
 
     fn rename(&self, old: &[u8], new: &[u8], time: u32) -> Result<(usize, Change), Refusal> {
-        if bad_name(old) || bad_name(new) {
+        if bad_name(old) || bad_new_name(new) {
             return Err(Refusal::new(code::BAD_ARGUMENT));
         }
         let (slot, _) = self.find(old)?;
@@ -408,7 +413,8 @@ impl Ledger {
         let new_size = end.max(file.bytes.len());
         let extent = if self.extents_of_size(new_size as u64) > file.extents.len() {
             Some(
-                self.lowest_free_extent()
+                self.free_extents()
+                    .next()
                     .ok_or(Refusal::new(code::NO_ROOM))?,
             )
         } else {
@@ -434,18 +440,16 @@ impl Ledger {
         size.div_ceil(self.geometry.extent_bytes()) as usize
     }
 
-    /// The lowest usable extent that no slot has.
-    fn lowest_free_extent(&self) -> Option<Extent> {
+    /// The usable extents that no slot has, in rising order.
+    pub fn free_extents(&self) -> impl Iterator<Item = Extent> {
         let mut taken = vec![false; self.geometry.usable_extents() as usize];
         for (_, file) in self.files() {
             for extent in &file.extents {
                 taken[extent.0 as usize] = true;
             }
         }
-        taken
-            .iter()
-            .position(|taken| !taken)
-            .map(|lowest| Extent(lowest as u64))
+        let extents = (0..).map(Extent).zip(taken);
+        extents.filter_map(|(extent, taken)| (!taken).then_some(extent))
     }
 
     fn apply(&mut self, change: Change) {
@@ -539,6 +543,11 @@ impl Ledger {
 
 fn bad_name(name: &[u8]) -> bool {
     name.is_empty() || name.len() > 476 || name.contains(&0)
+}
+
+/// For create and the new name of a rename.
+fn bad_new_name(name: &[u8]) -> bool {
+    bad_name(name) || name.iter().any(|byte| !matches!(byte, 33..=46 | 48..=126))
 }
 
 /// How many table sectors hold the entries of these extents.

@@ -3,7 +3,9 @@
 use crate::answers::{code, ChangeAnswer, Refusal};
 use crate::changes::{answer, changed_root, freed_table, transaction};
 use crate::judge::{open_sound, Volume};
-use crate::layout::{entry, name_is_good, put16, put32, Entry, FileIndex, SECTOR};
+use crate::layout::{
+    entry, name_is_good, new_name_is_good, put16, put32, Entry, FileIndex, SECTOR,
+};
 use crate::lists::Target;
 
 /// Gives the file another name, which may be another file's: that one is then deleted.
@@ -19,7 +21,7 @@ fn rename_file(
     list: &mut [u8],
 ) -> Result<u64, Refusal> {
     let sound = open_sound(image)?;
-    if !name_is_good(old) || !name_is_good(new) {
+    if !name_is_good(old) || !new_name_is_good(new) {
         return Err(Refusal::new(code::BAD_ARGUMENT));
     }
     let (file, _) = sound.find(old).ok_or(Refusal::new(code::NOT_THERE))?;

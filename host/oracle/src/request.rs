@@ -61,6 +61,20 @@ pub enum Answer {
 }
 
 impl Request {
+    /// The name of the file that the call is about; of a rename the old one.
+    pub fn name(&self) -> Option<&[u8]> {
+        match self {
+            Request::Summary | Request::Check | Request::List { .. } => None,
+            Request::Find { name }
+            | Request::Read { name, .. }
+            | Request::Create { name, .. }
+            | Request::Delete { name, .. }
+            | Request::Resize { name, .. }
+            | Request::Write { name, .. }
+            | Request::Rename { old: name, .. } => Some(name),
+        }
+    }
+
     /// Puts the call to an image; the buffer is its output or its list.
     pub fn ask(&self, image: &[u8], buffer: &mut [u8]) -> Answer {
         match self {

@@ -116,7 +116,7 @@ pub fn p10_longest_name(subject: &dyn Subject) {
 /// All 255 entries are taken; then some are free again, and so are their ids.
 pub fn full_directory(subject: &dyn Subject) {
     let mut sample = Sample::new(subject);
-    let name = |number: u64| format!("file {number}").into_bytes();
+    let name = |number: u64| format!("file-{number}").into_bytes();
     for number in 1..=255 {
         sample.call(0, &create(&name(number), number));
     }

@@ -84,6 +84,8 @@ pub struct Counts {
     /// Changes while some file had several extents, and those with several table sectors.
     pub several_extents: usize,
     pub several_table_sectors: usize,
+    /// Changes of files whose names nobody can type.
+    pub older_names: usize,
     /// Renames with a list, and the files that they replaced.
     pub renames: usize,
     pub replaced_files: usize,

@@ -23,6 +23,9 @@ use crate::FormatRequest;
 
 const SEED_VARIABLE: &str = "RUN_SEED";
 
+/// Names that stand on older volumes only.
+const OLDER_NAMES: [&[u8]; 3] = [&[255; 200], b"\xe4/\x01", b"a b"];
+
 /// Makes this many runs, or those that RUN_SEED asks for.
 pub fn random_runs(subject: &dyn Subject, usual: u64) -> Counts {
     let seeds = match std::env::var(SEED_VARIABLE) {
@@ -62,6 +65,7 @@ impl Counts {
             self.short_recoveries,
             self.several_extents,
             self.lost_records,
+            self.older_names,
             self.renames,
             self.replaced_files,
         ] {
@@ -115,6 +119,9 @@ fn random_run(subject: &dyn Subject, seed: u64, counts: &mut Counts) {
     }
     if full_directory {
         run.fill_the_directory();
+    }
+    if run.draw.one_in(4) {
+        run.put_older_files();
     }
     run.volume.compare();
     run.volume.disturb(&mut run.draw);
@@ -192,8 +199,23 @@ impl Run<'_> {
 
     fn fill_the_directory(&mut self) {
         for number in 0..self.volume.ledger.geometry().files() {
-            let name = format!("file {number}");
+            let name = format!("file-{number}");
             self.prepare(&create(name.as_bytes(), 1_000 + number));
+        }
+    }
+
+    /// Files of an older volume, whose names nobody can type; some have the next free extents.
+    fn put_older_files(&mut self) {
+        for name in OLDER_NAMES {
+            let ledger = &self.volume.ledger;
+            let Some(slot) = ledger.slots().iter().position(Option::is_none) else {
+                return;
+            };
+            let free = ledger.free_extents().take(self.draw.below(3) as usize);
+            let extents: Vec<u64> = free.map(|extent| extent.0).collect();
+            let extent_bytes = ledger.geometry().extent_bytes();
+            let size = (extents.len() as u64 * extent_bytes).saturating_sub(self.draw.below(2_000));
+            self.volume.put_file(slot as u64, name, size, &extents);
         }
     }
 
@@ -236,6 +258,7 @@ impl Run<'_> {
             return;
         }
         audit(request, &before, &after, &self.volume.image, &filled);
+        self.count_older_names(request);
         self.count_targets(&filled);
         self.count_renames(request, &before, &after);
         if self.draw.one_in(20) {
@@ -336,6 +359,15 @@ impl Run<'_> {
         }
     }
 
+    fn count_older_names(&mut self, request: &Request) {
+        if request
+            .name()
+            .is_some_and(|name| OLDER_NAMES.contains(&name))
+        {
+            self.counts.older_names += 1;
+        }
+    }
+
     fn count_renames(&mut self, request: &Request, before: &Ledger, after: &Ledger) {
         if let Request::Rename { .. } = request {
             self.counts.renames += 1;
@@ -433,8 +465,8 @@ impl Run<'_> {
         match self.draw.below(12) {
             0 => vec![b'x'; 476],
             1 => vec![b'x'; 475],
-            2 => vec![255; 200],
-            3 => b"\xe4\xff\x01".to_vec(),
+            2 => self.draw.pick(&OLDER_NAMES).to_vec(),
+            3 => self.draw.pick(&[b"!", b"~", b" ", b"\x7f", b"/"]).to_vec(),
             4 => self
                 .draw
                 .pick(&[Vec::new(), vec![b'x'; 477], b"zero\0".to_vec(), vec![0]])

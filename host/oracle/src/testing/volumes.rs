@@ -2,10 +2,10 @@
 //! the calls that made it.
 
 use super::requests::{create, delete, shortened, write};
-use super::{Oracle, Subject};
+use super::{images, Oracle, Subject};
 use crate::draw::Draw;
-use crate::layout::{put16, SECTOR};
-use crate::ledger::Ledger;
+use crate::layout::{put16, sector, Entry, Extent, FileIndex, SECTOR};
+use crate::ledger::{File, Ledger};
 use crate::lists::RECORD;
 use crate::request::{Answer, Request};
 use crate::FormatRequest;
@@ -80,6 +80,32 @@ impl Volume {
         self.ledger
             .compare(&self.image)
             .expect("image and ledger agree");
+    }
+
+    /// Puts a file in by hand, in the image and in the ledger; no call made it. The extents hold
+    /// what stands there.
+    pub fn put_file(&mut self, index: u64, name: &[u8], size: u64, extents: &[u64]) {
+        let geometry = self.ledger.geometry();
+        images::put_file(&mut self.image, geometry, index, name, size, extents);
+        let entry = Entry(sector(&self.image, geometry.entry_at(FileIndex(index))));
+        let extents: Vec<Extent> = extents.iter().copied().map(Extent).collect();
+        let mut bytes = Vec::new();
+        for extent in &extents {
+            let at = geometry.extent_at(*extent).0 as usize * SECTOR;
+            bytes.extend(&self.image[at..at + geometry.extent_bytes() as usize]);
+        }
+        bytes.truncate(size as usize);
+        let file = File {
+            name: name.to_vec(),
+            version: entry.version(),
+            id: entry.id(),
+            mode: entry.mode(),
+            access_time: entry.access_time(),
+            change_time: entry.change_time(),
+            bytes,
+            extents,
+        };
+        self.ledger.put_file(index as usize, file);
     }
 
     /// Puts noise in unused bytes: after superblock and root, in free entries, after names, in the

@@ -7,6 +7,7 @@ mod cuts;
 mod directories;
 mod journals;
 mod judging;
+mod names;
 mod refusals;
 mod renames;
 mod runs;

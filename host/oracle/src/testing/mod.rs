@@ -74,6 +74,8 @@ pub struct Counts {
     pub calls: usize,
     /// How often each number was given back.
     pub codes: [usize; 15],
+    /// Renames of a name to itself that were asked for.
+    pub same_names: usize,
     /// Cuts before the start mark, and later ones.
     pub undone_cuts: usize,
     pub done_cuts: usize,

@@ -58,6 +58,7 @@ impl Counts {
             assert_eq!(self.codes[code], 0, "{code} in a run: {self:?}");
         }
         for reached in [
+            self.same_names,
             self.undone_cuts,
             self.done_cuts,
             self.recoveries,
@@ -437,6 +438,14 @@ impl Run<'_> {
             11..=13 => {
                 let size = self.draw_size(&name);
                 Request::Resize { name, size, time }
+            }
+            14 if self.draw.one_in(3) => {
+                self.counts.same_names += 1;
+                Request::Rename {
+                    old: name.clone(),
+                    new: name,
+                    time,
+                }
             }
             14..=16 => Request::Rename {
                 old: name,

@@ -16,7 +16,7 @@ fn carry_out(image: &mut Image, change: &Change) {
 }
 
 fn name(i: u64) -> Vec<u8> {
-    let mut name = format!("file {i} ").into_bytes();
+    let mut name = format!("file-{i}-").into_bytes();
     name.resize(8 + (i * 7 % 469) as usize, b'n');
     name
 }

@@ -128,6 +128,10 @@ fn delete(name: &[u8]) -> Change<'_> {
     Change::Delete { name, time: 5 }
 }
 
+fn rename<'c>(old: &'c [u8], new: &'c [u8]) -> Change<'c> {
+    Change::Rename { old, new, time: 6 }
+}
+
 /// The same batches on a file and on a medium in memory. After each of them the mapped image, the
 /// file and the other image are one and the same.
 #[test]
@@ -144,7 +148,7 @@ fn image_and_file_in_step() {
         (0..1_000).map(|i| (i * 3) as u8).collect(),
         [9; 65_536],
     );
-    let batches: [&[Change]; 9] = [
+    let batches: [&[Change]; 11] = [
         &[create(b"a", 1), write(b"a", 0, &a)],
         &[create(b"b", 2)],
         &[write(b"b", 0, &b), write(b"b", 700, &b)],
@@ -159,6 +163,9 @@ fn image_and_file_in_step() {
         ],
         &[delete(b"a")],
         &[create(b"c", 4), write(b"c", 0, &all), resize(b"b", 3)],
+        // To a new name, and onto a file with an extent.
+        &[rename(b"b", b"d")],
+        &[rename(b"d", b"c"), rename(b"c", b"b"), create(b"c", 5)],
         &[delete(b"b"), delete(b"c")],
     ];
     let mut refused = 0;
@@ -219,7 +226,11 @@ fn changes_are_tried_and_put_back() {
     for (more, outcome) in [
         (resize(b"f", 1), Ok(())),
         (delete(b"f"), Ok(())),
+        (rename(b"f", b"g"), Ok(())),
+        (rename(b"f", b"f"), Ok(())),
         (delete(b"g"), Err(Refusal::NotThere)),
+        (rename(b"g", b"f"), Err(Refusal::NotThere)),
+        (rename(b"f", b"a b"), Err(Refusal::BadArgument)),
         (create(b"f", 2), Err(Refusal::AlreadyThere)),
         (write(b"f", 196_608, b"x"), Err(Refusal::NoRoom)),
     ] {
@@ -265,7 +276,7 @@ fn a_volume_of_600_gib() {
     const FILES: u64 = 300;
     let file = Temporary::new("large");
     let mut disk = formatted(&file, 600 << 21, 1_024);
-    let name = |i: u64| format!("file {i}").into_bytes();
+    let name = |i: u64| format!("file-{i}").into_bytes();
     let contents = |i: u64| vec![i as u8 | 1; 600];
     let mut volume = Volume::open(Unsynced(disk)).unwrap();
     let summary = volume.image().unwrap().summary();

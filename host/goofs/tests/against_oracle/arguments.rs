@@ -3,7 +3,7 @@
 use crate::counts::{count, Compared};
 use crate::shared::{alike, ask, calls, with_each_buffer};
 use oracle::draw::Draw;
-use oracle::testing::requests::{create, find, read, write};
+use oracle::testing::requests::{create, find, read, rename, write};
 use oracle::testing::volumes::some_files;
 use oracle::Request;
 
@@ -46,7 +46,8 @@ fn names_at_every_edge() {
     let mut volume = some_files();
     volume.done(&create(&[b'x'; 476], 10));
     volume.done(&create(&[b'x'; 475], 11));
-    volume.done(&create(b"\xff\xff\xff", 12));
+    // No call gives this name, but it may stand on an older volume.
+    volume.put_file(254, b"\xff\xff\xff", 0, &[]);
     let mut codes = [0; 15];
     for name in names() {
         count(Compared::ArgumentEdges, 1);
@@ -170,6 +171,10 @@ fn empty_slices() {
         read(&[], 0, 0),
         create(&[], 1),
         write(&[], 0, Vec::new()),
+        rename(&[], &[]),
+        rename(&[], b"new"),
+        rename(b"ab", &[]),
+        rename(b"ab", b"ab"),
         write(b"ab", 0, Vec::new()),
         read(b"ab", 0, 0),
     ]);

@@ -8,7 +8,7 @@ use oracle::layout::{put32, Geometry, SECTOR};
 use oracle::lists::RECORD;
 use oracle::testing::damage::entry_field;
 use oracle::testing::images::{blank, put_file};
-use oracle::testing::requests::{create, delete, resize, write};
+use oracle::testing::requests::{create, delete, rename, resize, write};
 use oracle::testing::volumes::some_files;
 use oracle::Request;
 
@@ -141,6 +141,13 @@ fn several_table_sectors() {
         (0, (2 * 7 + 1 + 6) * RECORD)
     );
     with_each_buffer(&delete(b"y"), &image);
+    // Root, both entries and the five table sectors.
+    for (old, new) in [(b"y", b"x"), (b"x", b"y")] {
+        assert_eq!(
+            with_each_buffer(&rename(old, new), &image),
+            (0, (2 * 8 + 1 + 6) * RECORD)
+        );
+    }
     with_each_buffer(&write(b"x", size, vec![1; 65_536]), &image);
     with_each_buffer(&write(b"y", 0, vec![1; 1_000]), &image);
     with_each_buffer(&resize(b"y", odds.len() as u64 * 65_536 + 1), &image);
@@ -231,6 +238,9 @@ fn versions_at_their_end() {
             resize(b"ab", 1),
             resize(b"ab", 131_080),
             write(b"ab", 5, vec![1; 5]),
+            rename(b"ab", b"new"),
+            rename(b"ab", b"abc"),
+            rename(b"abc", b"ab"),
         ] {
             assert_eq!(edge_alike(&request, &image), 0);
         }

@@ -10,7 +10,7 @@ use oracle::draw::Draw;
 use oracle::layout::{put16, put64, Geometry, SECTOR};
 use oracle::testing::damage::entry_field;
 use oracle::testing::images::{blank, put_file, table_entry};
-use oracle::testing::requests::{create, delete, find, read, resize, write};
+use oracle::testing::requests::{create, delete, find, read, rename, resize, write};
 use oracle::testing::volumes::ANY_LIST;
 use oracle::Request;
 
@@ -89,6 +89,9 @@ fn every_call() {
             (13, resize(&name(index), size + 3)),
             (0, write(&name(index), 0, vec![1; 65_536])),
             (13, write(&name(index), size, vec![1; 3])),
+            (0, rename(&name(index), b"new")),
+            (0, rename(&name(index), &name(512))),
+            (0, rename(&name(512), &name(index))),
         ] {
             assert_eq!(
                 with_each_buffer(&request, &image).0,
@@ -225,6 +228,10 @@ fn largest_directory() {
         (11, create(b"none", 2)),
         (0, write(&last, 0, vec![7; 600])),
         (0, resize(&last, 10)),
+        // Onto the first entry, which is then free, and back from there.
+        (0, rename(&last, &name(0))),
+        (0, create(&last, 3)),
+        (0, rename(&name(0), &last)),
     ] {
         assert_eq!(
             with_each_buffer(&request, &image).0,
@@ -251,7 +258,7 @@ fn largest_directory() {
     place_of(&|image| put16(image, mark, 0));
     place_of(&|image| put16(image, mark, 1));
     place_of(&|image| put64(image, entry_field(65_534, 14), 0));
-    place_of(&|image| put64(image, entry_field(65_534, 14), 0xfedc_ba98_0000_0000));
+    place_of(&|image| put64(image, entry_field(65_534, 14), 0xfedc_ba98_0000_0001));
     place_of(&|image| {
         image.copy_within(
             entry_field(3, 34)..entry_field(4, 0),

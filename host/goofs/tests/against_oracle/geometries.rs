@@ -8,7 +8,7 @@ use oracle::layout::{put16, put64, Geometry, SECTOR};
 use oracle::power::{draw_cut, groups};
 use oracle::testing::cuts::recovery_length;
 use oracle::testing::images::{blank, put_file, table_entry};
-use oracle::testing::requests::{create, delete, find, read, resize, write};
+use oracle::testing::requests::{create, delete, find, read, rename, resize, write};
 use oracle::testing::volumes::ANY_LIST;
 use oracle::testing::Subject;
 use oracle::Request;
@@ -30,7 +30,7 @@ fn fill(image: &mut [u8], geometry: Geometry, draw: &mut Draw) -> Vec<(Vec<u8>, 
             _ => (count - 1) * extent_bytes + draw.between(1, extent_bytes),
         };
         let extents = free.split_off(free.len() - count as usize);
-        let name = format!("file {index}").into_bytes();
+        let name = format!("file-{index}").into_bytes();
         put_file(image, geometry, index, &name, size, &extents);
         for extent in extents.iter().rev().take(3).chain(extents.first()) {
             let start = (geometry.data_at().0 + extent * geometry.extent_sectors()) as usize;
@@ -68,6 +68,7 @@ fn changes_alike(image: &[u8], geometry: Geometry, files: &[(Vec<u8>, u64)], dra
     let data = draw.bytes(65_536);
     for (name, size) in files {
         let edge = geometry.extent_bytes() * draw.below(size / geometry.extent_bytes() + 1);
+        let (other, _) = draw.pick(files);
         for request in [
             delete(name),
             resize(name, 0),
@@ -79,32 +80,48 @@ fn changes_alike(image: &[u8], geometry: Geometry, files: &[(Vec<u8>, u64)], dra
                 edge.min(size.saturating_sub(300)),
                 data[..700].to_vec(),
             ),
+            rename(name, b"new"),
+            rename(name, other),
         ] {
             with_each_buffer(&request, image);
         }
     }
 }
 
-/// Deletes the files one after the other; the power fails each time, and again while recovering.
-fn cut_deletes_alike(image: &mut [u8], files: &[(Vec<u8>, u64)], draw: &mut Draw) {
-    for (name, _) in files {
-        while oracle::find(image, name).code == 0 {
-            let (answer, list) = alike(&delete(name), image, ANY_LIST);
-            assert_eq!(answer.code(), 0);
-            land_a_part(image, &list, draw);
-            count(Compared::Cuts, 1);
-            loop {
-                let needed = recovery_length(&Both, image);
-                if needed == 0 {
-                    break;
-                }
-                let (_, list) = Both.recover(image, needed);
-                land_a_part(image, &list, draw);
-                count(Compared::Recoveries, 1);
-                count(Compared::CutRecoveries, 1);
-            }
-            assert_eq!(alike(&Request::Check, image, 0).0.code(), 0);
+/// Of each two files renames one onto the other, then deletes what is left; the power fails each
+/// time.
+fn cut_changes_alike(image: &mut [u8], files: &[(Vec<u8>, u64)], draw: &mut Draw) {
+    for pair in files.chunks(2) {
+        let mut names: Vec<&[u8]> = pair.iter().map(|(name, _)| &name[..]).collect();
+        if draw.one_in(2) {
+            names.reverse();
         }
+        if let [old, new] = names[..] {
+            cut_until_gone(image, &rename(old, new), old, draw);
+        }
+        let left = names[names.len() - 1];
+        cut_until_gone(image, &delete(left), left, draw);
+    }
+}
+
+/// Asks for the change and cuts it, and the recoveries after it, until no file has the name.
+fn cut_until_gone(image: &mut [u8], change: &Request, name: &[u8], draw: &mut Draw) {
+    while oracle::find(image, name).code == 0 {
+        let (answer, list) = alike(change, image, ANY_LIST);
+        assert_eq!(answer.code(), 0);
+        land_a_part(image, &list, draw);
+        count(Compared::Cuts, 1);
+        loop {
+            let needed = recovery_length(&Both, image);
+            if needed == 0 {
+                break;
+            }
+            let (_, list) = Both.recover(image, needed);
+            land_a_part(image, &list, draw);
+            count(Compared::Recoveries, 1);
+            count(Compared::CutRecoveries, 1);
+        }
+        assert_eq!(alike(&Request::Check, image, 0).0.code(), 0);
     }
 }
 
@@ -159,7 +176,7 @@ fn one_geometry(files: u64, extents: u64, extent_sectors: u64, reserve: u64, see
     count(Compared::Truncations, 1);
     let (answer, _) = alike(&Request::Check, &image[..short], 0);
     assert_eq!(answer.code(), 3);
-    cut_deletes_alike(&mut image, &files, &mut draw);
+    cut_changes_alike(&mut image, &files, &mut draw);
 }
 
 #[test]
@@ -190,15 +207,16 @@ fn every_number_of_files() {
     }
 }
 
-/// T + 2 sectors to stage and S in an extent: the reserve has one extent up to 126 table sectors
+/// T + 3 sectors to stage and S in an extent: the reserve has one extent up to 125 table sectors
 /// of extents of 128 sectors, then two.
 #[test]
 fn reserves_of_several_extents() {
-    one_geometry(255, 126 * 128, 128, 1, 1);
-    one_geometry(255, 126 * 128 + 1, 128, 2, 2);
-    one_geometry(300, 127 * 128, 129, 1, 3);
-    one_geometry(300, 127 * 128 + 1, 129, 2, 4);
-    one_geometry(1_024, 255 * 128, 128, 3, 5);
+    one_geometry(255, 125 * 128, 128, 1, 1);
+    one_geometry(255, 125 * 128 + 1, 128, 2, 2);
+    one_geometry(300, 126 * 128, 129, 1, 3);
+    one_geometry(300, 126 * 128 + 1, 129, 2, 4);
+    one_geometry(1_024, 253 * 128, 128, 2, 5);
+    one_geometry(1_024, 253 * 128 + 1, 128, 3, 6);
 }
 
 /// Volumes far longer than any image are refused, and no product overflows.

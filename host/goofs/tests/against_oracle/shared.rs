@@ -4,7 +4,7 @@
 use crate::counts::{count, Compared};
 use oracle::answers::{code, CheckAnswer, FormatRecordAnswer, RecoverAnswer};
 use oracle::testing::buffers::LentBuffer;
-use oracle::testing::requests::{create, delete, find, read, resize, shortened, write};
+use oracle::testing::requests::{create, delete, find, read, rename, resize, shortened, write};
 use oracle::testing::volumes::ANY_LIST;
 use oracle::testing::{Oracle, Subject};
 use oracle::{Answer, FormatRequest, Request};
@@ -99,6 +99,7 @@ fn ask_change(request: &Request, image: &[u8], buffer: &mut [u8]) -> Answer {
             data,
             time,
         } => goofs::write(image, name, *offset, data, *time, buffer),
+        Request::Rename { old, new, time } => goofs::rename(image, old, new, *time, buffer),
         _ => unreachable!("the other calls change nothing"),
     };
     Answer::Change(as_oracle!(
@@ -245,6 +246,8 @@ pub fn calls() -> Vec<Request> {
         resize(b"ab", 0),
         resize(b"ab", 131_074),
         write(b"abc", 0, vec![1; 600]),
+        rename(b"ab", b"new"),
+        rename(b"abc", b"ab"),
     ]
 }
 

@@ -1,4 +1,4 @@
-/* Tests of the C interface through include/goofs.h: all twelve calls, every result number, every byte of every buffer. What is
+/* Tests of the C interface through include/goofs.h: all thirteen calls, every result number, every byte of every buffer. What is
  * expected is worked out from document 01 and stands here as plain numbers. The last line is 'N passed, M failed', where a test is
  * one function of the table at the end.
  *
@@ -18,7 +18,7 @@
 
 #include "goofs.h"
 
-enum { SECTORS = 1313, IMAGE = SECTORS * 512, LONGEST = GOOFS_DELETE_LIST };
+enum { SECTORS = 1313, IMAGE = SECTORS * 512, LONGEST = GOOFS_RENAME_LIST };
 
 /* Before anything is written, each byte of a medium and of a lent buffer has one of these values, so that stray bytes show. */
 enum { MEDIUM = 0xA5, LENT = 0xC3 };
@@ -268,7 +268,7 @@ static void land(uint8_t *image, size_t records)
 
 /* -------------------- calls, with all they may touch */
 
-enum kind { CREATE, DELETE, RESIZE, WRITE };
+enum kind { CREATE, DELETE, RENAME, RESIZE, WRITE };
 
 struct change {
     enum kind kind;
@@ -278,18 +278,23 @@ struct change {
     uint64_t at; /* of a write the offset, of a resize the new size */
     const uint8_t *data;
     size_t data_length;
+    const char *new_name;
 };
 
 static goofs_change_result call(const struct change *c, uint8_t *list, size_t room)
 {
+    static uint8_t new_name[512]; /* a place of its own: slices of one call must not overlap */
     const uint8_t *name = (const uint8_t *)c->name;
-    size_t length = strlen(c->name);
+    size_t length = strlen(c->name), new_length = c->new_name ? strlen(c->new_name) : 0;
 
+    memcpy(new_name, c->new_name ? c->new_name : "", new_length);
     switch (c->kind) {
     case CREATE:
         return goofs_create(medium.bytes, IMAGE, name, length, c->id, c->mode, c->time, list, room);
     case DELETE:
         return goofs_delete(medium.bytes, IMAGE, name, length, c->time, list, room);
+    case RENAME:
+        return goofs_rename(medium.bytes, IMAGE, name, length, new_name, new_length, c->time, list, room);
     case RESIZE:
         return goofs_resize(medium.bytes, IMAGE, name, length, c->at, c->time, list, room);
     default:
@@ -304,6 +309,8 @@ static size_t longest(enum kind kind)
         return GOOFS_CREATE_LIST;
     case DELETE:
         return GOOFS_DELETE_LIST;
+    case RENAME:
+        return GOOFS_RENAME_LIST;
     case RESIZE:
         return GOOFS_RESIZE_LIST;
     default:
@@ -434,8 +441,8 @@ static void read_refused(uint64_t code, const char *name, uint64_t offset, uint6
 
 enum { NOT_THESE = 0, SUMMARY = 1, RECOVER = 2 };
 
-/* check, find, list, read, create, delete, resize and write, and those that are named besides, refuse the image. Arguments that
- * are bad in every other way change nothing, as the lowest number is given. */
+/* check, find, list, read, create, delete, rename, resize and write, and those that are named besides, refuse the image. Arguments
+ * that are bad in every other way change nothing, as the lowest number is given. */
 static void all_refuse(int besides, const uint8_t *image, size_t length, uint64_t code, uint64_t fault, uint64_t place)
 {
     static const uint8_t beam[] = "beam", created[] = "new", one[] = "1";
@@ -460,6 +467,8 @@ static void all_refuse(int besides, const uint8_t *image, size_t length, uint64_
            .fault = fault, .place = place);
         IS(goofs_change_result, goofs_delete(image, length, name, name_length, 0, out, room), .code = code, .fault = fault,
            .place = place);
+        IS(goofs_change_result, goofs_rename(image, length, name, name_length, new_name, new_length, 0, out, room), .code = code,
+           .fault = fault, .place = place);
         IS(goofs_change_result, goofs_resize(image, length, name, name_length, number, 0, out, room), .code = code, .fault = fault,
            .place = place);
         IS(goofs_change_result, goofs_write(image, length, name, name_length, number, data, data_length, 0, out, room),
@@ -593,6 +602,7 @@ static void macros(void)
     NUMBER(GOOFS_STATE_UNFINISHED, 3);
     NUMBER(GOOFS_CREATE_LIST, 5808);    /* 2 copies, journal, start mark, 2 targets, end mark, 4 barriers: 11 records */
     NUMBER(GOOFS_DELETE_LIST, 554928);  /* 514 copies, 17 journal sectors, 2 marks, 514 targets, 4 barriers: 1,051 */
+    NUMBER(GOOFS_RENAME_LIST, 555984);  /* 515 copies, 17 journal sectors, 2 marks, 515 targets, 4 barriers: 1,053 */
     NUMBER(GOOFS_RESIZE_LIST, 553872);  /* 513 copies, 17 journal sectors, 2 marks, 513 targets, 4 barriers: 1,049 */
     NUMBER(GOOFS_WRITE_LIST, 73920);    /* 129 data sectors, 2 copies, journal, 2 marks, 2 targets, 4 barriers: 140 */
     NUMBER(GOOFS_RECOVER_LIST, 542256); /* 1,024 targets, end mark, 2 barriers: 1,027 */
@@ -916,6 +926,105 @@ static void deletes(void)
     GIVES(DELETE, "gain", .time = 1005);
 }
 
+/* "beam" is renamed: its size, id, mode and access time stay. Its name is 4 bytes long; behind it stands what must become 0. */
+static void renames(void)
+{
+    uint8_t contents[4][512];
+
+    two_files();
+    memset(medium.bytes + 2 * 512 + 40, 0x5A, 472);
+    /* To a shorter name: the root (its version raised the third time) and the entry. 2 copies: 11 records. */
+    wanted.length = 0;
+    root(contents[0], 3, 1004);
+    entry(contents[1], (struct entry){.size = 3000, .version = 2, .id = BEAM_ID, .mode = BEAM_MODE, .access_time = 1001,
+                                      .change_time = 1004, .name = "b"});
+    want_commit(2, (const uint64_t[]){1, 2}, contents);
+    NUMBER(wanted.length, 5808);
+    GIVES(RENAME, "beam", .new_name = "b", .time = 1004);
+    ENTRY_IS(0, .size = 3000, .version = 2, .id = BEAM_ID, .mode = BEAM_MODE, .access_time = 1001, .change_time = 1004,
+             .name = "b");
+    READS("b", 0, 65536, data, 3000);
+    REFUSED(9, RENAME, "beam", .new_name = "c");
+
+    /* Onto "gain", which has no extent: the root once, "b" in its slot, zeros in that of "gain". 3 copies: 13 records. The clock
+     * may go back. */
+    wanted.length = 0;
+    root(contents[0], 4, 900);
+    entry(contents[1], (struct entry){.size = 3000, .version = 3, .id = BEAM_ID, .mode = BEAM_MODE, .access_time = 1001,
+                                      .change_time = 900, .name = "gain"});
+    memset(contents[2], 0, 512);
+    want_commit(3, (const uint64_t[]){1, 2, 3}, contents);
+    NUMBER(wanted.length, 6864);
+    GIVES(RENAME, "b", .new_name = "gain", .time = 900);
+    ENTRY_IS(0, .size = 3000, .version = 3, .id = BEAM_ID, .mode = BEAM_MODE, .access_time = 1001, .change_time = 900,
+             .name = "gain");
+    lend();
+    IS(goofs_list_result, goofs_list(medium.bytes, IMAGE, 1, lent.bytes, sizeof lent.bytes), .code = 9); /* free now */
+
+    /* From an entry above onto one below, whose extent is freed: zeros, the renamed entry, the table. 4 copies: 15 records. The
+     * versions of root and entry are followed by 0. */
+    two_files();
+    put(medium.bytes + 512, 4, UINT32_MAX);
+    put(medium.bytes + 3 * 512 + 10, 4, UINT32_MAX);
+    wanted.length = 0;
+    root(contents[0], 0, 1004);
+    memset(contents[1], 0, 512);
+    entry(contents[2], (struct entry){.size = 0, .version = 0, .id = GAIN_ID, .mode = GAIN_MODE, .access_time = 1003,
+                                      .change_time = 1004, .name = "beam"});
+    table(contents[3], FREE, FREE, FREE, FREE);
+    want_commit(4, (const uint64_t[]){1, 2, 3, 289}, contents);
+    NUMBER(wanted.length, 7920);
+    GIVES(RENAME, "gain", .new_name = "beam", .time = 1004);
+    ENTRY_IS(1, .size = 0, .version = 0, .id = GAIN_ID, .mode = GAIN_MODE, .access_time = 1003, .change_time = 1004,
+             .name = "beam");
+    READS("beam", 0, 65536, NULL, 0);
+
+    wanted.length = 0; /* to itself: an empty list, and the entry stays */
+    GIVES(RENAME, "beam", .new_name = "beam", .time = 1009);
+    ENTRY_IS(1, .size = 0, .version = 0, .id = GAIN_ID, .mode = GAIN_MODE, .access_time = 1003, .change_time = 1004,
+             .name = "beam");
+    REFUSED(8, RENAME, "", .new_name = "new");
+    REFUSED(8, RENAME, "beam", .new_name = "");
+    REFUSED(8, RENAME, "none", .new_name = ""); /* lower numbers first */
+    REFUSED(9, RENAME, "none", .new_name = "new");
+    REFUSED(9, RENAME, "none", .new_name = "none"); /* not there, so not done */
+    REFUSED(9, RENAME, "none", .new_name = "beam");
+    REFUSED(9, RENAME, "bea", .new_name = "beam");
+}
+
+/* A rename onto a file, of which any number of records landed in order: with the start mark, which is the seventh, it is done after
+ * a recovery, and without it nothing has happened. */
+static void renames_cut(void)
+{
+    static uint8_t list[7920];
+    size_t landed;
+    goofs_length_result recovery;
+
+    two_files();
+    IS(goofs_change_result,
+       goofs_rename(medium.bytes, IMAGE, (const uint8_t *)"gain", 4, (const uint8_t *)"beam", 4, 1004, list, sizeof list),
+       .length = 7920); /* 4 copies, a journal sector, 2 marks, 4 targets, 4 barriers: 15 records */
+    for (landed = 0; landed <= 15; landed++) {
+        two_files();
+        from = (int)landed;
+        NUMBER(goofs_carry_out(medium.bytes, IMAGE, list, landed * 528), 0);
+        recovery = goofs_recover(medium.bytes, IMAGE, lent.bytes, sizeof lent.bytes);
+        NUMBER(recovery.code, 0);
+        NUMBER(recovery.length, landed >= 7 && landed < 14 ? 7 * 528 : 0); /* 4 targets, the end mark, 2 barriers */
+        NUMBER(goofs_carry_out(medium.bytes, IMAGE, lent.bytes, (size_t)recovery.length), 0);
+        IS(goofs_check_result, goofs_check(medium.bytes, IMAGE), .code = 0);
+        if (landed < 7) {
+            ENTRY_IS(0, .size = 3000, .version = 1, .id = BEAM_ID, .mode = BEAM_MODE, .access_time = 1001, .change_time = 1002,
+                     .name = "beam");
+            ENTRY_IS(1, .id = GAIN_ID, .mode = GAIN_MODE, .access_time = 1003, .change_time = 1003, .name = "gain");
+            READS("beam", 0, 65536, data, 3000);
+        } else {
+            ENTRY_IS(1, .version = 1, .id = GAIN_ID, .mode = GAIN_MODE, .access_time = 1003, .change_time = 1004, .name = "beam");
+            IS(goofs_find_result, goofs_find(medium.bytes, IMAGE, (const uint8_t *)"gain", 4), .code = 9);
+        }
+    }
+}
+
 /* Group A alone landed, which is all before the first barrier: nothing has happened. */
 static void cut_before_the_start_mark(void)
 {
@@ -1124,8 +1233,14 @@ static void names(void)
     IS(goofs_read_result, goofs_read(medium.bytes, IMAGE, NULL, 0, 0, 0, NULL, 0), .code = 8);
     IS(goofs_change_result, goofs_create(medium.bytes, IMAGE, NULL, 0, 5, 0, 0, NULL, 0), .code = 8);
     IS(goofs_change_result, goofs_delete(medium.bytes, IMAGE, NULL, 0, 0, NULL, 0), .code = 8);
+    IS(goofs_change_result, goofs_rename(medium.bytes, IMAGE, NULL, 0, NULL, 0, 0, NULL, 0), .code = 8);
     IS(goofs_change_result, goofs_resize(medium.bytes, IMAGE, NULL, 0, 0, 0, NULL, 0), .code = 8);
     IS(goofs_change_result, goofs_write(medium.bytes, IMAGE, NULL, 0, 0, NULL, 0, 0, NULL, 0), .code = 8);
+    /* either name of a rename */
+    IS(goofs_change_result, goofs_rename(medium.bytes, IMAGE, (const uint8_t *)"beam", 4, long_name, 477, 0, NULL, 0), .code = 8);
+    IS(goofs_change_result, goofs_rename(medium.bytes, IMAGE, long_name, 477, (const uint8_t *)"new", 3, 0, NULL, 0), .code = 8);
+    IS(goofs_change_result, goofs_rename(medium.bytes, IMAGE, long_name, 476, (const uint8_t *)"new", 3, 0, NULL, 0), .code = 9);
+    IS(goofs_change_result, goofs_rename(medium.bytes, IMAGE, (const uint8_t *)"beam", 4, long_name, 476, 0, NULL, 0), .code = 14);
     /* a name is its length's bytes, not a C string: "beam" with a 0 at its end has a 0 in it */
     IS(goofs_find_result, goofs_find(medium.bytes, IMAGE, (const uint8_t *)"beam", 5), .code = 8);
     lent_is(__LINE__, NULL, 0);
@@ -1136,6 +1251,52 @@ static void names(void)
     NUMBER(goofs_carry_out(medium.bytes, IMAGE, lent.bytes, (size_t)answer.length), 0);
     long_name[476] = 0;
     ENTRY_IS(2, .id = 5, .mode = 6, .access_time = 7, .change_time = 7, .name = (const char *)long_name);
+}
+
+/* T-07: a new name has bytes 33 to 126 without 47, the slash. The old name of a rename, and that of the other calls, keeps the rule
+ * of before. */
+static void new_names(void)
+{
+    uint8_t name[3] = {'n', 'n', 'n'};
+    int byte;
+
+    two_files();
+    hold();
+    for (byte = 0; byte < 256; byte++) {
+        uint64_t code = byte >= 33 && byte <= 126 && byte != 47 ? 0 : 8, old = byte == 0 ? 8 : 9;
+        size_t at;
+
+        for (at = 0; at < 3; at++) {
+            memset(name, 'n', 3);
+            name[at] = (uint8_t)byte;
+            from = byte;
+            NUMBER(goofs_create(medium.bytes, IMAGE, name, 3, 5, 0, 0, lent.bytes, LONGEST).code, code);
+            NUMBER(goofs_rename(medium.bytes, IMAGE, (const uint8_t *)"beam", 4, name, 3, 0, lent.bytes, LONGEST).code, code);
+            NUMBER(goofs_rename(medium.bytes, IMAGE, name, 3, (const uint8_t *)"new", 3, 0, lent.bytes, LONGEST).code, old);
+            NUMBER(goofs_find(medium.bytes, IMAGE, name, 3).code, old);
+            NUMBER(goofs_delete(medium.bytes, IMAGE, name, 3, 0, lent.bytes, LONGEST).code, old);
+        }
+    }
+    held_is(__LINE__);
+
+    /* A file that an older build made. */
+    entry(medium.bytes + 4 * 512,
+          (struct entry){.version = 9, .id = 5, .mode = 6, .access_time = 7, .change_time = 8, .name = "a /b"});
+    IS(goofs_check_result, goofs_check(medium.bytes, IMAGE), .code = 0);
+    ENTRY_IS(2, .version = 9, .id = 5, .mode = 6, .access_time = 7, .change_time = 8, .name = "a /b");
+    REFUSED(8, CREATE, "a /b", .id = 99); /* 8 goes before 10 */
+    REFUSED(8, RENAME, "beam", .new_name = "a /b");
+    REFUSED(8, RENAME, "a /b", .new_name = "a /b");
+    MADE(WRITE, "a /b", .at = 0, .data = data, .data_length = 1000, .time = 9);
+    READS("a /b", 0, 65536, data, 1000);
+    MADE(RESIZE, "a /b", .at = 700, .time = 10);
+    MADE(RENAME, "a /b", .new_name = "beam", .time = 11);
+    ENTRY_IS(2, .size = 700, .version = 12, .id = 5, .mode = 6, .access_time = 7, .change_time = 11, .name = "beam");
+    READS("beam", 0, 65536, data, 700);
+    entry(medium.bytes + 2 * 512, (struct entry){.id = 98, .name = "\x7F"});
+    IS(goofs_check_result, goofs_check(medium.bytes, IMAGE), .code = 0);
+    MADE(DELETE, "\x7F", .time = 12);
+    REFUSED(9, DELETE, "\x7F", .time = 13);
 }
 
 static void full_directory(void)
@@ -1262,12 +1423,13 @@ static void longest_recovery(void)
 
 /* The largest volume with extents of 128 sectors: N = 65,535, T = 512, K = 5. Journal 257, table 289, data 801, reserve
  * 801 + 65,530 x 128 = 8,388,641; 8,389,281 sectors. One file has all 65,530 usable extents, so its size is 65,530 x 65,536 bytes,
- * and a delete touches every table sector. The image has more than 4 GiB, of which only a few pages are ever touched. */
-static int longest_delete_and_resize(void)
+ * and a delete touches every table sector; the last entry has another, which is empty. The image has more than 4 GiB, of which only
+ * a few pages are ever touched. */
+static int longest_lists(void)
 {
     const size_t length = (size_t)8389281 * 512;
-    static uint8_t contents[514][512];
-    static uint64_t targets[514];
+    static uint8_t contents[515][512];
+    static uint64_t targets[515];
     uint8_t *image;
     size_t k;
 
@@ -1284,6 +1446,7 @@ static int longest_delete_and_resize(void)
     superblock(image, 0);
     root(image + 512, 41, 1000);
     entry(image + 2 * 512, (struct entry){.size = UINT64_C(4294574080), .version = UINT32_MAX, .id = 9, .name = "beam"});
+    entry(image + 256 * 512, (struct entry){.version = 7, .id = 8, .name = "gain"});
     memset(image + 289 * 512, 255, 512 * 512); /* all free */
     for (k = 0; k < 65530; k++)
         put(image + 289 * 512 + 4 * k, 4, 65529 - k); /* file 0, the extents in falling order */
@@ -1309,6 +1472,27 @@ static int longest_delete_and_resize(void)
        .length = 554928);
     lent_is(__LINE__, wanted.bytes, 554928);
 
+    /* "gain" onto "beam": the root, zeros, the renamed entry and the table. */
+    memmove(contents + 3, contents + 2, sizeof *contents * 512);
+    memmove(targets + 3, targets + 2, sizeof *targets * 512);
+    targets[2] = 256;
+    entry(contents[2], (struct entry){.version = 8, .id = 8, .change_time = 1001, .name = "beam"});
+    wanted.length = 0;
+    want_commit(515, targets, contents);
+    NUMBER(wanted.length, 1053 * 528);
+    NUMBER(wanted.length, GOOFS_RENAME_LIST);
+    lend();
+    IS(goofs_change_result,
+       goofs_rename(image, length, (const uint8_t *)"gain", 4, (const uint8_t *)"beam", 4, 1001, lent.bytes, GOOFS_RENAME_LIST - 1),
+       .code = 14);
+    lent_is(__LINE__, NULL, 0);
+    IS(goofs_change_result,
+       goofs_rename(image, length, (const uint8_t *)"gain", 4, (const uint8_t *)"beam", 4, 1001, lent.bytes, GOOFS_RENAME_LIST),
+       .code = 0, .length = 555984);
+    lent_is(__LINE__, wanted.bytes, 555984);
+    memmove(contents + 2, contents + 3, sizeof *contents * 512);
+    memmove(targets + 2, targets + 3, sizeof *targets * 512);
+
     /* To size 0: the entry and the table, and a version of 4,294,967,295 is followed by 0. */
     entry(contents[1], (struct entry){.size = 0, .version = 0, .id = 9, .change_time = 1001, .name = "beam"});
     wanted.length = 0;
@@ -1329,6 +1513,42 @@ static int longest_delete_and_resize(void)
     return 1;
 }
 
+/* T-01: N = 16,128 and S = 128 have T = 126, so K = 129 / 128 rounded up is 2; it was 1. Data 415, 2,064,799 sectors. A file that
+ * holds extent 16,126 is at fault: 22 if its size exceeds 16,126 x 65,536 = 1,056,833,536, else 25. */
+static int older_volume(void)
+{
+    const size_t length = (size_t)2064799 * 512;
+    uint8_t *image = mmap(NULL, length, PROT_READ | PROT_WRITE, MAP_PRIVATE | MAP_ANONYMOUS | MAP_NORESERVE, -1, 0);
+    size_t k;
+
+    if (image == MAP_FAILED)
+        return 0;
+    volume.files = 255;
+    volume.extents = 16128;
+    volume.extent_sectors = 128;
+    superblock(image, 0);
+    root(image + 512, 41, 1000);
+    memset(image + 289 * 512, 255, 126 * 512); /* all free */
+    entry(image + 2 * 512, (struct entry){.size = 1, .id = 9, .name = "beam"});
+    put(image + 289 * 512 + 4 * 16125, 4, 0); /* the last usable extent */
+    from = __LINE__;
+    IS(goofs_check_result, goofs_check(image, length), .code = 0);
+    put(image + 289 * 512 + 4 * 16125, 4, FREE);
+    put(image + 289 * 512 + 4 * 16126, 4, 0);
+    ALL_REFUSE(NOT_THESE, image, length, 7, 25, 16126);
+    for (k = 0; k <= 16126; k++)
+        put(image + 289 * 512 + 4 * k, 4, k);
+    put(image + 2 * 512 + 2, 8, UINT64_C(1056833537));
+    ALL_REFUSE(NOT_THESE, image, length, 7, 22, 0);
+    put(image + 2 * 512 + 2, 8, UINT64_C(1056833536));
+    put(image + 289 * 512, 4, FREE); /* all extents but the first, which fit the size */
+    for (k = 1; k <= 16126; k++)
+        put(image + 289 * 512 + 4 * k, 4, k - 1);
+    ALL_REFUSE(NOT_THESE, image, length, 7, 25, 16126);
+    munmap(image, length);
+    return 1;
+}
+
 static const struct {
     const char *name;
     void (*run)(void);
@@ -1343,6 +1563,8 @@ static const struct {
     {"no free extent", no_free_extent},
     {"resizes", resizes},
     {"deletes", deletes},
+    {"renames", renames},
+    {"renames cut", renames_cut},
     {"cut before the start mark", cut_before_the_start_mark},
     {"cut after the start mark", cut_after_the_start_mark},
     {"bad journals", bad_journals},
@@ -1350,6 +1572,7 @@ static const struct {
     {"images refused", images_refused},
     {"faults", faults},
     {"names", names},
+    {"new names", new_names},
     {"full directory", full_directory},
     {"carrying out", carrying_out},
     {"longest recovery", longest_recovery},
@@ -1377,10 +1600,14 @@ int main(void)
         tests[k].run();
         count(tests[k].name);
     }
-    if (longest_delete_and_resize())
-        count("longest delete and resize");
+    if (longest_lists())
+        count("longest lists");
     else
-        printf("c interface: the longest delete was not tried, as 4 GiB of addresses could not be had\n");
+        printf("c interface: the longest lists were not tried, as 4 GiB of addresses could not be had\n");
+    if (older_volume())
+        count("older volume");
+    else
+        printf("c interface: an older volume was not tried, as 1 GiB of addresses could not be had\n");
     printf("%lu passed, %lu failed\n", passed, failed);
     return failed == 0 ? 0 : 1;
 }

@@ -58,6 +58,8 @@ fn sample(table: &mut CallTable) {
     table.resize("resize, 1 byte less", input, &image, name, 131_071);
     table.resize("resize, to nothing", input, &image, name, 0);
     table.delete("delete, 2 extents", input, &image, name);
+    table.rename("rename, to a new name", input, &image, name, b"new");
+    table.rename("rename, onto 2 extents", input, &image, b"empty", name);
 
     let mut list = vec![0; LONGEST_LIST];
     let data = [5; LONGEST_SPAN];
@@ -92,6 +94,7 @@ fn nearly_empty(table: &mut CallTable) {
     table.long_reads(input, &image, &name);
     table.create("create", input, &image);
     table.write("write, 1 byte over an old one", input, &image, &name, 0, 1);
+    table.rename("rename, to a new name", input, &image, &name, b"new");
 }
 
 fn full(table: &mut CallTable) {
@@ -118,6 +121,9 @@ fn almost_full(table: &mut CallTable) {
     table.write_new_extent(input, &image, &name);
     table.resize("resize, to nothing", input, &image, &name, 0);
     table.delete("delete, last entry", input, &image, &name);
+    table.rename("rename, to a new name", input, &image, &name, b"new");
+    let before = images::short_name(images::largest().files() - 3);
+    table.rename("rename, onto the last entry", input, &image, &before, &name);
 }
 
 fn one_file(table: &mut CallTable) {
@@ -131,6 +137,20 @@ fn one_file(table: &mut CallTable) {
     table.recover("recovery, of the delete", input, &image);
     table.carry_out(
         "carrying out, the delete",
+        input,
+        &mut image,
+        &list[..length],
+    );
+    drop(image);
+
+    let input = "largest, one file and a new one";
+    let mut image = images::one_file_and_a_new_one();
+    table.rename("rename, onto all extents", input, &image, b"new", b"all");
+    let length = oracle::rename(&image, b"new", b"all", 2, &mut list).length as usize;
+    cut(&mut image, &list[..length]);
+    table.recover("recovery, of the rename", input, &image);
+    table.carry_out(
+        "carrying out, the rename",
         input,
         &mut image,
         &list[..length],
@@ -249,6 +269,16 @@ impl CallTable<'_> {
             &mut self.list,
             |list| goofs::delete(black_box(image), name, 2, list).length,
             |list| oracle::delete(black_box(image), name, 2, list).length,
+        );
+        self.row_of_list(call, input, &compared);
+    }
+
+    fn rename(&mut self, call: &str, input: &str, image: &[u8], old: &[u8], new: &[u8]) {
+        let compared = self.comparisons.filling(
+            call,
+            &mut self.list,
+            |list| goofs::rename(black_box(image), old, new, 2, list).length,
+            |list| oracle::rename(black_box(image), old, new, 2, list).length,
         );
         self.row_of_list(call, input, &compared);
     }

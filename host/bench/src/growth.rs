@@ -66,7 +66,7 @@ fn heading(title: &str, unit: &str) {
     println!("|---|---:|---:|---:|---:|---:|---:|---:|---:|---:|---:|");
 }
 
-/// A row for each of three calls; the times are also divided by a number of files or extents.
+/// A row for each of four calls; the times are also divided by a number of files or extents.
 fn rows(comparisons: &mut Comparisons, fill: &Fill, units: u64) {
     let image = images::filled(fill.geometry, fill.occupied, fill.taken, images::short_name);
     assert_sound(&image);
@@ -88,8 +88,17 @@ fn rows(comparisons: &mut Comparisons, fill: &Fill, units: u64) {
     );
     assert!(compared.answer > 0, "create");
     row("create", fill, units, &compared);
-    let call = "write, 512 bytes";
+    let call = "rename, to a new name";
     let name = images::short_name(fill.occupied - 1);
+    let compared = comparisons.filling(
+        call,
+        &mut list,
+        |list| goofs::rename(black_box(image), &name, b"new", 2, list).length,
+        |list| oracle::rename(black_box(image), &name, b"new", 2, list).length,
+    );
+    assert!(compared.answer > 0, "{call}");
+    row(call, fill, units, &compared);
+    let call = "write, 512 bytes";
     let sector = [5; 512];
     let compared = comparisons.filling(
         call,

@@ -19,7 +19,7 @@ pub fn geometry(files: u64, extents: u64) -> Geometry {
 }
 
 pub fn short_name(index: u64) -> Vec<u8> {
-    format!("calibration {index:05}.dat").into_bytes()
+    format!("calibration-{index:05}.dat").into_bytes()
 }
 
 /// A name of 476 bytes; only the last ones differ.
@@ -104,6 +104,13 @@ pub fn one_file() -> Vec<u8> {
         geometry.largest_size(),
         &extents,
     );
+    image
+}
+
+/// One file with all usable extents, and in the first entry an empty one.
+pub fn one_file_and_a_new_one() -> Vec<u8> {
+    let mut image = one_file();
+    put_file(&mut image, largest(), 0, b"new", 0, &[]);
     image
 }
 

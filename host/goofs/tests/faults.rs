@@ -16,7 +16,7 @@ use goofs::volume::{self, Volume};
 use oracle::draw::Draw;
 use oracle::ledger::CutReport;
 use oracle::power::{data_sectors, groups};
-use oracle::testing::requests::{create, delete, resize, shortened, write};
+use oracle::testing::requests::{create, delete, rename, resize, shortened, write};
 use oracle::{FormatRequest, Ledger, Request};
 
 /// Which pages the system forgets when it is asked to.
@@ -211,6 +211,11 @@ fn change(request: &Request) -> Change<'_> {
             time: *time,
         },
         Request::Delete { name, time } => Change::Delete { name, time: *time },
+        Request::Rename { old, new, time } => Change::Rename {
+            old,
+            new,
+            time: *time,
+        },
         Request::Resize { name, size, time } => Change::Resize {
             name,
             size: *size,
@@ -374,6 +379,15 @@ fn commands() -> Vec<(&'static str, Vec<Request>)> {
             "put over a longer file",
             vec![write(b"f", 0, vec![8; 700]), resize(b"f", 700)],
         ),
+        ("mv", vec![rename(b"f", b"n")]),
+        (
+            "put beside a file and mv onto it",
+            vec![
+                create(b"n", 9),
+                write(b"n", 0, vec![8; 700]),
+                rename(b"n", b"f"),
+            ],
+        ),
     ]
 }
 
@@ -386,6 +400,7 @@ fn next_changes() -> Vec<Vec<Request>> {
         vec![resize(b"g", 1_300)],
         vec![write(b"g", 100, vec![5; 500])],
         vec![write(b"h", 0, vec![6; 400])],
+        vec![rename(b"h", b"g")],
     ]
 }
 

@@ -14,7 +14,8 @@ use Rattle.model.specs.Search.{tabulate}
 use Rattle.model.specs.Geometry.{superblockAt, reserveAt}
 use Rattle.model.specs.Disk.{Disk}
 use Rattle.model.specs.Superblock.{geometryIn}
-use Rattle.model.specs.WriteList.{Record, Group, Plan, sectorWrite, barrier, recordSize, contentsStart, recordBytes, listBytes, Emitted, staging, copies, sectorsOf, journalOf, groupA, superblockGroup, groupsOf, groupsFor, closedAfter, closed}
+use Rattle.model.specs.WriteList.{Record, Group, Plan, sectorWrite, barrier, recordSize, contentsStart, recordBytes, listBytes, Emitted}
+use Rattle.model.specs.WriteList.{staging, copies, sectorsOf, journalOf, groupA, superblockGroup, groupsOf, groupsFor, closedAfter, closed}
 use Rattle.laws.proofs.Bytes.{bytesFrom-more, bytesFrom-ext, getD-bytesFrom}
 use Rattle.laws.proofs.Search.{length-tabulate}
 use Rattle.laws.proofs.WriteList.{listBytes-append, emitted-then}

@@ -15,7 +15,8 @@ use Rattle.model.specs.Geometry.{superblockAt, journalAt, reserveAt}
 use Rattle.model.specs.Disk.{Disk}
 use Rattle.model.specs.Superblock.{geometryIn}
 use Rattle.model.specs.Journal.{journalSectors, entriesIn, journalSector}
-use Rattle.model.specs.WriteList.{Record, Group, Plan, sectorWrite, barrier, recordSize, contentsStart, recordBytes, listBytes, emit, Emitted, staging, copies, sectorsOf, journalOf, groupA, groupsOf, groupsFor, closedAfter, closed, listLength, recordCount}
+use Rattle.model.specs.WriteList.{Record, Group, Plan, sectorWrite, barrier, recordSize, contentsStart, recordBytes, listBytes, emit, Emitted}
+use Rattle.model.specs.WriteList.{staging, copies, sectorsOf, journalOf, groupA, groupsOf, groupsFor, closedAfter, closed, listLength, recordCount}
 use Rattle.laws.proofs.Bytes.{length-beBytes, bytesFrom-ext, bytesFrom-bytesFrom, bytesFrom-put-other, bytesFrom-put-in}
 use Rattle.laws.proofs.Search.{length-tabulate, getD-tab0, tabulate-more, tabulate-ext}
 use Rattle.laws.proofs.WriteList.{length-recordBytes, listBytes-append, length-listBytes, emitted-then}
@@ -173,7 +174,8 @@ copies-more g ts r =
 pub closed-front : (a b : List Record) (gs : List Group) → closedAfter (a ++ b) gs ≡ a ++ closedAfter b gs
 closed-front a b [] = refl
 closed-front a b (h ∷ gs) =
-    ap (λ (x : List Record). closedAfter x gs) (append-assoc (a ++ b) h (barrier ∷ []) ∙ append-assoc a b (h ++ (barrier ∷ [])) ∙ ap (λ (x : List Record). a ++ x) (sym (append-assoc b h (barrier ∷ []))))
+    ap (λ (x : List Record). closedAfter x gs)
+    (append-assoc (a ++ b) h (barrier ∷ []) ∙ append-assoc a b (h ++ (barrier ∷ [])) ∙ ap (λ (x : List Record). a ++ x) (sym (append-assoc b h (barrier ∷ []))))
     ∙ closed-front a (b ++ h ++ (barrier ∷ [])) gs
 
 length-sectors : (ts : Group) → length (sectorsOf ts) ≡ length ts

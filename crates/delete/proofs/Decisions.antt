@@ -53,14 +53,17 @@ pub delete-needs : (d : Disk) (i time : ℕ) → listLength (groupsFor d (some (
 unfolding deletePlan
 delete-needs d i time =
     plan-needs d (deletePlan (catalogueOf d) d i time)
-    ∙ ap (λ n. recordCount 0 n * recordSize) (let e : length (deletePlan (catalogueOf d) d i time .targets) ≡ 2 + sectorsFrom (catalogueOf d) i 0 = omega (arith, length-freed (catalogueOf d) d i 0) in e)
+    ∙ ap (λ n. recordCount 0 n * recordSize)
+    (let e : length (deletePlan (catalogueOf d) d i time .targets) ≡ 2 + sectorsFrom (catalogueOf d) i 0 = omega (arith, length-freed (catalogueOf d) d i 0) in e)
 
 pub shrink-needs : (d : Disk) (g : Geometry) → g ≡ geometryIn (d superblockAt) → (i z time : ℕ)
     → listLength (groupsFor d (some (shrinkPlan (catalogueOf d) d i z time))) ≡ recordCount 0 (1 + sectorsFrom (catalogueOf d) i (extentsFor g z)) * recordSize
 shrink-needs d g is i z time =
     plan-needs d (shrinkPlan (catalogueOf d) d i z time)
     ∙ ap₂ (λ m n. recordCount m n * recordSize) (ap length (shrink-alone d i z time))
-    (ap length (shrink-targets d g is i z time) ∙ (let e : suc (length (freedSectors (catalogueOf d) d i (extentsFor g z))) ≡ 1 + sectorsFrom (catalogueOf d) i (extentsFor g z) = omega (arith, length-freed (catalogueOf d) d i (extentsFor g z)) in e))
+    (ap length (shrink-targets d g is i z time)
+    ∙ (let e : suc (length (freedSectors (catalogueOf d) d i (extentsFor g z))) ≡ 1 + sectorsFrom (catalogueOf d) i (extentsFor g z) = omega
+    (arith, length-freed (catalogueOf d) d i (extentsFor g z)) in e))
 
 -- ---- delete's answer and list, test by test
 

@@ -133,7 +133,8 @@ bytesFrom-bytesFrom s from n o zero h = bytesFrom-nil (bytesFrom s from n) o ∙
 bytesFrom-bytesFrom s from n o (suc m) h =
     let i : o + m < n = omega arith in
     let e : from + (o + m) ≡ from + o + m = omega arith in
-    rw (bytesFrom-suc (bytesFrom s from n) o m, bytesFrom-suc s (from + o) m, getD-bytesFrom s from n (o + m) i, e) (ap (λ (x : List ℕ). x ++ (getD s (from + o + m) 0 ∷ [])) (bytesFrom-bytesFrom s from n o m (omega arith)))
+    rw (bytesFrom-suc (bytesFrom s from n) o m, bytesFrom-suc s (from + o) m, getD-bytesFrom s from n (o + m) i, e)
+    (ap (λ (x : List ℕ). x ++ (getD s (from + o + m) 0 ∷ [])) (bytesFrom-bytesFrom s from n o m (omega arith)))
 
 -- a list of the run's own length becomes the run
 pub put-all : (l vs : List ℕ) → length vs ≡ length l → put l 0 vs ≡ vs

@@ -96,5 +96,6 @@ concatenated-full f a t (suc n) h l = ⊎-elim (λ (e : t ≡ suc n). rw e) (bef
     before shorter s =
         let le : t ≤ n = omega arith in
         let sum : length (concatenated f a n ++ f (a + n)) ≡ length (concatenated f a n) + length (f (a + n)) = length-append (concatenated f a n) (f (a + n)) in
-        let more : length (concatenated f a t) ≤ length (concatenated f a n) = ⊎-elim (λ (e : t ≡ n). rw e (omega arith)) (λ (r : t < n). omega (arith, concatenated-room f a t n r)) (eq-or-lt-of-le le) in
+        let more : length (concatenated f a t) ≤ length (concatenated f a n) = ⊎-elim (λ (e : t ≡ n). rw e (omega arith)) (λ (r : t < n). omega (arith, concatenated-room f a t n r))
+        (eq-or-lt-of-le le) in
         ap (λ x. concatenated f a n ++ x) (no-elements (f (a + n)) (omega arith)) ∙ append-nil (concatenated f a n) ∙ shorter le (omega arith)

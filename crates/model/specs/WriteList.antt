@@ -1,6 +1,6 @@
 -- Write lists: "Each record becomes 528 bytes: its position in the list, from 0, in 8 bytes, then the 520 as before" (request T-09),
--- which are "sector number (8), contents (512)"; "A list has four groups, each closed by a barrier: (A) data sectors in file order, then copies, then journal sectors; (B) superblock with length n; (C) the n targets in
--- rising order; (D) superblock with length 0."
+-- which are "sector number (8), contents (512)"; "A list has four groups, each closed by a barrier: (A) data sectors in file order, then
+-- copies, then journal sectors; (B) superblock with length n; (C) the n targets in rising order; (D) superblock with length 0."
 use Prim.Native.Nat.{ℕ, suc, _+_, _*_, _-_, _^_}
 use mathlib.Core.Path.{_≡_}
 use mathlib.Core.Bool.{cond}

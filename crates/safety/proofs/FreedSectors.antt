@@ -49,7 +49,8 @@ module _ (base : ℕ) (p : ℕ → Bool) (r : ℕ → List ℕ) where
   rising-picks zero a lo h = tt
   rising-picks (suc n) a lo h = subst (Rising lo) (sym (concatenated-front pick a n)) (go (p a) (rising-picks n (suc a) (suc (base + a)) (omega arith)) (rising-picks n (suc a) lo (omega arith)))
     where
-      go : (b : Bool) → Rising (suc (base + a)) (concatenated pick (suc a) n) → Rising lo (concatenated pick (suc a) n) → Rising lo (cond b (sectorWrite (base + a) (r a) ∷ []) [] ++ concatenated pick (suc a) n)
+      go : (b : Bool) → Rising (suc (base + a)) (concatenated pick (suc a) n) → Rising lo (concatenated pick (suc a) n)
+          → Rising lo (cond b (sectorWrite (base + a) (r a) ∷ []) [] ++ concatenated pick (suc a) n)
       go true x y = (h, x)
       go false x y = y
 
@@ -73,7 +74,8 @@ module _ (base : ℕ) (p : ℕ → Bool) (r : ℕ → List ℕ) where
       go (yes l) ih = skip (p n) _ (λ e. omega arith) ∙ ih l
       go (no l) ih =
           let e : t ≡ n = omega arith in
-          let m : over (concatenated pick 0 n) (base + n) x ≡ x = over-miss (concatenated pick 0 n) (base + n) x (all-miss (base + n) (concatenated pick 0 n) (all-picks (λ w. base + n ≢ w .sector) n (λ k u z. omega arith))) in
+          let m : over (concatenated pick 0 n) (base + n) x ≡ x = over-miss (concatenated pick 0 n) (base + n) x
+          (all-miss (base + n) (concatenated pick 0 n) (all-picks (λ w. base + n ≢ w .sector) n (λ k u z. omega arith))) in
           ap (λ k. over (pick n) (base + k) (over (concatenated pick 0 n) (base + k) x)) e ∙ ap (over (pick n) (base + n)) m ∙ here (p n) x ∙ ap (λ k. cond (p k) (r k) x) (sym e)
 
 -- ---- freed entries

@@ -67,7 +67,8 @@ module _ (L : Ledger) (i : ℕ) (name : List ℕ) (id mode time : ℕ) where
       unfolding exact allBelow catalogue
       exact-new =
           ap (exact (catalogue created) i) (no-extent (L .geometry) bounded)
-          ∙ allBelow-yes (λ e. not (ownedFrom i 0 (catalogue created .table e))) (L .geometry .extents) (λ e l. ap (λ (o : Option Owner). not (ownedFrom i 0 o)) (table-created e) ∙ ap not (none-owned e l))
+          ∙ allBelow-yes (λ e. not (ownedFrom i 0 (catalogue created .table e))) (L .geometry .extents)
+          (λ e l. ap (λ (o : Option Owner). not (ownedFrom i 0 o)) (table-created e) ∙ ap not (none-owned e l))
 
       owned-new : (e : ℕ) → e < L .geometry .extents → holdsOf (catalogue created .table e) (λ w. eqb (w .file) i && leb (usable (L .geometry)) e) ≡ false
       unfolding fault25 catalogue

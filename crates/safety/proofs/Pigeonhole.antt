@@ -17,7 +17,8 @@ unfolding countBelow
 countBelow-add p a zero h l = absurd (not-suc-le-zero l)
 countBelow-add p a (suc n) h l = go (eqb n a) refl (countBelow-add p a n h)
   where
-    go : (b : Bool) → eqb n a ≡ b → (a < n → countBelow (λ e. eqb e a || p e) n ≡ suc (countBelow p n)) → cond (b || p n) 1 0 + countBelow (λ e. eqb e a || p e) n ≡ suc (cond (p n) 1 0 + countBelow p n)
+    go : (b : Bool) → eqb n a ≡ b → (a < n → countBelow (λ e. eqb e a || p e) n ≡ suc (countBelow p n))
+        → cond (b || p n) 1 0 + countBelow (λ e. eqb e a || p e) n ≡ suc (cond (p n) 1 0 + countBelow p n)
     go true q t =
         let e : n ≡ a = eqb-true n a q in
         let z : _≡_ {A = ℕ} (cond (p n) 1 0) 0 = ap (λ (b : Bool). cond b 1 0) (ap p e ∙ h) in

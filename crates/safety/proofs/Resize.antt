@@ -207,7 +207,8 @@ module _ (L : Ledger) (img : List ℕ) (rep : Rep L img) (name : List ℕ) (z ti
     carried : Carried L img (resize name z time room) (resizePlanned (catalogue L) (view img) i z time)
     unfolding resizePlanned
     carried =
-        subst (λ (s : ℕ). Carried L img (resize name z time room) (cond (ltb z s) (some (shrinkPlan (catalogue L) (view img) i z time)) (writePlanned (catalogue L) i (view img) s (zeros (z - s)) time)))
+        subst (λ (s : ℕ). Carried L img (resize name z time room)
+        (cond (ltb z s) (some (shrinkPlan (catalogue L) (view img) i z time)) (writePlanned (catalogue L) i (view img) s (zeros (z - s)) time)))
         (sym size-of) (go (ltb z (old .entry .size)) refl)
       where
         go : (b : Bool) → ltb z (old .entry .size) ≡ b

@@ -163,7 +163,8 @@ module _ (L : Ledger) (img : List ℕ) (i z time : ℕ) where
     exact-new =
         and-yes _ _
         (allBelow-yes _ n (λ o l.
-        ap (λ m. eqb m 1) (countBelow-ext (λ e. isPart i o (c′ .table e)) (λ e. isPart i o (c .table e)) (L .geometry .extents) (λ e q. ap (isPart i o) (table-new e) ∙ part-freed i n o (c .table e) l))
+        ap (λ m. eqb m 1) (countBelow-ext (λ e. isPart i o (c′ .table e)) (λ e. isPart i o (c .table e)) (L .geometry .extents)
+        (λ e q. ap (isPart i o) (table-new e) ∙ part-freed i n o (c .table e) l))
         ∙ allBelow-at (λ o. eqb (countBelow (λ e. isPart i o (c .table e)) (L .geometry .extents)) 1) (extentsFor (L .geometry) (old .entry .size)) (and-left _ _ exact-old) o (omega (arith, fewer))))
         (allBelow-yes _ (L .geometry .extents) (λ e l. ap not (ap (ownedFrom i n) (table-new e) ∙ beyond-freed i n (c .table e))))
 

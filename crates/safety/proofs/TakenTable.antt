@@ -83,7 +83,8 @@ module _ (L : Ledger) (img out : List ℕ) (rep : Rep L img) (eg : geometryIn (v
           → beAt (cond (p && q) (takenIn x i n T) (view img (tableSectorOf (L .geometry) e))) (tableEntryStart e + h) 2 ≡ beAt (view img (tableSectorOf (L .geometry) e)) (tableEntryStart e + h) 2
       go true true q u =
           let z : e / 128 ≡ x / 128 = eqb-true (e / 128) (x / 128) q in
-          taken-other x i n T (length-view img _) e h z (eqb-false e x u) k ∙ ap (λ m. beAt (view img m) (tableEntryStart e + h) 2) (let r : tableSectorOf (L .geometry) x ≡ tableSectorOf (L .geometry) e = omega arith in r)
+          taken-other x i n T (length-view img _) e h z (eqb-false e x u) k
+          ∙ ap (λ m. beAt (view img m) (tableEntryStart e + h) 2) (let r : tableSectorOf (L .geometry) x ≡ tableSectorOf (L .geometry) e = omega arith in r)
       go true false q u = refl
       go false q v u = refl
 

@@ -93,7 +93,8 @@ module _ (L : Ledger) (img : List ℕ) (rep : Rep L img) (i : ℕ) (f : File) (o
       go true e =
           let u : offset ≤ q = leb-true offset q (and-left (leb offset q) (ltb q (offset + length bytes)) e) in
           let v : q < offset + length bytes = ltb-true q (offset + length bytes) (and-right (leb offset q) (ltb q (offset + length bytes)) e) in
-          let c : length (p .dataSectors) ≡ touchedSectors offset (length bytes) = length-tabulate (dataSector (catalogue L) i (view img) offset bytes) (offset / 512) (touchedSectors offset (length bytes)) in
+          let c : length (p .dataSectors) ≡ touchedSectors offset (length bytes) = length-tabulate (dataSector (catalogue L) i (view img) offset bytes) (offset / 512)
+          (touchedSectors offset (length bytes)) in
           getD-tab0 (dataBy k m) (length (p .dataSectors)) (q / 512 - offset / 512) false (omega arith)
       go false e = refl
 

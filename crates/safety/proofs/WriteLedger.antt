@@ -140,7 +140,8 @@ module _ (L : Ledger) (img : List ℕ) (rep : Rep L img) (i : ℕ) (f : File) (o
       go true e = fewer e
       go false e =
           let s : n ≡ extentsFor (L .geometry) (f .entry .size) = rep .sized i f (w .has) in
-          let q : extentsFor (L .geometry) (f .entry .size) ≤ usable (L .geometry) = extents-le (L .geometry) (rep .bounded) (f .entry .size) (usable (L .geometry)) (size-small L img rep i f (w .has)) in
+          let q : extentsFor (L .geometry) (f .entry .size) ≤ usable (L .geometry) = extents-le (L .geometry) (rep .bounded) (f .entry .size) (usable (L .geometry))
+          (size-small L img rep i f (w .has)) in
           omega arith
 
   -- ---- the file afterwards

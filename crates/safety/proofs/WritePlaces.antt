@@ -277,7 +277,8 @@ module _ (L : Ledger) (img : List ℕ) (rep : Rep L img) (i : ℕ) (f : File) (o
   byte-landed k m q l low =
       let e : 512 * (q / 512) + q % 512 ≡ q = omega arith in
       landed-byte k m (q / 512) (q % 512) (sector-held (L .geometry) (rep .bounded) z (q / 512) (omega arith)) (omega arith)
-      ∙ ap (λ p. cond (leb offset p && ltb p (offset + length bytes) && dataBy k m (q / 512 - offset / 512)) (getD bytes (p - offset) 0) (getD (view img (fileSectorAt (catalogue L) i (q / 512))) (q % 512) 0)) e
+      ∙ ap (λ p. cond (leb offset p && ltb p (offset + length bytes) && dataBy k m (q / 512 - offset / 512)) (getD bytes (p - offset) 0)
+      (getD (view img (fileSectorAt (catalogue L) i (q / 512))) (q % 512) 0)) e
       ∙ go (leb offset q && ltb q (offset + length bytes) && dataBy k m (q / 512 - offset / 512)) low
     where
       go : (v : Bool) → (v ≡ false → q < f .entry .size)

@@ -89,7 +89,8 @@ pub offset-split : (g : Geometry) → Bounded g → (offset : ℕ) → offset �
 offset-split g b offset =
     let d : offset / extentBytes g * extentBytes g + offset % extentBytes g ≡ offset = div-add-mod' offset (extentBytes g) in
     let q : offset / extentBytes g * (512 * extentSectors g) ≡ 512 * (offset / extentBytes g * extentSectors g) =
-    sym (mul-assoc (offset / extentBytes g) 512 (extentSectors g)) ∙ ap (λ (k : ℕ). k * extentSectors g) (mul-comm (offset / extentBytes g) 512) ∙ mul-assoc 512 (offset / extentBytes g) (extentSectors g) in
+    sym (mul-assoc (offset / extentBytes g) 512 (extentSectors g)) ∙ ap (λ (k : ℕ). k * extentSectors g) (mul-comm (offset / extentBytes g) 512)
+    ∙ mul-assoc 512 (offset / extentBytes g) (extentSectors g) in
     omega arith
 
 pub offset-within : (g : Geometry) → Bounded g → (offset : ℕ) → offset % extentBytes g < extentBytes g
@@ -116,7 +117,8 @@ module _ (img : List ℕ) (g : Geometry) (h : Opened img g) (i offset x start : 
       let b : offset % extentBytes s0 + m ≤ extentBytes s0 = rw (h .is) at l in
       let k : start ≡ extentAt s0 (extentOf (catalogueOf (view img)) i (offset / extentBytes s0)) =
       at ∙ ap (extentAt g) found ∙ ap (λ (q : Geometry). extentAt q (extentOf (catalogueOf (view img)) i (offset / extentBytes q))) (h .is) in
-      ap (λ (z : ℕ). fileBytes (catalogueOf (view img)) (view img) i z m) (offset-split g (h .bounded) offset ∙ ap (λ (q : Geometry). 512 * (offset / extentBytes q * extentSectors q) + offset % extentBytes q) (h .is))
+      ap (λ (z : ℕ). fileBytes (catalogueOf (view img)) (view img) i z m)
+      (offset-split g (h .bounded) offset ∙ ap (λ (q : Geometry). 512 * (offset / extentBytes q * extentSectors q) + offset % extentBytes q) (h .is))
       ∙ piece (catalogueOf (view img)) img i (offset / extentBytes s0) (offset % extentBytes s0) m b
       ∙ ap (λ (z : ℕ). bytesFrom img (512 * z + offset % extentBytes s0) m) (sym k)
       ∙ ap (λ (q : Geometry). bytesFrom img (512 * start + offset % extentBytes q) m) (sym (h .is))

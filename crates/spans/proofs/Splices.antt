@@ -70,7 +70,9 @@ module _ (img : List ℕ) (g : Geometry) (h : Opened img g) (i held next s x sta
       let m : (s + k) % S ≡ s % S + k = ap (λ z. z % S) e ∙ digits-mod (s / S) {m = S} {r = s % S + k} l in
       let a : start ≡ extentAt g (cond (ltb (s / S) (heldExtents (catalogueOf (view img)) i)) (extentOf (catalogueOf (view img)) i (s / S)) (indexOf (freeExtent (catalogueOf (view img))))) =
       at ∙ ap (extentAt g) (found ∙ ap₂ (λ (u v : ℕ). cond (ltb (s / S) u) (extentOf (catalogueOf (view img)) i (s / S)) v) (lent .extents) (lent .taken)) in
-      ap (λ (z : Geometry). extentAt z (cond (ltb ((s + k) / extentSectors z) (heldExtents (catalogueOf (view img)) i)) (extentOf (catalogueOf (view img)) i ((s + k) / extentSectors z)) (indexOf (freeExtent (catalogueOf (view img))))) + (s + k) % extentSectors z) (sym (h .is))
+      ap (λ (z : Geometry). extentAt z
+      (cond (ltb ((s + k) / extentSectors z) (heldExtents (catalogueOf (view img)) i)) (extentOf (catalogueOf (view img)) i ((s + k) / extentSectors z))
+      (indexOf (freeExtent (catalogueOf (view img))))) + (s + k) % extentSectors z) (sym (h .is))
       ∙ ap₂ (λ (u v : ℕ). extentAt g (cond (ltb u (heldExtents (catalogueOf (view img)) i)) (extentOf (catalogueOf (view img)) i u) (indexOf (freeExtent (catalogueOf (view img))))) + v) q m
       ∙ ap (λ (z : ℕ). z + (s % S + k)) (sym a)
       ∙ (let f : start + (s % S + k) ≡ start + s % S + k = omega arith in f)

@@ -59,5 +59,6 @@ module _ (img : List ℕ) (g : Geometry) (o : Opened img g) (i offset : ℕ) (by
         let long : 1 < length n₁ = rw (number, length-set) counted in
         let staged = staged-more {ts = []} (entryAt i) (staged-none {numbers = n₀} first) refl (let r : 0 < length n₀ = omega arith in r) entry number in
         rw (plan-more c i (view img) offset bytes time z after q)
-        (committed-for (view img) (record { dataSectors = sectorsOut c i (view img) offset bytes time; targets = entryOut c i (view img) offset bytes time z ∷ tableOut c i (view img) offset bytes time X ∷ [] }) (o .is)
+        (committed-for (view img)
+        (record { dataSectors = sectorsOut c i (view img) offset bytes time; targets = entryOut c i (view img) offset bytes time z ∷ tableOut c i (view img) offset bytes time X ∷ [] }) (o .is)
         (staged-more (tableSectorOf (c .geometry) X) staged refl long copied2 (known ∙ ap (set n₁ 1) at2)) refl room behind)

@@ -150,7 +150,8 @@ module _ (img : List ℕ) (ok : judged (length img) (view img) .number ≡ 0) (l
       unfolding sizeNamed
       sized i e = ap (λ (p : Lowest). entryOf cat (indexOf p) .size) (sym e)
 
-      pub resize-found : {answer : Changed} {after : List ℕ} (i : ℕ) → At i ≡ fileNamed cat name → ComesTo (view img) (sizeDecision (length img) (view img) i z time (length list)) list answer after → Resized answer after
+      pub resize-found : {answer : Changed} {after : List ℕ} (i : ℕ) → At i ≡ fileNamed cat name → ComesTo (view img) (sizeDecision (length img) (view img) i z time (length list)) list answer after
+          → Resized answer after
       unfolding resizeAnswer resizeList resizeDecision sizeDecision resizeConditions sizeConditions verdictOf
       resize-found i e r =
           rw (decided-same (length img) (view img) conditions (sizeConditions cat i z) planned (length list) (rw (good, ← e, sized i e)), ← e) r

@@ -29,7 +29,8 @@ same-length-2 c = search needs
 returns : tie.Need-returns
 returns c =
     let s = c .before .before .before .before .before .before .before .before .before .before .before .before .before .before .before in
-    misplaced-at (s .args .g) (view (s .args .img .now)) (s .pre .0 .is) (omega arith) (c .before .misplaced .given .0 .0) (sym (c .before .misplaced .given .1) ∙ c .before .before .before .before .before .pass-over .ensures .found)
+    misplaced-at (s .args .g) (view (s .args .img .now)) (s .pre .0 .is) (omega arith) (c .before .misplaced .given .0 .0)
+    (sym (c .before .misplaced .given .1) ∙ c .before .before .before .before .before .pass-over .ensures .found)
 
 enum-told : tie.Need-enum-told
 enum-told c = search needs
@@ -67,7 +68,8 @@ returns-2 c =
     let marks = p .ensures .marks (c .before .before .before .before .before .before .enum-told .given .1) in
     let lower = p .ensures .lower (c .before .before .before .before .before .before .enum-told .given .1) in
     let starts = starts-down g d (f .result) (p .result .reached) (f .last .1 .1 .0) (f .ensures .0) lower in
-    lacking-at g d (s .pre .0 .is) (omega arith) sound (p .result .reached) (f .last .1 .1 .0) (p .last .1 .1 .1 .1 .0) starts marks (c .before .i .given .0 .0) (sym (c .before .i .given .1) ∙ c .before .before .before .first-lacking .ensures)
+    lacking-at g d (s .pre .0 .is) (omega arith) sound (p .result .reached) (f .last .1 .1 .0) (p .last .1 .1 .1 .1 .0) starts marks (c .before .i .given .0 .0)
+    (sym (c .before .i .given .1) ∙ c .before .before .before .first-lacking .ensures)
 
 enum-told-2 : tie.Need-enum-told-2
 enum-told-2 c = search needs
@@ -89,7 +91,8 @@ returns-3 c =
     let marks = p .ensures .marks (c .before .before .before .before .before .before .enum-told .given .1) in
     let lower = p .ensures .lower (c .before .before .before .before .before .before .enum-told .given .1) in
     let starts = starts-down g d (f .result) (p .result .reached) (f .last .1 .1 .0) (f .ensures .0) lower in
-    stopped-at g d (s .pre .0 .is) (omega arith) sound (p .result .reached) (f .last .1 .1 .0) (p .last .1 .1 .1 .1 .0) starts marks (sym (c .before .enum-told2 .given .1) ∙ c .before .before .before .first-lacking .ensures) (c .if1 .taken)
+    stopped-at g d (s .pre .0 .is) (omega arith) sound (p .result .reached) (f .last .1 .1 .0) (p .last .1 .1 .1 .1 .0) starts marks
+    (sym (c .before .enum-told2 .given .1) ∙ c .before .before .before .first-lacking .ensures) (c .if1 .taken)
 
 same-length-7 : tie.Need-same-length-7
 same-length-7 c = search needs
@@ -108,7 +111,8 @@ returns-4 c =
     let marks = p .ensures .marks (c .before .before .before .before .before .before .enum-told .given .1) in
     let lower = p .ensures .lower (c .before .before .before .before .before .before .enum-told .given .1) in
     let starts = starts-down g d (f .result) (p .result .reached) (f .last .1 .1 .0) (f .ensures .0) lower in
-    nowhere g d (s .pre .0 .is) (omega arith) sound (p .result .reached) (f .last .1 .1 .0) (p .last .1 .1 .1 .1 .0) starts marks (sym (c .before .enum-told2 .given .1) ∙ c .before .before .before .first-lacking .ensures) (c .if1 .left)
+    nowhere g d (s .pre .0 .is) (omega arith) sound (p .result .reached) (f .last .1 .1 .0) (p .last .1 .1 .1 .1 .0) starts marks
+    (sym (c .before .enum-told2 .given .1) ∙ c .before .before .before .first-lacking .ensures) (c .if1 .left)
 
 pub faults-in-spec : {M : Type 1} → statement M
 faults-in-spec =

@@ -23,25 +23,55 @@ returns-2 : tie.Need-returns-2
 returns-2 c =
     let s = c .before .before .before .before .before .before .before .before .before in
     let a = s .args in
-    rw (fault25-on (view (a .img .now)) (a .g) (s .pre .0 .is) (a .e .0) (s .pre .1 .1), ← s .pre .1 .0, ← c .before .before .before .before .before .before .before .table-file .ensures .0, ne-eqb _ _ (c .before .before .before .before .before .before .if1 .left), lt-ltb _ _ (c .before .before .if3 .taken), ← c .before .is-occupied .ensures, c .if4 .taken, lt-leb (a .u) (a .e .0) (omega arith))
+    rw (
+      fault25-on (view (a .img .now)) (a .g) (s .pre .0 .is) (a .e .0) (s .pre .1 .1),
+      ← s .pre .1 .0,
+      ← c .before .before .before .before .before .before .before .table-file .ensures .0,
+      ne-eqb _ _ (c .before .before .before .before .before .before .if1 .left),
+      lt-ltb _ _ (c .before .before .if3 .taken),
+      ← c .before .is-occupied .ensures,
+      c .if4 .taken,
+      lt-leb (a .u) (a .e .0) (omega arith),
+    )
 
 returns-3 : tie.Need-returns-3
 returns-3 c =
     let s = c .before .before .before .before .before .before .before .before .before in
     let a = s .args in
-    rw (fault25-on (view (a .img .now)) (a .g) (s .pre .0 .is) (a .e .0) (s .pre .1 .1), ← s .pre .1 .0, ← c .before .before .before .before .before .before .before .table-file .ensures .0, ne-eqb _ _ (c .before .before .before .before .before .before .if1 .left), lt-ltb _ _ (c .before .before .if3 .taken), ← c .before .is-occupied .ensures, c .if4 .left)
+    rw (
+      fault25-on (view (a .img .now)) (a .g) (s .pre .0 .is) (a .e .0) (s .pre .1 .1),
+      ← s .pre .1 .0,
+      ← c .before .before .before .before .before .before .before .table-file .ensures .0,
+      ne-eqb _ _ (c .before .before .before .before .before .before .if1 .left),
+      lt-ltb _ _ (c .before .before .if3 .taken),
+      ← c .before .is-occupied .ensures,
+      c .if4 .left,
+    )
 
 returns-4 : tie.Need-returns-4
 returns-4 c =
     let s = c .before .before .before .before .before .before .before in
     let a = s .args in
-    rw (fault25-on (view (a .img .now)) (a .g) (s .pre .0 .is) (a .e .0) (s .pre .1 .1), ← s .pre .1 .0, ← c .before .before .before .before .before .table-file .ensures .0, ne-eqb _ _ (c .before .before .before .before .if1 .left), le-ltb _ _ (c .if3 .left))
+    rw (
+      fault25-on (view (a .img .now)) (a .g) (s .pre .0 .is) (a .e .0) (s .pre .1 .1),
+      ← s .pre .1 .0,
+      ← c .before .before .before .before .before .table-file .ensures .0,
+      ne-eqb _ _ (c .before .before .before .before .if1 .left),
+      le-ltb _ _ (c .if3 .left),
+    )
 
 returns-5 : tie.Need-returns-5
 returns-5 c =
     let s = c .before .before .before .before .before in
     let a = s .args in
-    rw (fault25-on (view (a .img .now)) (a .g) (s .pre .0 .is) (a .e .0) (s .pre .1 .1), ← s .pre .1 .0, ← c .before .before .before .table-file .ensures .0, ne-eqb _ _ (c .before .before .if1 .left), le-leb _ _ (c .if2 .left), or-true)
+    rw (
+      fault25-on (view (a .img .now)) (a .g) (s .pre .0 .is) (a .e .0) (s .pre .1 .1),
+      ← s .pre .1 .0,
+      ← c .before .before .before .table-file .ensures .0,
+      ne-eqb _ _ (c .before .before .if1 .left),
+      le-leb _ _ (c .if2 .left),
+      or-true,
+    )
 
 pub is-misplaced-spec : {M : Type 1} → statement M
 is-misplaced-spec =

@@ -76,7 +76,10 @@ returns-2 c =
     let o = c .before .before .before .table-offset in
     let l = c .before .before .before .before .before .if1 .left in (
       c .is-misplaced2 .ensures,
-      (past (a .g) (view (a .img .now)) (a .e .0) (a .m) (a .seen .now) (s .pre .1 .1 .1) (f .result) (f .ensures .0) (o .result) (o .ensures .0) (a .starts .now) (s .pre .1 .1 .0) l (omega arith), omega arith),
+      (
+        past (a .g) (view (a .img .now)) (a .e .0) (a .m) (a .seen .now) (s .pre .1 .1 .1) (f .result) (f .ensures .0) (o .result) (o .ensures .0) (a .starts .now) (s .pre .1 .1 .0) l (omega arith),
+        omega arith,
+      ),
     )
 
 slice-read-if3 : tie.Need-slice-read-if3
@@ -96,8 +99,12 @@ returns-3 c =
     let f = c .before .before .before .before .before .before .before .before .table-file in
     let o = c .before .before .before .before .before .table-offset in
     let l = c .before .before .before .before .before .before .before .if1 .left in (
-      fault-met d (a .g) (s .pre .0 .is) (a .e .0) (f .result) (a .m) (o .result) (a .u) (a .starts .now) (s .pre .1 .0 .1) (f .ensures .0) (omega arith) (s .pre .1 .0 .0) (s .pre .1 .1 .0) l (omega arith),
-      (again (a .g) d (a .e .0) (a .m) (a .seen .now) (s .pre .1 .1 .1) (f .result) (f .ensures .0) (o .result) (o .ensures .0) (a .starts .now) (s .pre .1 .1 .0) l (omega arith) (omega arith), omega arith),
+      fault-met d (a .g) (s .pre .0 .is) (a .e .0) (f .result) (a .m) (o .result) (a .u) (a .starts .now) (s .pre .1 .0 .1) (f .ensures .0) (omega arith) (s .pre .1 .0 .0) (s .pre .1 .1 .0) l
+          (omega arith),
+      (
+        again (a .g) d (a .e .0) (a .m) (a .seen .now) (s .pre .1 .1 .1) (f .result) (f .ensures .0) (o .result) (o .ensures .0) (a .starts .now) (s .pre .1 .1 .0) l (omega arith) (omega arith),
+        omega arith,
+      ),
     )
 
 slice-write-seen : tie.Need-slice-write-seen
@@ -120,8 +127,13 @@ returns-4 c =
     let f = c .before .before .before .before .before .before .before .before .table-file in
     let o = c .before .before .before .before .before .table-offset in
     let l = c .before .before .before .before .before .before .before .if1 .left in (
-      fault-met d (a .g) (s .pre .0 .is) (a .e .0) (f .result) (a .m) (o .result) (a .u) (a .starts .now) (s .pre .1 .0 .1) (f .ensures .0) (omega arith) (s .pre .1 .0 .0) (s .pre .1 .1 .0) l (omega arith),
-      (new (a .g) d (a .e .0) (a .m) (a .seen .now) (s .pre .1 .1 .1) (f .result) (f .ensures .0) (o .result) (o .ensures .0) (a .starts .now) (s .pre .1 .1 .0) l (omega arith) (c .before .if3 .left), omega arith),
+      fault-met d (a .g) (s .pre .0 .is) (a .e .0) (f .result) (a .m) (o .result) (a .u) (a .starts .now) (s .pre .1 .0 .1) (f .ensures .0) (omega arith) (s .pre .1 .0 .0) (s .pre .1 .1 .0) l
+          (omega arith),
+      (
+        new (a .g) d (a .e .0) (a .m) (a .seen .now) (s .pre .1 .1 .1) (f .result) (f .ensures .0) (o .result) (o .ensures .0) (a .starts .now) (s .pre .1 .1 .0) l (omega arith)
+            (c .before .if3 .left),
+        omega arith,
+      ),
     )
 
 pub mark-spec : {M : Type 1} → statement M

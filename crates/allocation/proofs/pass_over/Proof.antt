@@ -49,7 +49,8 @@ returns : tie.Need-returns Inv-loop μ-loop
 returns c =
     let l = c .before .before .before .before .before .before .before .before .loop in
     let z : l .e + 128 - l .e ≡ 128 = omega arith in record {
-      found = seek-found (l .inv .3) 128 (c .before .before .before .before .before .before .before .loop-test .taken) (sym (c .before .misplaced .given .1) ∙ rw z at (c .before .before .before .before .before .pass-sector .ensures .found));
+      found = seek-found (l .inv .3) 128 (c .before .before .before .before .before .before .before .loop-test .taken)
+          (sym (c .before .misplaced .given .1) ∙ rw z at (c .before .before .before .before .before .pass-sector .ensures .found));
       marks = λ q. absurd (at-nowhere q);
       lower = λ q. absurd (at-nowhere q);
     }

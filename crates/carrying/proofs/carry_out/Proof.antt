@@ -17,7 +17,8 @@ answered-requires c κs = search needs
 returns : tie.Need-returns
 returns c =
     let a = c .before .before .before .before .before .before .before .before .args in
-    let r = bad-record (a .img .now) (a .list .now) (sym (c .before .before .before .before .before .is-whole .ensures) ∙ c .before .before .before .before .if1 .taken) (c .before .before .before .if2 .taken) (sym (c .before .before .has-bad .ensures) ∙ c .before .if3 .taken) in
+    let r = bad-record (a .img .now) (a .list .now) (sym (c .before .before .before .before .before .is-whole .ensures) ∙ c .before .before .before .before .if1 .taken)
+    (c .before .before .before .if2 .taken) (sym (c .before .before .has-bad .ensures) ∙ c .before .if3 .taken) in
     (c .answered .ensures ∙ r .0, r .1)
 
 put-records-requires : tie.Need-put-records-requires
@@ -32,7 +33,10 @@ same-length c = search needs
 returns-2 : tie.Need-returns-2
 returns-2 c =
     let a = c .before .before .before .before .before .before .before .before .before .before .before .before .args in
-    let r = carried (a .img .now) (a .list .now) (sym (c .before .before .before .before .before .before .before .before .before .is-whole .ensures) ∙ c .before .before .before .before .before .before .before .before .if1 .taken) (c .before .before .before .before .before .before .before .if2 .taken) (sym (c .before .before .before .before .before .before .has-bad .ensures) ∙ c .before .before .before .before .before .if3 .left) in
+    let r = carried (a .img .now) (a .list .now)
+    (sym (c .before .before .before .before .before .before .before .before .before .is-whole .ensures) ∙ c .before .before .before .before .before .before .before .before .if1 .taken)
+    (c .before .before .before .before .before .before .before .if2 .taken)
+    (sym (c .before .before .before .before .before .before .has-bad .ensures) ∙ c .before .before .before .before .before .if3 .left) in
     (c .answered2 .ensures ∙ r .0, c .before .before .before .put-records .ensures ∙ r .1)
 
 answered-requires-3 : tie.Need-answered-requires-3

@@ -28,13 +28,15 @@ add-copy-sector c = search needs
 mul-copy-sector : tie.Need-mul-copy-sector
 mul-copy-sector c =
     let a = c .before .before .before .before .before .args in
-    let inside = sector-inside (a .list .now) (a .k) (c .before .before .be64 .result) (c .before .before .be64 .ensures) (length (a .img .now) / 512) (c .before .if1 .left) (c .before .before .before .before .before .pre .1) in
+    let inside = sector-inside (a .list .now) (a .k) (c .before .before .be64 .result) (c .before .before .be64 .ensures) (length (a .img .now) / 512) (c .before .if1 .left)
+    (c .before .before .before .before .before .pre .1) in
     omega arith
 
 copy-sector-requires : tie.Need-copy-sector-requires
 copy-sector-requires c κs =
     let a = c .before .before .before .before .before .args in
-    let inside = sector-inside (a .list .now) (a .k) (c .before .before .be64 .result) (c .before .before .be64 .ensures) (length (a .img .now) / 512) (c .before .if1 .left) (c .before .before .before .before .before .pre .1) in
+    let inside = sector-inside (a .list .now) (a .k) (c .before .before .be64 .result) (c .before .before .be64 .ensures) (length (a .img .now) / 512) (c .before .if1 .left)
+    (c .before .before .before .before .before .pre .1) in
     (omega arith, omega arith)
 
 same-length : tie.Need-same-length
@@ -43,7 +45,9 @@ same-length c = search needs
 returns-2 : tie.Need-returns-2
 returns-2 c =
     let a = c .before .before .before .before .before .before .before .before .args in
-    c .before .before .copy-sector .ensures ∙ sector-stored (a .list .now) (a .k) (c .before .before .before .before .before .be64 .result) (c .before .before .before .before .before .be64 .ensures) (a .img .now) (c .before .before .before .before .if1 .left)
+    c .before .before .copy-sector .ensures
+    ∙ sector-stored (a .list .now) (a .k) (c .before .before .before .before .before .be64 .result) (c .before .before .before .before .before .be64 .ensures) (a .img .now)
+    (c .before .before .before .before .if1 .left)
 
 pub put-record-spec : {M : Type 1} → statement M
 put-record-spec =

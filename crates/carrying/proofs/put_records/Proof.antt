@@ -26,8 +26,11 @@ loop-holds c = (search needs, refl, refl)
 put-record-requires : tie.Need-put-record-requires Inv-loop μ-loop
 put-record-requires c κs =
     let a = c .before .before .before .before .before .args in
-    let l = c .before .before .loop in
-    (search needs, rw (l .inv .2) (none-at (badRecord (length (a .img .now) / 512) (a .list .now)) (length (a .list .now) / recordSize) (c .before .before .before .before .before .pre) (l .k) (c .before .loop-test .taken)))
+    let l = c .before .before .loop in (
+      search needs,
+      rw (l .inv .2)
+          (none-at (badRecord (length (a .img .now) / 512) (a .list .now)) (length (a .list .now) / recordSize) (c .before .before .before .before .before .pre) (l .k) (c .before .loop-test .taken)),
+    )
 
 add-k : tie.Need-add-k Inv-loop μ-loop
 add-k c = search needs

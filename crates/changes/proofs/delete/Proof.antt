@@ -33,7 +33,9 @@ unfolding deleteAnswer deleteList deleteDecision
 returns-2 c =
     let a = c .before .before .before .before .before .before .before .args in
     let d = view (a .img .now) in
-    let h = refused-as-judged (length (a .img .now)) d (nameConditions (catalogueOf d) (a .name .now)) (some (deletePlan (catalogueOf d) d (indexOf (fileNamed (catalogueOf d) (a .name .now))) (a .time))) (a .list .now) (c .before .before .before .judge .result) (c .before .before .before .judge .ensures) (c .before .if1 .left) in
+    let h = refused-as-judged (length (a .img .now)) d (nameConditions (catalogueOf d) (a .name .now))
+    (some (deletePlan (catalogueOf d) d (indexOf (fileNamed (catalogueOf d) (a .name .now))) (a .time))) (a .list .now) (c .before .before .before .judge .result)
+    (c .before .before .before .judge .ensures) (c .before .if1 .left) in
     (c .refused .ensures ∙ h .0, h .1)
 
 pub delete-spec : {M : Type 1} → statement M

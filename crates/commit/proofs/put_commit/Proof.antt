@@ -44,8 +44,17 @@ returns c =
     let few = s .pre .1 .1 .1 .2 in
     let front = emitted-then (emitted-then (c1 .put-journal .ensures .0) (c2 .put-barrier .ensures)) (c3 .put-superblock .ensures) in (
       rw commit-closed
-          (emitted-then (emitted-then (emitted-then front (targets-kept (a .k - a .n) (a .numbers .now) (a .n) (omega arith) front (c4 .put-targets .ensures .0))) (c5 .put-barrier2 .ensures)) (c6 .put-superblock2 .ensures)),
-      omega (arith, c1 .put-journal .ensures .1, c2 .put-barrier .ensures .next, c3 .put-superblock .ensures .next, c4 .put-targets .ensures .1, c5 .put-barrier2 .ensures .next, c6 .put-superblock2 .ensures .next),
+          (emitted-then (emitted-then (emitted-then front (targets-kept (a .k - a .n) (a .numbers .now) (a .n) (omega arith) front (c4 .put-targets .ensures .0))) (c5 .put-barrier2 .ensures))
+          (c6 .put-superblock2 .ensures)),
+      omega (
+        arith,
+        c1 .put-journal .ensures .1,
+        c2 .put-barrier .ensures .next,
+        c3 .put-superblock .ensures .next,
+        c4 .put-targets .ensures .1,
+        c5 .put-barrier2 .ensures .next,
+        c6 .put-superblock2 .ensures .next,
+      ),
     )
 
 pub put-commit-spec : {M : Type 1} → statement M

@@ -20,7 +20,10 @@ put-create-requires c κs =
     let v = c .before .before .before .before in
     let o = v .before .geometry-in in (
       omega arith,
-      (judged-opened _ _ (o .ensures) (omega arith) (v .before .before .before .before .before .pre), good-name _ _ _ (ap (λ (v : Verdict). v .number) (sym (v .own-verdict .ensures)) ∙ c .before .before .if1 .taken)),
+      (
+        judged-opened _ _ (o .ensures) (omega arith) (v .before .before .before .before .before .pre),
+        good-name _ _ _ (ap (λ (v : Verdict). v .number) (sym (v .own-verdict .ensures)) ∙ c .before .before .if1 .taken),
+      ),
     )
 
 refusal-requires : tie.Need-refusal-requires

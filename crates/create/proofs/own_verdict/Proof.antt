@@ -27,7 +27,8 @@ refusal-requires-2 c κs = search needs
 
 returns-2 : tie.Need-returns-2
 unfolding createConditions verdictOf
-returns-2 c = rw (← c .before .before .before .before .bad-argument .ensures, c .before .before .before .if1 .left, ← c .before .before .is-taken .ensures, c .before .if2 .taken) (c .refusal2 .ensures)
+returns-2 c = rw (← c .before .before .before .before .bad-argument .ensures, c .before .before .before .if1 .left, ← c .before .before .is-taken .ensures, c .before .if2 .taken)
+    (c .refusal2 .ensures)
 
 free-entry-requires : tie.Need-free-entry-requires
 free-entry-requires c κs = search needs
@@ -40,14 +41,30 @@ refusal-requires-3 c κs = search needs
 
 returns-3 : tie.Need-returns-3
 unfolding createConditions verdictOf
-returns-3 c = rw (← c .before .before .before .before .before .before .before .bad-argument .ensures, c .before .before .before .before .before .before .if1 .left, ← c .before .before .before .before .before .is-taken .ensures, c .before .before .before .before .if2 .left, ← c .before .before .before .free-entry .ensures, ← c .before .before .is-at .ensures, c .before .if3 .taken) (c .refusal3 .ensures)
+returns-3 c = rw (
+  ← c .before .before .before .before .before .before .before .bad-argument .ensures,
+  c .before .before .before .before .before .before .if1 .left,
+  ← c .before .before .before .before .before .is-taken .ensures,
+  c .before .before .before .before .if2 .left,
+  ← c .before .before .before .free-entry .ensures,
+  ← c .before .before .is-at .ensures,
+  c .before .if3 .taken,
+) (c .refusal3 .ensures)
 
 refusal-requires-4 : tie.Need-refusal-requires-4
 refusal-requires-4 c κs = search needs
 
 returns-4 : tie.Need-returns-4
 unfolding createConditions verdictOf
-returns-4 c = rw (← c .before .before .before .before .before .before .before .bad-argument .ensures, c .before .before .before .before .before .before .if1 .left, ← c .before .before .before .before .before .is-taken .ensures, c .before .before .before .before .if2 .left, ← c .before .before .before .free-entry .ensures, ← c .before .before .is-at .ensures, c .before .if3 .left) (c .refusal4 .ensures)
+returns-4 c = rw (
+  ← c .before .before .before .before .before .before .before .bad-argument .ensures,
+  c .before .before .before .before .before .before .if1 .left,
+  ← c .before .before .before .before .before .is-taken .ensures,
+  c .before .before .before .before .if2 .left,
+  ← c .before .before .before .free-entry .ensures,
+  ← c .before .before .is-at .ensures,
+  c .before .if3 .left,
+) (c .refusal4 .ensures)
 
 pub own-verdict-spec : {M : Type 1} → statement M
 own-verdict-spec =

@@ -33,8 +33,10 @@ geometry-in-requires : tie.Need-geometry-in-requires
 geometry-in-requires c κs = image-length _ _ (judged-image _ _ (c .before .before .before .before .before .pre))
 
 file-named-requires : tie.Need-file-named-requires
-file-named-requires c κs =
-    (judged-opened _ _ (c .geometry-in .ensures) (omega arith) (c .before .before .before .before .before .before .pre), short-name _ (sym (c .before .before .bad-name .ensures) ∙ c .before .if1 .left))
+file-named-requires c κs = (
+  judged-opened _ _ (c .geometry-in .ensures) (omega arith) (c .before .before .before .before .before .before .pre),
+  short-name _ (sym (c .before .before .bad-name .ensures) ∙ c .before .if1 .left),
+)
 
 enum-known-i : tie.Need-enum-known-i
 enum-known-i c = search needs
@@ -80,7 +82,8 @@ returns-2 c =
     let good = sym (f .before .before .before .bad-name .ensures) ∙ f .before .before .if1 .left in
     let found = sym (f .file-named .ensures) ∙ k .before .before .i .given .1 in
     rw (c .refusal2 .ensures)
-    (delete-done (a .img .now) (a .list .now) (a .name .now) (a .time) (s .pre) (k .before .before .i .given .0 .0) good found (recordSize * k .delete-count .result) (omega (arith, k .delete-count .ensures .0)) (omega arith) (c .before .before .before .put-delete .ensures))
+    (delete-done (a .img .now) (a .list .now) (a .name .now) (a .time) (s .pre) (k .before .before .i .given .0 .0) good found (recordSize * k .delete-count .result)
+    (omega (arith, k .delete-count .ensures .0)) (omega arith) (c .before .before .before .put-delete .ensures))
 
 refusal-requires-3 : tie.Need-refusal-requires-3
 refusal-requires-3 c κs = search needs

@@ -74,7 +74,8 @@ returns c =
     let d = view (a .img .now) in
     let root = added-copy {numbers = replicate 1024 0} (p .put-copy .ensures .0) (p .put-copy .ensures .1) (omega arith) in
     let many : length (left (p .put-copy .ensures .1)) ≡ 1024 = ap (λ (l : List ℕ). length l) (p .put-copy .ensures .1) in
-    let entry = added-copy {numbers = left (p .put-copy .ensures .1)} {k = p .put-copy .result} {s = q .before .sector .result .0} (q .put-copy2 .ensures .0) (q .put-copy2 .ensures .1) (omega (arith, many, p .put-copy .ensures .0 .next)) in
+    let entry = added-copy {numbers = left (p .put-copy .ensures .1)} {k = p .put-copy .result} {s = q .before .sector .result .0} (q .put-copy2 .ensures .0) (q .put-copy2 .ensures .1)
+    (omega (arith, many, p .put-copy .ensures .0 .next)) in
     let staged = added-then {numbers = replicate 1024 0} (added-then {numbers = replicate 1024 0} root entry) (f .put-freed .ensures .0) in
     added-committed d (deletePlan (catalogueOf d) d (a .i .0) (a .time)) staged (m .put-commit .ensures .0) (s .pre .0 .is)
     (rw (q .before .sector .ensures, p .before .before .before .updated-root .ensures) (sym (delete-targets d (a .i .0) (a .time))))

@@ -17,7 +17,10 @@ records-for-requires : tie.Need-records-for-requires
 records-for-requires c κs = search needs
 
 returns : tie.Need-returns
-returns c = (rw (← c .before .before .extents-for .ensures .0, ← c .before .sectors-from .ensures .0) (c .records-for .ensures), omega (arith, c .records-for .ensures, c .before .sectors-from .ensures .1))
+returns c = (
+  rw (← c .before .before .extents-for .ensures .0, ← c .before .sectors-from .ensures .0) (c .records-for .ensures),
+  omega (arith, c .records-for .ensures, c .before .sectors-from .ensures .1),
+)
 
 pub shrink-count-spec : {M : Type 1} → statement M
 shrink-count-spec =

@@ -26,7 +26,8 @@ bad-entry-requires c κs = search needs
 returns : tie.Need-returns Inv-loop μ-loop
 returns c =
     let s = c .before .before .before .before .before .before in
-    rw (s .pre .is, fault22-on (view (s .args .img .now)), ← s .pre .is, ← c .before .before .before .before .most-bytes .ensures) (seek-here (c .before .before .before .loop .inv) (search needs) (sym (c .before .bad-entry .ensures) ∙ c .if1 .taken))
+    rw (s .pre .is, fault22-on (view (s .args .img .now)), ← s .pre .is, ← c .before .before .before .before .most-bytes .ensures)
+    (seek-here (c .before .before .before .loop .inv) (search needs) (sym (c .before .bad-entry .ensures) ∙ c .if1 .taken))
 
 add-i : tie.Need-add-i Inv-loop μ-loop
 add-i c = search needs

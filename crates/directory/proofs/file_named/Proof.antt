@@ -31,7 +31,8 @@ has-name-requires c κs = search needs
 returns : tie.Need-returns Inv-loop μ-loop
 returns c =
     let s = c .before .before .before .before .before .before in
-    rw (named-on (view (s .args .img .now)) (s .args .name .now), ← s .pre .0 .is) (seek-here (c .before .before .before .loop .inv) (search needs) (sym (c .before .has-name .ensures) ∙ c .if1 .taken))
+    rw (named-on (view (s .args .img .now)) (s .args .name .now), ← s .pre .0 .is)
+    (seek-here (c .before .before .before .loop .inv) (search needs) (sym (c .before .has-name .ensures) ∙ c .if1 .taken))
 
 add-i : tie.Need-add-i Inv-loop μ-loop
 add-i c = search needs

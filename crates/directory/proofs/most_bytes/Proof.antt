@@ -17,7 +17,8 @@ mul-result : tie.Need-mul-result
 mul-result c = search needs
 
 mul-result-2 : tie.Need-mul-result-2
-mul-result-2 c = let g = c .before .before .args .g in omega (arith, mul-le-mul {n₁ = c .before .usable .result} {m₁ = 512 * g .«extent_sectors»} {n₂ = 65535} {m₂ = 512 * 4294967295} (omega arith) (omega arith))
+mul-result-2 c = let g = c .before .before .args .g in
+    omega (arith, mul-le-mul {n₁ = c .before .usable .result} {m₁ = 512 * g .«extent_sectors»} {n₂ = 65535} {m₂ = 512 * 4294967295} (omega arith) (omega arith))
 
 returns : tie.Need-returns
 returns c = rw (← c .before .usable .ensures)

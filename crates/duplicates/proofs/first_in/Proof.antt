@@ -14,7 +14,8 @@ use Rattle.duplicates.proofs.first_in.Statement.{statement}
 use Rattle.duplicates.proofs.first_in.Tie as tie
 
 abbrev Inv-loop : tie.InvT-loop
-Inv-loop img key head₀ next₀ f i₀ head next i = (length head ≡ length head₀) × (length next ≡ length next₀) × Chains (member key (view img) (length head)) i head next × Seeking (isFaulty key (view img)) f i
+Inv-loop img key head₀ next₀ f i₀ head next i = (length head ≡ length head₀) × (length next ≡ length next₀) × Chains (member key (view img) (length head)) i head next × Seeking
+    (isFaulty key (view img)) f i
 
 abbrev μ-loop : tie.MeasureT-loop
 μ-loop img key head₀ next₀ f i₀ head next i = f - i
@@ -35,7 +36,8 @@ same-length-2 : tie.Need-same-length-2 Inv-loop μ-loop
 same-length-2 c = search needs
 
 returns : tie.Need-returns Inv-loop μ-loop
-returns c = seek-here (c .before .before .before .before .before .before .before .before .before .loop .inv .3) (search needs) (sym (c .before .before .before .before .before .is-faulty .ensures .0) ∙ c .if1 .taken)
+returns c = seek-here (c .before .before .before .before .before .before .before .before .before .loop .inv .3) (search needs)
+    (sym (c .before .before .before .before .before .is-faulty .ensures .0) ∙ c .if1 .taken)
 
 add-i : tie.Need-add-i Inv-loop μ-loop
 add-i c = search needs

@@ -37,8 +37,13 @@ is-repeated-requires : tie.Need-is-repeated-requires
 is-repeated-requires c κs =
     let b = c .before .before in
     let o = b .before .before .before .before in
-    let s = o .before .before .before .before in
-    (s .pre .0, (s .pre .1 .0 (s .args .i) (omega arith) (sym (o .is-occupied .ensures) ∙ b .before .before .before .if1 .taken), ((b .bucket-of .ensures .1, omega arith), (b .bucket-of .ensures .0, s .pre .1 .1 .1))))
+    let s = o .before .before .before .before in (
+      s .pre .0,
+      (
+        s .pre .1 .0 (s .args .i) (omega arith) (sym (o .is-occupied .ensures) ∙ b .before .before .before .if1 .taken),
+        ((b .bucket-of .ensures .1, omega arith), (b .bucket-of .ensures .0, s .pre .1 .1 .1)),
+      ),
+    )
 
 same-length : tie.Need-same-length
 same-length c = search needs
@@ -50,8 +55,10 @@ returns-2 : tie.Need-returns-2
 unfolding isFaulty
 returns-2 c =
     let b = c .before .before .before .before in
-    let o = b .before .before .before .before in
-    (rw (← o .is-occupied .ensures, b .before .before .before .if1 .taken, ← b .before .before .is-reserved .ensures, b .before .if2 .left, ← c .before .is-repeated .ensures, c .if3 .taken), λ e. absurd (true≢false e))
+    let o = b .before .before .before .before in (
+      rw (← o .is-occupied .ensures, b .before .before .before .if1 .taken, ← b .before .before .is-reserved .ensures, b .before .if2 .left, ← c .before .is-repeated .ensures, c .if3 .taken),
+      λ e. absurd (true≢false e),
+    )
 
 enter-requires : tie.Need-enter-requires
 enter-requires c κs = search needs

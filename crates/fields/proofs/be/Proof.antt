@@ -31,7 +31,11 @@ cast-v : tie.Need-cast-v Inv-loop μ-loop
 cast-v c = omega (arith, c .shared-slice-known .given (c .before .before .before .args .at + c .before .before .loop .i))
 
 add-v-2 : tie.Need-add-v-2 Inv-loop μ-loop
-add-v-2 c = omega (arith, c .shared-slice-known .given (c .before .before .before .args .at + c .before .before .loop .i), pow-seven (c .before .before .loop .i) (c .before .before .loop .v) (c .before .before .loop .inv .2) (omega arith))
+add-v-2 c = omega (
+  arith,
+  c .shared-slice-known .given (c .before .before .before .args .at + c .before .before .loop .i),
+  pow-seven (c .before .before .loop .i) (c .before .before .loop .v) (c .before .before .loop .inv .2) (omega arith),
+)
 
 add-i : tie.Need-add-i Inv-loop μ-loop
 add-i c = omega arith

@@ -36,7 +36,8 @@ loop-again : tie.Need-loop-again Inv-loop μ-loop
 loop-again c =
     let l = c .before .loop in
     let a = c .before .before .args in
-    let more : put (set (l .b) (a .at + (l .i - 1)) (l .x % 256)) (a .at) (beBytes (l .i - 1) (l .x / 256)) ≡ put (l .b) (a .at) (beBytes (l .i) (l .x)) = rw (beBytes-more (l .i) (l .x) (c .loop-test .taken), ← put-back, length-beBytes) refl in
+    let more : put (set (l .b) (a .at + (l .i - 1)) (l .x % 256)) (a .at) (beBytes (l .i - 1) (l .x / 256)) ≡ put (l .b) (a .at)
+    (beBytes (l .i) (l .x)) = rw (beBytes-more (l .i) (l .x) (c .loop-test .taken), ← put-back, length-beBytes) refl in
     (omega arith, more ∙ l .inv .1, simp length-set (l .inv .2))
 
 same-length : tie.Need-same-length Inv-loop μ-loop

@@ -16,7 +16,8 @@ record-count-requires : tie.Need-record-count-requires
 record-count-requires c κs = bounded _ _ (sym (c .before .can-format .ensures) ∙ c .if1 .taken) (search needs)
 
 put-record-requires : tie.Need-put-record-requires
-put-record-requires c κs = (bounded _ _ (sym (c .before .before .before .before .before .can-format .ensures) ∙ c .before .before .before .before .if1 .taken) (search needs), (search needs, search needs))
+put-record-requires c
+    κs = (bounded _ _ (sym (c .before .before .before .before .before .can-format .ensures) ∙ c .before .before .before .before .if1 .taken) (search needs), (search needs, search needs))
 
 same-length : tie.Need-same-length
 same-length c = search needs
@@ -26,7 +27,9 @@ returns c =
     let s = c .before .before .before .before .before .before .before .before .before .before .before .args in
     let a : Format = record { sectors = s .sectors; files = s .files; id = s .id; mode = s .mode; time = s .time } in
     let g = c .before .before .before .before .before .before .before .before .before .geometry-for in
-    let r = accepted a (s .position) (s .out .now) (g .result) (g .ensures) (sym (c .before .before .before .before .before .before .before .before .can-format .ensures) ∙ c .before .before .before .before .before .before .before .if1 .taken) (search needs) (search needs) in
+    let r = accepted a (s .position) (s .out .now) (g .result) (g .ensures)
+    (sym (c .before .before .before .before .before .before .before .before .can-format .ensures) ∙ c .before .before .before .before .before .before .before .if1 .taken) (search needs)
+    (search needs) in
     (r .0, c .before .before .put-record .ensures a refl refl refl ∙ r .1)
 
 refused-requires : tie.Need-refused-requires
@@ -37,7 +40,8 @@ returns-2 c =
     let s = c .before .before .before .before .before .before .before .before .args in
     let a : Format = record { sectors = s .sectors; files = s .files; id = s .id; mode = s .mode; time = s .time } in
     let g = c .before .before .before .before .before .before .geometry-for in
-    let r = refused-14 a (s .position) (s .out .now) (g .result) (g .ensures) (sym (c .before .before .before .before .before .can-format .ensures) ∙ c .before .before .before .before .if1 .taken) (search needs) (search needs) in
+    let r = refused-14 a (s .position) (s .out .now) (g .result) (g .ensures) (sym (c .before .before .before .before .before .can-format .ensures) ∙ c .before .before .before .before .if1 .taken)
+    (search needs) (search needs) in
     (c .refused .ensures ∙ r .0, r .1)
 
 refused-requires-2 : tie.Need-refused-requires-2

@@ -20,8 +20,10 @@ same-length c = search needs
 returns : tie.Need-returns
 unfolding listAnswer listOutput listCopies listVerdict
 returns c =
-    let t = eq-eqb _ _ (c .before .before .before .before .if1 .taken) in
-    (rw (← c .before .before .before .before .before .before .judge .ensures, t) (c .before .before .list-in .ensures .0), rw (← c .before .before .before .before .before .before .judge .ensures, t) (c .before .before .list-in .ensures .1))
+    let t = eq-eqb _ _ (c .before .before .before .before .if1 .taken) in (
+      rw (← c .before .before .before .before .before .before .judge .ensures, t) (c .before .before .list-in .ensures .0),
+      rw (← c .before .before .before .before .before .before .judge .ensures, t) (c .before .before .list-in .ensures .1),
+    )
 
 not-listed-requires : tie.Need-not-listed-requires
 not-listed-requires c κs = search needs

@@ -23,8 +23,10 @@ returns : tie.Need-returns
 unfolding readAnswer readOutput readGives
 returns c =
     let t = eq-eqb _ _ (c .before .before .before .before .if1 .taken) in
-    let e = c .before .before .read-in .ensures .0 in
-    (rw (← c .before .before .before .before .before .before .judge .ensures, t) e, rw (← c .before .before .before .before .before .before .judge .ensures, t, ← e) (c .before .before .read-in .ensures .1))
+    let e = c .before .before .read-in .ensures .0 in (
+      rw (← c .before .before .before .before .before .before .judge .ensures, t) e,
+      rw (← c .before .before .before .before .before .before .judge .ensures, t, ← e) (c .before .before .read-in .ensures .1),
+    )
 
 not-read-requires : tie.Need-not-read-requires
 not-read-requires c κs = search needs

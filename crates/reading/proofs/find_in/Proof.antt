@@ -29,7 +29,8 @@ geometry-in-requires : tie.Need-geometry-in-requires
 geometry-in-requires c κs = image-length _ _ (judged-image _ _ (c .before .before .before .before .pre))
 
 file-named-requires : tie.Need-file-named-requires
-file-named-requires c κs = (judged-opened _ _ (c .geometry-in .ensures) (omega arith) (c .before .before .before .before .before .pre), short-name _ (sym (c .before .before .bad-name .ensures) ∙ c .before .if1 .left))
+file-named-requires c
+    κs = (judged-opened _ _ (c .geometry-in .ensures) (omega arith) (c .before .before .before .before .before .pre), short-name _ (sym (c .before .before .bad-name .ensures) ∙ c .before .if1 .left))
 
 enum-known-i : tie.Need-enum-known-i
 enum-known-i c = search needs
@@ -37,7 +38,9 @@ enum-known-i c = search needs
 fields-at-requires : tie.Need-fields-at-requires
 fields-at-requires c κs =
     let o = judged-opened _ _ (c .before .before .before .before .geometry-in .ensures) (omega arith) (c .before .before .before .before .before .before .before .before .before .pre) in
-    let h = named-at (view (c .before .before .before .before .before .before .before .before .before .args .img .now)) (c .before .before .before .before .before .before .before .before .before .args .name .now) (c .before .i .given .0 .0) (sym (sym (c .before .before .before .file-named .ensures) ∙ c .before .i .given .1)) in
+    let h = named-at (view (c .before .before .before .before .before .before .before .before .before .args .img .now))
+    (c .before .before .before .before .before .before .before .before .before .args .name .now) (c .before .i .given .0 .0)
+    (sym (sym (c .before .before .before .file-named .ensures) ∙ c .before .i .given .1)) in
     let e = ap (λ (x : Geometry). x .files) (o .is) in
     omega arith
 
@@ -48,7 +51,15 @@ returns-2 : tie.Need-returns-2
 unfolding foundBy nameConditions verdictOf
 returns-2 c =
     let h = (sym (c .before .before .before .before .before .file-named .ensures) ∙ c .before .before .before .i .given .1) in
-    rw (← c .before .before .before .before .before .before .before .before .bad-name .ensures, c .before .before .before .before .before .before .before .if1 .left, h, named-entry (view (c .before .before .before .before .before .before .before .before .before .before .before .args .img .now)) (c .before .before .before .before .before .before .before .before .before .before .before .args .name .now) _ (sym h), ← c .before .fields-at .ensures, c .refusal2 .ensures)
+    rw (
+      ← c .before .before .before .before .before .before .before .before .bad-name .ensures,
+      c .before .before .before .before .before .before .before .if1 .left,
+      h,
+      named-entry (view (c .before .before .before .before .before .before .before .before .before .before .before .args .img .now))
+          (c .before .before .before .before .before .before .before .before .before .before .before .args .name .now) _ (sym h),
+      ← c .before .fields-at .ensures,
+      c .refusal2 .ensures,
+    )
 
 enum-told : tie.Need-enum-told
 enum-told c = search needs
@@ -61,7 +72,12 @@ not-found-requires-2 c κs = search needs
 
 returns-3 : tie.Need-returns-3
 unfolding foundBy nameConditions verdictOf
-returns-3 c = rw (← c .before .before .before .before .before .before .before .bad-name .ensures, c .before .before .before .before .before .before .if1 .left, sym (c .before .before .before .before .file-named .ensures) ∙ c .before .before .enum-told .given .1, ← c .before .refusal3 .ensures) (c .not-found2 .ensures)
+returns-3 c = rw (
+  ← c .before .before .before .before .before .before .before .bad-name .ensures,
+  c .before .before .before .before .before .before .if1 .left,
+  sym (c .before .before .before .before .file-named .ensures) ∙ c .before .before .enum-told .given .1,
+  ← c .before .refusal3 .ensures,
+) (c .not-found2 .ensures)
 
 pub find-in-spec : {M : Type 1} → statement M
 find-in-spec =

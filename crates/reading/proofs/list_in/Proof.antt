@@ -32,10 +32,15 @@ fields-at-requires c κs =
 
 copy-name-requires : tie.Need-copy-name-requires
 copy-name-requires c κs =
-    let o = judged-opened _ _ (c .before .before .before .before .before .before .before .geometry-in .ensures) (omega arith) (c .before .before .before .before .before .before .before .before .before .before .pre) in
+    let o = judged-opened _ _ (c .before .before .before .before .before .before .before .geometry-in .ensures) (omega arith)
+    (c .before .before .before .before .before .before .before .before .before .before .pre) in
     let e = ap (λ (x : Geometry). x .files) (c .before .before .before .before .before .before .before .geometry-in .ensures) in
-    let s = sound-name (view (c .before .before .before .before .before .before .before .before .before .before .args .img .now)) (judged-sound _ _ (c .before .before .before .before .before .before .before .before .before .before .pre)) (c .before .before .before .before .before .before .before .before .before .before .args .index) (omega arith) (sym (c .before .before .before .before .is-occupied .ensures) ∙ c .before .before .before .if2 .taken) in
-    let l = name-length-of (c .before .before .before .before .before .before .before .before .before .before .args .img .now) (c .before .before .before .before .before .before .before .before .before .before .args .index) (c .before .before .fields-at .result) (c .before .before .fields-at .ensures) in
+    let s = sound-name (view (c .before .before .before .before .before .before .before .before .before .before .args .img .now))
+    (judged-sound _ _ (c .before .before .before .before .before .before .before .before .before .before .pre))
+    (c .before .before .before .before .before .before .before .before .before .before .args .index) (omega arith)
+    (sym (c .before .before .before .before .is-occupied .ensures) ∙ c .before .before .before .if2 .taken) in
+    let l = name-length-of (c .before .before .before .before .before .before .before .before .before .before .args .img .now)
+    (c .before .before .before .before .before .before .before .before .before .before .args .index) (c .before .before .fields-at .result) (c .before .before .fields-at .ensures) in
     (omega arith, (l, omega arith, omega arith))
 
 refusal-requires : tie.Need-refusal-requires
@@ -48,12 +53,29 @@ returns : tie.Need-returns
 unfolding listedBy copiedBy
 returns c =
     let e = ap (λ (x : Geometry). x .files) (c .before .before .before .before .before .before .before .before .before .before .before .geometry-in .ensures) in
-    let h : c .before .before .before .before .before .before .before .before .before .before .before .before .before .before .args .index < geometryIn ((view (c .before .before .before .before .before .before .before .before .before .before .before .before .before .before .args .img .now)) superblockAt) .files = omega arith in
+    let h : c .before .before .before .before .before .before .before .before .before .before .before .before .before .before .args .index < geometryIn
+    ((view (c .before .before .before .before .before .before .before .before .before .before .before .before .before .before .args .img .now)) superblockAt) .files = omega arith in
     let o = sym (c .before .before .before .before .before .before .before .before .is-occupied .ensures) ∙ c .before .before .before .before .before .before .before .if2 .taken in
-    let l = name-length-of (c .before .before .before .before .before .before .before .before .before .before .before .before .before .before .args .img .now) (c .before .before .before .before .before .before .before .before .before .before .before .before .before .before .args .index) (c .before .before .before .before .before .before .fields-at .result) (c .before .before .before .before .before .before .fields-at .ensures) in
-    let v = list-done (view (c .before .before .before .before .before .before .before .before .before .before .before .before .before .before .args .img .now)) (c .before .before .before .before .before .before .before .before .before .before .before .before .before .before .args .index) (length (c .before .before .before .before .before .before .before .before .before .before .before .before .before .before .args .out .now)) h o (omega (arith, c .before .before .before .before .before .if3 .taken)) in (
-      rw (v, entry-on (view (c .before .before .before .before .before .before .before .before .before .before .before .before .before .before .args .img .now)) (c .before .before .before .before .before .before .before .before .before .before .before .before .before .before .args .index) h o, ← c .before .before .before .before .before .before .fields-at .ensures, c .refusal .ensures),
-      rw (v, listed-name (view (c .before .before .before .before .before .before .before .before .before .before .before .before .before .before .args .img .now)) (c .before .before .before .before .before .before .before .before .before .before .before .before .before .before .args .index) (length (c .before .before .before .before .before .before .before .before .before .before .before .before .before .before .args .out .now)) h o) (c .before .before .before .copy-name .ensures),
+    let l = name-length-of (c .before .before .before .before .before .before .before .before .before .before .before .before .before .before .args .img .now)
+    (c .before .before .before .before .before .before .before .before .before .before .before .before .before .before .args .index)
+    (c .before .before .before .before .before .before .fields-at .result) (c .before .before .before .before .before .before .fields-at .ensures) in
+    let v = list-done (view (c .before .before .before .before .before .before .before .before .before .before .before .before .before .before .args .img .now))
+    (c .before .before .before .before .before .before .before .before .before .before .before .before .before .before .args .index)
+    (length (c .before .before .before .before .before .before .before .before .before .before .before .before .before .before .args .out .now)) h o
+    (omega (arith, c .before .before .before .before .before .if3 .taken)) in (
+      rw (
+        v,
+        entry-on (view (c .before .before .before .before .before .before .before .before .before .before .before .before .before .before .args .img .now))
+            (c .before .before .before .before .before .before .before .before .before .before .before .before .before .before .args .index) h o,
+        ← c .before .before .before .before .before .before .fields-at .ensures,
+        c .refusal .ensures,
+      ),
+      rw (
+        v,
+        listed-name (view (c .before .before .before .before .before .before .before .before .before .before .before .before .before .before .args .img .now))
+            (c .before .before .before .before .before .before .before .before .before .before .before .before .before .before .args .index)
+            (length (c .before .before .before .before .before .before .before .before .before .before .before .before .before .before .args .out .now)) h o,
+      ) (c .before .before .before .copy-name .ensures),
     )
 
 refusal-requires-2 : tie.Need-refusal-requires-2
@@ -66,10 +88,15 @@ returns-2 : tie.Need-returns-2
 unfolding listedBy copiedBy
 returns-2 c =
     let e = ap (λ (x : Geometry). x .files) (c .before .before .before .before .before .before .before .before .geometry-in .ensures) in
-    let h : c .before .before .before .before .before .before .before .before .before .before .before .args .index < geometryIn ((view (c .before .before .before .before .before .before .before .before .before .before .before .args .img .now)) superblockAt) .files = omega arith in
+    let h : c .before .before .before .before .before .before .before .before .before .before .before .args .index < geometryIn
+    ((view (c .before .before .before .before .before .before .before .before .before .before .before .args .img .now)) superblockAt) .files = omega arith in
     let o = sym (c .before .before .before .before .before .is-occupied .ensures) ∙ c .before .before .before .before .if2 .taken in
-    let l = name-length-of (c .before .before .before .before .before .before .before .before .before .before .before .args .img .now) (c .before .before .before .before .before .before .before .before .before .before .before .args .index) (c .before .before .before .fields-at .result) (c .before .before .before .fields-at .ensures) in
-    let v = list-short (view (c .before .before .before .before .before .before .before .before .before .before .before .args .img .now)) (c .before .before .before .before .before .before .before .before .before .before .before .args .index) (length (c .before .before .before .before .before .before .before .before .before .before .before .args .out .now)) h o (omega (arith, c .before .before .if3 .left)) in
+    let l = name-length-of (c .before .before .before .before .before .before .before .before .before .before .before .args .img .now)
+    (c .before .before .before .before .before .before .before .before .before .before .before .args .index) (c .before .before .before .fields-at .result)
+    (c .before .before .before .fields-at .ensures) in
+    let v = list-short (view (c .before .before .before .before .before .before .before .before .before .before .before .args .img .now))
+    (c .before .before .before .before .before .before .before .before .before .before .before .args .index)
+    (length (c .before .before .before .before .before .before .before .before .before .before .before .args .out .now)) h o (omega (arith, c .before .before .if3 .left)) in
     (rw (v, ← c .before .refusal2 .ensures) (c .not-listed .ensures), rw v (sym (put-nil _ _)))
 
 refusal-requires-3 : tie.Need-refusal-requires-3
@@ -82,7 +109,9 @@ returns-3 : tie.Need-returns-3
 unfolding listedBy copiedBy
 returns-3 c =
     let e = ap (λ (x : Geometry). x .files) (c .before .before .before .before .before .before .geometry-in .ensures) in
-    let v = list-free (view (c .before .before .before .before .before .before .before .before .before .args .img .now)) (c .before .before .before .before .before .before .before .before .before .args .index) (length (c .before .before .before .before .before .before .before .before .before .args .out .now)) (omega arith) (sym (c .before .before .before .is-occupied .ensures) ∙ c .before .before .if2 .left) in
+    let v = list-free (view (c .before .before .before .before .before .before .before .before .before .args .img .now))
+    (c .before .before .before .before .before .before .before .before .before .args .index) (length (c .before .before .before .before .before .before .before .before .before .args .out .now))
+    (omega arith) (sym (c .before .before .before .is-occupied .ensures) ∙ c .before .before .if2 .left) in
     (rw (v, ← c .before .refusal3 .ensures) (c .not-listed2 .ensures), rw v (sym (put-nil _ _)))
 
 refusal-requires-4 : tie.Need-refusal-requires-4
@@ -95,7 +124,8 @@ returns-4 : tie.Need-returns-4
 unfolding listedBy copiedBy
 returns-4 c =
     let e = ap (λ (x : Geometry). x .files) (c .before .before .before .before .geometry-in .ensures) in
-    let v = list-past (view (c .before .before .before .before .before .before .before .args .img .now)) (c .before .before .before .before .before .before .before .args .index) (length (c .before .before .before .before .before .before .before .args .out .now)) (omega arith) in
+    let v = list-past (view (c .before .before .before .before .before .before .before .args .img .now)) (c .before .before .before .before .before .before .before .args .index)
+    (length (c .before .before .before .before .before .before .before .args .out .now)) (omega arith) in
     (rw (v, ← c .before .refusal4 .ensures) (c .not-listed3 .ensures), rw v (sym (put-nil _ _)))
 
 pub list-in-spec : {M : Type 1} → statement M

@@ -35,8 +35,10 @@ same-length c = search needs
 returns-2 : tie.Need-returns-2
 unfolding fileVerdict verdictOf
 returns-2 c =
-    let n = c .before .before .before .before .before .before .least .ensures in
-    (rw (le-ltb _ _ (c .before .before .before .before .before .before .before .if1 .left), ← n, le-ltb _ _ (c .before .before .before .before .before .if2 .taken), c .refusal2 .ensures), c .before .before .before .read-span .ensures)
+    let n = c .before .before .before .before .before .before .least .ensures in (
+      rw (le-ltb _ _ (c .before .before .before .before .before .before .before .if1 .left), ← n, le-ltb _ _ (c .before .before .before .before .before .if2 .taken), c .refusal2 .ensures),
+      c .before .before .before .read-span .ensures,
+    )
 
 refusal-requires-3 : tie.Need-refusal-requires-3
 refusal-requires-3 c κs = search needs
@@ -47,8 +49,10 @@ not-read-requires-2 c κs = search needs
 returns-3 : tie.Need-returns-3
 unfolding fileVerdict verdictOf fileBytes tabulate
 returns-3 c =
-    let n = c .before .before .before .least .ensures in
-    (rw (le-ltb _ _ (c .before .before .before .before .if1 .left), ← n, lt-ltb _ _ (c .before .before .if2 .left), ← c .before .refusal3 .ensures) (c .not-read2 .ensures), rw (c .not-read2 .ensures) (sym (put-nil _ _)))
+    let n = c .before .before .before .least .ensures in (
+      rw (le-ltb _ _ (c .before .before .before .before .if1 .left), ← n, lt-ltb _ _ (c .before .before .if2 .left), ← c .before .refusal3 .ensures) (c .not-read2 .ensures),
+      rw (c .not-read2 .ensures) (sym (put-nil _ _)),
+    )
 
 pub read-file-spec : {M : Type 1} → statement M
 read-file-spec =

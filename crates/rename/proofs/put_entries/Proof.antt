@@ -21,15 +21,19 @@ same-length-2 c = search needs
 returns : tie.Need-returns
 returns c =
     let q = c .before .before .before .before in
-    let p = q .before .before .before .before .before .before .before in
-    (rw (lt-ltb _ _ (p .before .before .before .if1 .taken)) (added-then (p .put-renamed .ensures .0) (q .put-freed-entry .ensures .0)), omega (arith, p .put-renamed .ensures .1, q .put-freed-entry .ensures .1))
+    let p = q .before .before .before .before .before .before .before in (
+      rw (lt-ltb _ _ (p .before .before .before .if1 .taken)) (added-then (p .put-renamed .ensures .0) (q .put-freed-entry .ensures .0)),
+      omega (arith, p .put-renamed .ensures .1, q .put-freed-entry .ensures .1),
+    )
 
 put-freed-entry-requires-2 : tie.Need-put-freed-entry-requires-2
 put-freed-entry-requires-2 c κs = search needs
 
 put-renamed-requires-2 : tie.Need-put-renamed-requires-2
-put-renamed-requires-2 c κs =
-    (c .before .before .before .before .before .before .before .before .before .before .before .before .before .before .before .before .pre .0, ((omega arith, omega arith), (omega arith, omega arith)))
+put-renamed-requires-2 c κs = (
+  c .before .before .before .before .before .before .before .before .before .before .before .before .before .before .before .before .pre .0,
+  ((omega arith, omega arith), (omega arith, omega arith)),
+)
 
 same-length-3 : tie.Need-same-length-3
 same-length-3 c = search needs
@@ -40,8 +44,10 @@ same-length-4 c = search needs
 returns-2 : tie.Need-returns-2
 returns-2 c =
     let q = c .before .before .before .before in
-    let p = q .before .before .before .before .before .before .before in
-    (rw (le-ltb _ _ (p .before .before .before .if1 .left)) (added-then (p .put-freed-entry2 .ensures .0) (q .put-renamed2 .ensures .0)), omega (arith, p .put-freed-entry2 .ensures .1, q .put-renamed2 .ensures .1))
+    let p = q .before .before .before .before .before .before .before in (
+      rw (le-ltb _ _ (p .before .before .before .if1 .left)) (added-then (p .put-freed-entry2 .ensures .0) (q .put-renamed2 .ensures .0)),
+      omega (arith, p .put-freed-entry2 .ensures .1, q .put-renamed2 .ensures .1),
+    )
 
 pub put-entries-spec : {M : Type 1} → statement M
 put-entries-spec =

@@ -28,7 +28,8 @@ returns c =
     let q = c .before .before .before .before in
     let s = c .before .before .before .before .before .before .before .before .before .before .before .before .before in
     let room = s .pre .1 .1 .1 in (
-      added-copy {s = entryAt (s .args .i .0)} (rw (← q .before .before .before .before .renamed-entry .ensures) (q .put-copy .ensures .0)) (rw (← q .before .sector .ensures) (q .put-copy .ensures .1)) room,
+      added-copy {s = entryAt (s .args .i .0)} (rw (← q .before .before .before .before .renamed-entry .ensures) (q .put-copy .ensures .0))
+          (rw (← q .before .sector .ensures) (q .put-copy .ensures .1)) room,
       omega (arith, q .put-copy .ensures .0 .next),
     )
 

@@ -23,8 +23,13 @@ mul-needed c = search needs
 
 put-rename-requires : tie.Need-put-rename-requires
 put-rename-requires c κs =
-    let s = c .before .before .before .before .before .before .before in
-    (s .pre .0, ((omega arith, place-below _ (s .args .name .now) (s .pre .0) (c .before .before .before .file-named .ensures), omega arith), omega (arith, c .before .before .rename-count .ensures .0)))
+    let s = c .before .before .before .before .before .before .before in (
+      s .pre .0,
+      (
+        (omega arith, place-below _ (s .args .name .now) (s .pre .0) (c .before .before .before .file-named .ensures), omega arith),
+        omega (arith, c .before .before .rename-count .ensures .0),
+      ),
+    )
 
 refusal-requires : tie.Need-refusal-requires
 refusal-requires c κs = search needs
@@ -41,7 +46,8 @@ returns c =
     let n = c .before .before .before .before .before .before .rename-count .ensures .0 in
     let needs = rename-needs d (a .i .0) (c .before .before .before .before .before .before .before .file-named .result) (a .name .now) (a .time) in
     rw (c .refusal .ensures, ← place)
-    (fitted-done d (renamePlan (catalogueOf d) d (a .i .0) (c .before .before .before .before .before .before .before .file-named .result) (a .name .now) (a .time)) (a .list .now) {n = recordSize * c .before .before .before .before .before .before .rename-count .result}
+    (fitted-done d (renamePlan (catalogueOf d) d (a .i .0) (c .before .before .before .before .before .before .before .file-named .result) (a .name .now) (a .time))
+    (a .list .now) {n = recordSize * c .before .before .before .before .before .before .rename-count .result}
     (omega (arith, n, needs)) (omega arith) (c .before .before .before .put-rename .ensures))
 
 refusal-requires-2 : tie.Need-refusal-requires-2

@@ -34,8 +34,10 @@ geometry-in-requires : tie.Need-geometry-in-requires
 geometry-in-requires c κs = image-length _ _ (judged-image _ _ (c .before .before .before .before .before .before .pre))
 
 file-named-requires : tie.Need-file-named-requires
-file-named-requires c κs =
-    (judged-opened _ _ (c .geometry-in .ensures) (omega arith) (c .before .before .before .before .before .before .before .pre), short-name _ (or-none _ _ (sym (c .before .before .bad-names .ensures) ∙ c .before .if1 .left) .0))
+file-named-requires c κs = (
+  judged-opened _ _ (c .geometry-in .ensures) (omega arith) (c .before .before .before .before .before .before .before .pre),
+  short-name _ (or-none _ _ (sym (c .before .before .bad-names .ensures) ∙ c .before .if1 .left) .0),
+)
 
 enum-known-i : tie.Need-enum-known-i
 enum-known-i c = search needs
@@ -57,7 +59,8 @@ returns-2 c =
     let good = sym (f .before .before .before .bad-names .ensures) ∙ f .before .before .if1 .left in
     let found = sym (f .file-named .ensures) ∙ c .before .before .before .before .before .i .given .1 in
     rw (c .refused2 .ensures, c .before .refusal2 .ensures)
-    (rename-itself (a .img .now) (a .list .now) (a .old .now) (a .new .now) (a .time) (s .pre) (c .before .before .before .before .before .i .given .0 .0) good found (sym (c .before .before .before .is-same .ensures) ∙ c .before .before .if2 .taken))
+    (rename-itself (a .img .now) (a .list .now) (a .old .now) (a .new .now) (a .time) (s .pre) (c .before .before .before .before .before .i .given .0 .0) good found
+    (sym (c .before .before .before .is-same .ensures) ∙ c .before .before .if2 .taken))
 
 rename-file-requires : tie.Need-rename-file-requires
 rename-file-requires c κs =
@@ -81,7 +84,8 @@ returns-3 c =
     let a = s .args in
     let good = sym (f .before .before .before .bad-names .ensures) ∙ f .before .before .if1 .left in
     let found = sym (f .file-named .ensures) ∙ c .before .before .before .before .before .before .before .i .given .1 in
-    rename-other (a .img .now) (a .list .now) (a .old .now) (a .new .now) (a .time) (s .pre) (c .before .before .before .before .before .before .before .i .given .0 .0) good found (sym (c .before .before .before .before .before .is-same .ensures) ∙ c .before .before .before .before .if2 .left) (c .before .before .rename-file .ensures)
+    rename-other (a .img .now) (a .list .now) (a .old .now) (a .new .now) (a .time) (s .pre) (c .before .before .before .before .before .before .before .i .given .0 .0) good found
+    (sym (c .before .before .before .before .before .is-same .ensures) ∙ c .before .before .before .before .if2 .left) (c .before .before .rename-file .ensures)
 
 enum-told : tie.Need-enum-told
 enum-told c = search needs

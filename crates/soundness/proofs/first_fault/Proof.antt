@@ -29,7 +29,8 @@ enum-known-i-2 c = search needs
 returns-2 : tie.Need-returns-2
 returns-2 c =
     let s = c .before .before .before .before .before .before .before .before in
-    at-22 (view (s .args .img .now)) (s .args .g) (s .pre .is) (sym (c .before .before .before .before .before .before .fault21 .ensures) ∙ c .before .before .before .before .enum-told .given .1) (c .before .i2 .given .0 .0) (sym (c .before .before .before .fault22 .ensures) ∙ c .before .i2 .given .1)
+    at-22 (view (s .args .img .now)) (s .args .g) (s .pre .is) (sym (c .before .before .before .before .before .before .fault21 .ensures) ∙ c .before .before .before .before .enum-told .given .1)
+    (c .before .i2 .given .0 .0) (sym (c .before .before .before .fault22 .ensures) ∙ c .before .i2 .given .1)
 
 enum-told-2 : tie.Need-enum-told-2
 enum-told-2 c = search needs
@@ -43,7 +44,10 @@ enum-known-i-3 c = search needs
 returns-3 : tie.Need-returns-3
 returns-3 c =
     let s = c .before .before .before .before .before .before .before .before .before .before .before in
-    at-23 (view (s .args .img .now)) (s .args .g) (s .pre .is) (sym (c .before .before .before .before .before .before .before .before .before .fault21 .ensures) ∙ c .before .before .before .before .before .before .before .enum-told .given .1) (sym (c .before .before .before .before .before .before .fault22 .ensures) ∙ c .before .before .before .before .enum-told2 .given .1) (c .before .i3 .given .0 .0) (sym (c .before .before .before .fault23 .ensures) ∙ c .before .i3 .given .1)
+    at-23 (view (s .args .img .now)) (s .args .g) (s .pre .is)
+    (sym (c .before .before .before .before .before .before .before .before .before .fault21 .ensures) ∙ c .before .before .before .before .before .before .before .enum-told .given .1)
+    (sym (c .before .before .before .before .before .before .fault22 .ensures) ∙ c .before .before .before .before .enum-told2 .given .1) (c .before .i3 .given .0 .0)
+    (sym (c .before .before .before .fault23 .ensures) ∙ c .before .i3 .given .1)
 
 enum-told-3 : tie.Need-enum-told-3
 enum-told-3 c = search needs
@@ -57,7 +61,12 @@ enum-known-i-4 c = search needs
 returns-4 : tie.Need-returns-4
 returns-4 c =
     let s = c .before .before .before .before .before .before .before .before .before .before .before .before .before .before in
-    at-24 (view (s .args .img .now)) (s .args .g) (s .pre .is) (sym (c .before .before .before .before .before .before .before .before .before .before .before .before .fault21 .ensures) ∙ c .before .before .before .before .before .before .before .before .before .before .enum-told .given .1) (sym (c .before .before .before .before .before .before .before .before .before .fault22 .ensures) ∙ c .before .before .before .before .before .before .before .enum-told2 .given .1) (sym (c .before .before .before .before .before .before .fault23 .ensures) ∙ c .before .before .before .before .enum-told3 .given .1) (c .before .i4 .given .0 .0) (sym (c .before .before .before .fault24 .ensures) ∙ c .before .i4 .given .1)
+    at-24 (view (s .args .img .now)) (s .args .g) (s .pre .is)
+    (sym (c .before .before .before .before .before .before .before .before .before .before .before .before .fault21 .ensures)
+    ∙ c .before .before .before .before .before .before .before .before .before .before .enum-told .given .1)
+    (sym (c .before .before .before .before .before .before .before .before .before .fault22 .ensures) ∙ c .before .before .before .before .before .before .before .enum-told2 .given .1)
+    (sym (c .before .before .before .before .before .before .fault23 .ensures) ∙ c .before .before .before .before .enum-told3 .given .1) (c .before .i4 .given .0 .0)
+    (sym (c .before .before .before .fault24 .ensures) ∙ c .before .i4 .given .1)
 
 enum-told-4 : tie.Need-enum-told-4
 enum-told-4 c = search needs
@@ -68,7 +77,12 @@ faults-requires c κs = search needs
 returns-5 : tie.Need-returns-5
 returns-5 c =
     let s = c .before .before .before .before .before .before .before .before .before .before .before .before .before .before in
-    from-25 (view (s .args .img .now)) (s .args .g) (s .pre .is) (sym (c .before .before .before .before .before .before .before .before .before .before .before .before .fault21 .ensures) ∙ c .before .before .before .before .before .before .before .before .before .before .enum-told .given .1) (sym (c .before .before .before .before .before .before .before .before .before .fault22 .ensures) ∙ c .before .before .before .before .before .before .before .enum-told2 .given .1) (sym (c .before .before .before .before .before .before .fault23 .ensures) ∙ c .before .before .before .before .enum-told3 .given .1) (sym (c .before .before .before .fault24 .ensures) ∙ c .before .enum-told4 .given .1) (c .faults .result) (c .faults .ensures)
+    from-25 (view (s .args .img .now)) (s .args .g) (s .pre .is)
+    (sym (c .before .before .before .before .before .before .before .before .before .before .before .before .fault21 .ensures)
+    ∙ c .before .before .before .before .before .before .before .before .before .before .enum-told .given .1)
+    (sym (c .before .before .before .before .before .before .before .before .before .fault22 .ensures) ∙ c .before .before .before .before .before .before .before .enum-told2 .given .1)
+    (sym (c .before .before .before .before .before .before .fault23 .ensures) ∙ c .before .before .before .before .enum-told3 .given .1)
+    (sym (c .before .before .before .fault24 .ensures) ∙ c .before .enum-told4 .given .1) (c .faults .result) (c .faults .ensures)
 
 pub first-fault-spec : {M : Type 1} → statement M
 first-fault-spec =

@@ -24,7 +24,12 @@ fault-verdict-requires c κs = search needs
 
 returns : tie.Need-returns
 unfolding soundVerdict
-returns c = rw (← c .before .before .before .before .before .state-on .ensures, ← c .before .before .before .before .state-number .ensures, eq-eqb _ _ (c .before .before .before .if1 .taken), ← c .before .first-fault .ensures) (c .fault-verdict .ensures)
+returns c = rw (
+  ← c .before .before .before .before .before .state-on .ensures,
+  ← c .before .before .before .before .state-number .ensures,
+  eq-eqb _ _ (c .before .before .before .if1 .taken),
+  ← c .before .first-fault .ensures,
+) (c .fault-verdict .ensures)
 
 refusal-requires : tie.Need-refusal-requires
 refusal-requires c κs = search needs

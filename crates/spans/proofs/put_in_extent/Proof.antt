@@ -57,8 +57,13 @@ put-piece-requires c κs =
     let w = sector-within (a .g) (s .pre .0 .bounded) (a .s) in
     let x = c .before .before .before .extent-for in
     let at = c .before .before .extent-at in
-    let t = s .pre .1 .1 .1 .0 in
-    (omega arith, (omega (arith, lent-inside (a .img .now) (a .g) (s .pre .0) (a .i .0) (a .held) (a .next .0) (a .s) (x .result .0) (at .result .0) (s .pre .1 .0) (x .ensures) (at .ensures)), (record { small = t .small; low = t .low; high = omega (arith, t .high) }, s .pre .1 .1 .1 .1 .0)))
+    let t = s .pre .1 .1 .1 .0 in (
+      omega arith,
+      (
+        omega (arith, lent-inside (a .img .now) (a .g) (s .pre .0) (a .i .0) (a .held) (a .next .0) (a .s) (x .result .0) (at .result .0) (s .pre .1 .0) (x .ensures) (at .ensures)),
+        (record { small = t .small; low = t .low; high = omega (arith, t .high) }, s .pre .1 .1 .1 .1 .0),
+      ),
+    )
 
 same-length : tie.Need-same-length
 same-length c = search needs
@@ -73,7 +78,8 @@ returns c =
     let q = c .before .before .before .before .before .before .before .least .ensures in
     let m = c .before .before .before .before .before .before .before .least .result in
     let l : a .s % extentSectors (a .g) + m ≤ extentSectors (a .g) = omega (arith, w, q) in
-    let f = piece-records (a .img .now) (a .g) (s .pre .0) (a .i .0) (a .held) (a .next .0) (a .s) (x .result .0) (at .result .0) (s .pre .1 .0) (x .ensures) (at .ensures) (a .offset) (spanOf (a .bytes .now) (a .len)) m l in
+    let f = piece-records (a .img .now) (a .g) (s .pre .0) (a .i .0) (a .held) (a .next .0) (a .s) (x .result .0) (at .result .0) (s .pre .1 .0) (x .ensures) (at .ensures) (a .offset)
+    (spanOf (a .bytes .now) (a .len)) m l in
     let p = c .before .before .put-piece .ensures in
     ((omega (arith, w, q, s .pre .1 .1 .1 .1 .1), omega (arith, q)), rw (f, p .0) at (p .1))
 

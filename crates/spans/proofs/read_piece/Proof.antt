@@ -20,25 +20,59 @@ extent-of-requires : tie.Need-extent-of-requires
 extent-of-requires c κs = search needs
 
 extent-at-requires : tie.Need-extent-at-requires
-extent-at-requires c κs = (c .before .before .before .before .pre .0 .bounded, omega (arith, c .extent-of .ensures .0, extent-below (c .before .before .before .before .args .img .now) (c .before .before .before .before .args .g) (c .before .before .before .before .pre .0) (c .before .before .before .before .args .i .0) (c .before .before .before .before .args .offset / extentBytes (c .before .before .before .before .args .g))))
+extent-at-requires c
+    κs = (
+      c .before .before .before .before .pre .0 .bounded,
+      omega (
+        arith,
+        c .extent-of .ensures .0,
+        extent-below (c .before .before .before .before .args .img .now) (c .before .before .before .before .args .g) (c .before .before .before .before .pre .0)
+            (c .before .before .before .before .args .i .0) (c .before .before .before .before .args .offset / extentBytes (c .before .before .before .before .args .g)),
+      ),
+    )
 
 rem-within : tie.Need-rem-within
 rem-within c = search needs
 
 sub-least : tie.Need-sub-least
-sub-least c = omega (arith, offset-within (c .before .before .before .before .before .args .g) (c .before .before .before .before .before .pre .0 .bounded) (c .before .before .before .before .before .args .offset))
+sub-least c = omega (
+  arith,
+  offset-within (c .before .before .before .before .before .args .g) (c .before .before .before .before .before .pre .0 .bounded) (c .before .before .before .before .before .args .offset),
+)
 
 least-requires : tie.Need-least-requires
 least-requires c κs = search needs
 
 mul-copy-bytes : tie.Need-mul-copy-bytes
-mul-copy-bytes c = omega (arith, piece-inside (c .before .before .before .before .before .before .before .args .img .now) (c .before .before .before .before .before .before .before .args .g) (c .before .before .before .before .before .before .before .pre .0) (c .before .before .before .before .before .before .before .args .i .0) (c .before .before .before .before .before .before .before .args .offset) (c .before .before .before .extent-of .result .0) (c .before .before .extent-at .result .0) (c .before .before .before .extent-of .ensures .0) (c .before .before .extent-at .ensures))
+mul-copy-bytes c = omega (
+  arith,
+  piece-inside (c .before .before .before .before .before .before .before .args .img .now) (c .before .before .before .before .before .before .before .args .g)
+      (c .before .before .before .before .before .before .before .pre .0) (c .before .before .before .before .before .before .before .args .i .0)
+      (c .before .before .before .before .before .before .before .args .offset) (c .before .before .before .extent-of .result .0) (c .before .before .extent-at .result .0)
+      (c .before .before .before .extent-of .ensures .0) (c .before .before .extent-at .ensures),
+)
 
 add-copy-bytes : tie.Need-add-copy-bytes
-add-copy-bytes c = omega (arith, piece-inside (c .before .before .before .before .before .before .before .args .img .now) (c .before .before .before .before .before .before .before .args .g) (c .before .before .before .before .before .before .before .pre .0) (c .before .before .before .before .before .before .before .args .i .0) (c .before .before .before .before .before .before .before .args .offset) (c .before .before .before .extent-of .result .0) (c .before .before .extent-at .result .0) (c .before .before .before .extent-of .ensures .0) (c .before .before .extent-at .ensures), offset-within (c .before .before .before .before .before .before .before .args .g) (c .before .before .before .before .before .before .before .pre .0 .bounded) (c .before .before .before .before .before .before .before .args .offset))
+add-copy-bytes c = omega (
+  arith,
+  piece-inside (c .before .before .before .before .before .before .before .args .img .now) (c .before .before .before .before .before .before .before .args .g)
+      (c .before .before .before .before .before .before .before .pre .0) (c .before .before .before .before .before .before .before .args .i .0)
+      (c .before .before .before .before .before .before .before .args .offset) (c .before .before .before .extent-of .result .0) (c .before .before .extent-at .result .0)
+      (c .before .before .before .extent-of .ensures .0) (c .before .before .extent-at .ensures),
+  offset-within (c .before .before .before .before .before .before .before .args .g) (c .before .before .before .before .before .before .before .pre .0 .bounded)
+      (c .before .before .before .before .before .before .before .args .offset),
+)
 
 copy-bytes-requires : tie.Need-copy-bytes-requires
-copy-bytes-requires c κs = omega (arith, piece-inside (c .before .before .before .before .before .before .before .before .args .img .now) (c .before .before .before .before .before .before .before .before .args .g) (c .before .before .before .before .before .before .before .before .pre .0) (c .before .before .before .before .before .before .before .before .args .i .0) (c .before .before .before .before .before .before .before .before .args .offset) (c .before .before .before .before .extent-of .result .0) (c .before .before .before .extent-at .result .0) (c .before .before .before .before .extent-of .ensures .0) (c .before .before .before .extent-at .ensures), offset-within (c .before .before .before .before .before .before .before .before .args .g) (c .before .before .before .before .before .before .before .before .pre .0 .bounded) (c .before .before .before .before .before .before .before .before .args .offset))
+copy-bytes-requires c κs = omega (
+  arith,
+  piece-inside (c .before .before .before .before .before .before .before .before .args .img .now) (c .before .before .before .before .before .before .before .before .args .g)
+      (c .before .before .before .before .before .before .before .before .pre .0) (c .before .before .before .before .before .before .before .before .args .i .0)
+      (c .before .before .before .before .before .before .before .before .args .offset) (c .before .before .before .before .extent-of .result .0) (c .before .before .before .extent-at .result .0)
+      (c .before .before .before .before .extent-of .ensures .0) (c .before .before .before .extent-at .ensures),
+  offset-within (c .before .before .before .before .before .before .before .before .args .g) (c .before .before .before .before .before .before .before .before .pre .0 .bounded)
+      (c .before .before .before .before .before .before .before .before .args .offset),
+)
 
 same-length : tie.Need-same-length
 same-length c = search needs
@@ -47,9 +81,19 @@ returns : tie.Need-returns
 returns c =
     let m = c .before .before .before .before .before .least .result in
     let e = extentBytes (c .before .before .before .before .before .before .before .before .before .before .before .args .g) in
-    let w = offset-within (c .before .before .before .before .before .before .before .before .before .before .before .args .g) (c .before .before .before .before .before .before .before .before .before .before .before .pre .0 .bounded) (c .before .before .before .before .before .before .before .before .before .before .before .args .offset) in
-    let l : c .before .before .before .before .before .before .before .before .before .before .before .args .offset % e + m ≤ e = omega arith in
-    ((omega arith, omega arith), rw (piece-is (c .before .before .before .before .before .before .before .before .before .before .before .args .img .now) (c .before .before .before .before .before .before .before .before .before .before .before .args .g) (c .before .before .before .before .before .before .before .before .before .before .before .pre .0) (c .before .before .before .before .before .before .before .before .before .before .before .args .i .0) (c .before .before .before .before .before .before .before .before .before .before .before .args .offset) (c .before .before .before .before .before .before .before .extent-of .result .0) (c .before .before .before .before .before .before .extent-at .result .0) (c .before .before .before .before .before .before .before .extent-of .ensures .0) (c .before .before .before .before .before .before .extent-at .ensures) m l) (c .before .before .copy-bytes .ensures))
+    let w = offset-within (c .before .before .before .before .before .before .before .before .before .before .before .args .g)
+    (c .before .before .before .before .before .before .before .before .before .before .before .pre .0 .bounded)
+    (c .before .before .before .before .before .before .before .before .before .before .before .args .offset) in
+    let l : c .before .before .before .before .before .before .before .before .before .before .before .args .offset % e + m ≤ e = omega arith in (
+      (omega arith, omega arith),
+      rw (piece-is (c .before .before .before .before .before .before .before .before .before .before .before .args .img .now)
+          (c .before .before .before .before .before .before .before .before .before .before .before .args .g)
+          (c .before .before .before .before .before .before .before .before .before .before .before .pre .0)
+          (c .before .before .before .before .before .before .before .before .before .before .before .args .i .0)
+          (c .before .before .before .before .before .before .before .before .before .before .before .args .offset) (c .before .before .before .before .before .before .before .extent-of .result .0)
+          (c .before .before .before .before .before .before .extent-at .result .0) (c .before .before .before .before .before .before .before .extent-of .ensures .0)
+          (c .before .before .before .before .before .before .extent-at .ensures) m l) (c .before .before .copy-bytes .ensures),
+    )
 
 pub read-piece-spec : {M : Type 1} → statement M
 read-piece-spec =

@@ -48,8 +48,11 @@ loop-less c = search needs
 
 loop-again : tie.Need-loop-again Inv-loop μ-loop
 loop-again c =
-    let l = c .before .before .before .before .before .before .loop in
-    (omega arith, rw (freed-more, ← c .before .before .before .before .table-extent .ensures, ← c .before .before .before .owned-from .ensures, ← l .inv .1) (c .before .free-one .ensures), search needs)
+    let l = c .before .before .before .before .before .before .loop in (
+      omega arith,
+      rw (freed-more, ← c .before .before .before .before .table-extent .ensures, ← c .before .before .before .owned-from .ensures, ← l .inv .1) (c .before .free-one .ensures),
+      search needs,
+    )
 
 returns : tie.Need-returns Inv-loop μ-loop
 returns c =

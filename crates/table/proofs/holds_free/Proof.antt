@@ -40,8 +40,11 @@ loop-less c = search needs
 loop-again : tie.Need-loop-again Inv-loop μ-loop
 loop-again c =
     let l = c .before .before .before .loop in
-    let a = c .before .before .before .before .before .args in
-    (omega arith, c .either .ensures ∙ ap₂ (λ (x y : Bool). x || y) (c .before .is-free .ensures) (l .inv .1) ∙ sym (anyBelow-more (λ j. eqb (tableFile (a .g) (view (a .img .now)) (a .e + j)) freeFile) (l .k)))
+    let a = c .before .before .before .before .before .args in (
+      omega arith,
+      c .either .ensures ∙ ap₂ (λ (x y : Bool). x || y) (c .before .is-free .ensures) (l .inv .1)
+          ∙ sym (anyBelow-more (λ j. eqb (tableFile (a .g) (view (a .img .now)) (a .e + j)) freeFile) (l .k)),
+    )
 
 returns : tie.Need-returns Inv-loop μ-loop
 returns c =

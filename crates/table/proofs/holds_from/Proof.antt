@@ -35,7 +35,8 @@ returns : tie.Need-returns Inv-loop μ-loop
 unfolding holdsFrom
 returns c =
     let a = c .before .before .before .before .before .before .args in
-    sym (anyBelow-true (hit (a .img .now) (a .i .0) (a .o) (a .t)) (c .before .before .before .before .loop .k) 128 (omega arith) (rw (c .before .before .table-extent .ensures) at (sym (c .before .owned-from .ensures) ∙ c .if1 .taken)))
+    sym (anyBelow-true (hit (a .img .now) (a .i .0) (a .o) (a .t)) (c .before .before .before .before .loop .k) 128 (omega arith)
+    (rw (c .before .before .table-extent .ensures) at (sym (c .before .owned-from .ensures) ∙ c .if1 .taken)))
 
 add-k : tie.Need-add-k Inv-loop μ-loop
 add-k c = search needs

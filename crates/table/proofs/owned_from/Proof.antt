@@ -17,13 +17,22 @@ returns : tie.Need-returns
 returns c =
     let s = c .before .before .before .before .before .before .before .before in
     let a = s .args in
-    rw (beyond-on (view (a .img .now)) (a .g) (s .pre .0 .is) (a .i .0) (a .o) (a .e .0) (s .pre .1) (c .before .before .before .before .if1 .taken), ← c .before .before .before .table-file .ensures .0, eq-eqb _ _ (c .before .if2 .taken), ← c .table-offset .ensures .0)
+    rw (
+      beyond-on (view (a .img .now)) (a .g) (s .pre .0 .is) (a .i .0) (a .o) (a .e .0) (s .pre .1) (c .before .before .before .before .if1 .taken),
+      ← c .before .before .before .table-file .ensures .0,
+      eq-eqb _ _ (c .before .if2 .taken),
+      ← c .table-offset .ensures .0,
+    )
 
 returns-2 : tie.Need-returns-2
 returns-2 c =
     let s = c .before .before .before .before .before .before .before in
     let a = s .args in
-    rw (beyond-on (view (a .img .now)) (a .g) (s .pre .0 .is) (a .i .0) (a .o) (a .e .0) (s .pre .1) (c .before .before .before .if1 .taken), ← c .before .before .table-file .ensures .0, ne-eqb _ _ (c .if2 .left))
+    rw (
+      beyond-on (view (a .img .now)) (a .g) (s .pre .0 .is) (a .i .0) (a .o) (a .e .0) (s .pre .1) (c .before .before .before .if1 .taken),
+      ← c .before .before .table-file .ensures .0,
+      ne-eqb _ _ (c .if2 .left),
+    )
 
 returns-3 : tie.Need-returns-3
 returns-3 c =

@@ -35,7 +35,8 @@ returns c =
     let b = c .before .before .before in
     let a = b .before .before .before .args in (
       rw (← b .before .usable .ensures)
-          (ap indexOf (sym (scan-here (hit (a .img .now) (a .i .0) (a .o)) (b .before .usable .result) (b .loop .e) (omega arith) (sym (c .before .is-part .ensures) ∙ c .if1 .taken)) ∙ b .loop .inv .1)),
+          (ap indexOf (sym (scan-here (hit (a .img .now) (a .i .0) (a .o)) (b .before .usable .result) (b .loop .e) (omega arith) (sym (c .before .is-part .ensures) ∙ c .if1 .taken))
+          ∙ b .loop .inv .1)),
       omega arith,
     )
 

@@ -20,14 +20,28 @@ refusal-requires c κs = search needs
 
 returns : tie.Need-returns
 unfolding imageVerdict verdictOf
-returns c = rw (← c .before .before .before .before .before .before .is-whole .ensures, c .before .before .before .before .before .if1 .taken, ← c .before .before .before .before .is-volume .ensures, c .before .before .before .if2 .taken, ← c .before .before .fits-image .ensures, c .before .if3 .taken) (c .refusal .ensures)
+returns c = rw (
+  ← c .before .before .before .before .before .before .is-whole .ensures,
+  c .before .before .before .before .before .if1 .taken,
+  ← c .before .before .before .before .is-volume .ensures,
+  c .before .before .before .if2 .taken,
+  ← c .before .before .fits-image .ensures,
+  c .before .if3 .taken,
+) (c .refusal .ensures)
 
 refusal-requires-2 : tie.Need-refusal-requires-2
 refusal-requires-2 c κs = search needs
 
 returns-2 : tie.Need-returns-2
 unfolding imageVerdict verdictOf
-returns-2 c = rw (← c .before .before .before .before .before .before .is-whole .ensures, c .before .before .before .before .before .if1 .taken, ← c .before .before .before .before .is-volume .ensures, c .before .before .before .if2 .taken, ← c .before .before .fits-image .ensures, c .before .if3 .left) (c .refusal2 .ensures)
+returns-2 c = rw (
+  ← c .before .before .before .before .before .before .is-whole .ensures,
+  c .before .before .before .before .before .if1 .taken,
+  ← c .before .before .before .before .is-volume .ensures,
+  c .before .before .before .if2 .taken,
+  ← c .before .before .fits-image .ensures,
+  c .before .if3 .left,
+) (c .refusal2 .ensures)
 
 refusal-requires-3 : tie.Need-refusal-requires-3
 refusal-requires-3 c κs = search needs

@@ -27,14 +27,28 @@ refusal-requires-2 c κs = search needs
 
 returns-2 : tie.Need-returns-2
 unfolding superblockVerdict verdictOf
-returns-2 c = rw (le-ltb _ _ (c .before .before .before .before .before .before .if1 .left), ← c .before .before .before .before .before .is-volume .ensures, c .before .before .before .before .if2 .taken, ← c .before .before .before .geometry-in .ensures, ← c .before .before .in-bounds .ensures, c .before .if3 .taken) (c .refusal2 .ensures)
+returns-2 c = rw (
+  le-ltb _ _ (c .before .before .before .before .before .before .if1 .left),
+  ← c .before .before .before .before .before .is-volume .ensures,
+  c .before .before .before .before .if2 .taken,
+  ← c .before .before .before .geometry-in .ensures,
+  ← c .before .before .in-bounds .ensures,
+  c .before .if3 .taken,
+) (c .refusal2 .ensures)
 
 refusal-requires-3 : tie.Need-refusal-requires-3
 refusal-requires-3 c κs = search needs
 
 returns-3 : tie.Need-returns-3
 unfolding superblockVerdict verdictOf
-returns-3 c = rw (le-ltb _ _ (c .before .before .before .before .before .before .if1 .left), ← c .before .before .before .before .before .is-volume .ensures, c .before .before .before .before .if2 .taken, ← c .before .before .before .geometry-in .ensures, ← c .before .before .in-bounds .ensures, c .before .if3 .left) (c .refusal3 .ensures)
+returns-3 c = rw (
+  le-ltb _ _ (c .before .before .before .before .before .before .if1 .left),
+  ← c .before .before .before .before .before .is-volume .ensures,
+  c .before .before .before .before .if2 .taken,
+  ← c .before .before .before .geometry-in .ensures,
+  ← c .before .before .in-bounds .ensures,
+  c .before .if3 .left,
+) (c .refusal3 .ensures)
 
 refusal-requires-4 : tie.Need-refusal-requires-4
 refusal-requires-4 c κs = search needs

@@ -27,7 +27,8 @@ returns c =
     let q = sym (c .before .e .given .1) ∙ c .before .before .before .free-extent .ensures in (
       record {
         extents = c .before .before .before .before .before .extents-for .ensures .0 ∙ held-is img (s .args .g) (s .pre .0) (s .args .i .0) (s .args .size) (s .pre .1);
-        needs-one = ap₂ ltb (c .before .before .before .before .before .extents-for .ensures .0) (c .before .before .before .before .extents-for2 .ensures .0) ∙ more-is img (s .args .g) (s .pre .0) (s .args .i .0) (s .args .size) (s .args .z) (s .pre .1);
+        needs-one = ap₂ ltb (c .before .before .before .before .before .extents-for .ensures .0) (c .before .before .before .before .extents-for2 .ensures .0)
+            ∙ more-is img (s .args .g) (s .pre .0) (s .args .i .0) (s .args .size) (s .args .z) (s .pre .1);
         has-one = ap isAt q;
         taken = ap indexOf q;
       },
@@ -44,7 +45,8 @@ returns-2 c =
     let q = sym (c .enum-told .given .1) ∙ c .before .before .free-extent .ensures in (
       record {
         extents = c .before .before .before .before .extents-for .ensures .0 ∙ held-is img (s .args .g) (s .pre .0) (s .args .i .0) (s .args .size) (s .pre .1);
-        needs-one = ap₂ ltb (c .before .before .before .before .extents-for .ensures .0) (c .before .before .before .extents-for2 .ensures .0) ∙ more-is img (s .args .g) (s .pre .0) (s .args .i .0) (s .args .size) (s .args .z) (s .pre .1);
+        needs-one = ap₂ ltb (c .before .before .before .before .extents-for .ensures .0) (c .before .before .before .extents-for2 .ensures .0)
+            ∙ more-is img (s .args .g) (s .pre .0) (s .args .i .0) (s .args .size) (s .args .z) (s .pre .1);
         has-one = ap isAt q;
         taken = ap indexOf q;
       },

@@ -45,14 +45,20 @@ returns-2 c =
     let len = length-span (a .bytes .now) (a .len) in
     let span = spanOf (a .bytes .now) (a .len) in
     rw (c .refused2 .ensures, c .before .refusal2 .ensures)
-    (room-short (a .img .now) (s .pre .0) (a .list .now) (a .i .0) (a .offset) span (a .time) (λ e. c .before .before .before .before .if1 .left (sym len ∙ e)) (a .z) (a .w .more) (s .pre .1 .1 .1 .1 ∙ ap (λ (x : ℕ). sizeAfter (catalogueOf (view (a .img .now))) (a .i .0) (a .offset) x) (sym len)) (s .pre .1 .1 .0 .0 .needs-one)
+    (room-short (a .img .now) (s .pre .0) (a .list .now) (a .i .0) (a .offset) span (a .time) (λ e. c .before .before .before .before .if1 .left (sym len ∙ e)) (a .z) (a .w .more)
+    (s .pre .1 .1 .1 .1 ∙ ap (λ (x : ℕ). sizeAfter (catalogueOf (view (a .img .now))) (a .i .0) (a .offset) x) (sym len)) (s .pre .1 .1 .0 .0 .needs-one)
     (omega (arith, len, c .before .before .before .records .ensures .0, c .before .before .if2 .taken)))
 
 put-write-requires : tie.Need-put-write-requires
 put-write-requires c κs =
     let s = c .before .before .before .before .before .before .before in
-    let h = s .pre .1 .1 .1 .0 in
-    (s .pre .1 .0, (s .pre .1 .1 .0, ((h .0, omega (arith, c .before .before .before .if1 .left), h .2, h .3), (s .pre .1 .1 .1 .1, omega (arith, c .before .before .records .ensures .0, c .before .if2 .left)))))
+    let h = s .pre .1 .1 .1 .0 in (
+      s .pre .1 .0,
+      (
+        s .pre .1 .1 .0,
+        ((h .0, omega (arith, c .before .before .before .if1 .left), h .2, h .3), (s .pre .1 .1 .1 .1, omega (arith, c .before .before .records .ensures .0, c .before .if2 .left))),
+      ),
+    )
 
 refusal-requires-3 : tie.Need-refusal-requires-3
 refusal-requires-3 c κs = search needs
@@ -68,7 +74,8 @@ mul-t15 c =
       len,
       c .before .before .before .before .before .before .records .ensures .0,
       c .before .before .before .before .before .before .records .ensures .1,
-      room-count (a .img .now) (s .pre .0) (a .list .now) (a .i .0) (a .offset) span (a .time) (λ e. c .before .before .before .before .before .before .before .if1 .left (sym len ∙ e)) (a .z) (a .w .more) (s .pre .1 .1 .1 .1 ∙ ap (λ (x : ℕ). sizeAfter (catalogueOf (view (a .img .now))) (a .i .0) (a .offset) x) (sym len)) (s .pre .1 .1 .0 .0 .needs-one)
+      room-count (a .img .now) (s .pre .0) (a .list .now) (a .i .0) (a .offset) span (a .time) (λ e. c .before .before .before .before .before .before .before .if1 .left (sym len ∙ e)) (a .z)
+          (a .w .more) (s .pre .1 .1 .1 .1 ∙ ap (λ (x : ℕ). sizeAfter (catalogueOf (view (a .img .now))) (a .i .0) (a .offset) x) (sym len)) (s .pre .1 .1 .0 .0 .needs-one)
           (c .before .before .before .put-write .ensures),
     )
 
@@ -82,7 +89,8 @@ returns-3 c =
     let len = length-span (a .bytes .now) (a .len) in
     let span = spanOf (a .bytes .now) (a .len) in
     rw (c .refusal3 .ensures)
-    (room-done (a .img .now) (s .pre .0) (a .list .now) (a .i .0) (a .offset) span (a .time) (λ e. c .before .before .before .before .before .before .before .if1 .left (sym len ∙ e)) (a .z) (a .w .more) (s .pre .1 .1 .1 .1 ∙ ap (λ (x : ℕ). sizeAfter (catalogueOf (view (a .img .now))) (a .i .0) (a .offset) x) (sym len)) (s .pre .1 .1 .0 .0 .needs-one)
+    (room-done (a .img .now) (s .pre .0) (a .list .now) (a .i .0) (a .offset) span (a .time) (λ e. c .before .before .before .before .before .before .before .if1 .left (sym len ∙ e)) (a .z)
+    (a .w .more) (s .pre .1 .1 .1 .1 ∙ ap (λ (x : ℕ). sizeAfter (catalogueOf (view (a .img .now))) (a .i .0) (a .offset) x) (sym len)) (s .pre .1 .1 .0 .0 .needs-one)
     (omega (arith, len, c .before .before .before .before .before .before .records .ensures .0, c .before .before .before .before .before .if2 .left)) (c .before .before .before .put-write .ensures))
 
 pub put-if-room-spec : {M : Type 1} → statement M

@@ -62,20 +62,43 @@ table-sector-of-requires c κs =
 
 put-copy-requires-2 : tie.Need-put-copy-requires-2
 put-copy-requires-2 c κs =
-    let s = c .before .before .before .before .before .before .before .before .before .before .before .before .before .before .before .before .before .before .before .before in
-    let room = rw (c .before .before .before .before .if1 .taken) at (s .pre .1 .1 .1 .1) in
-    (omega (arith, room, c .before .before .before .before .before .before .before .before .put-copy .ensures .0 .next, c .before .before .before .before .before .before .before .before .before .before .before .before .before .before .before .put-data .ensures .0, c .before .before .before .before .before .before .before .list2 .given, c .before .before .before .before .before .before .before .before .before .before .before .before .before .before .list .given), (s .pre .0 .bounded, (omega (arith, c .before .before .before .before .before .before .before .before .put-copy .ensures .0 .next), omega arith)))
+    let entry = c .before .before .before .before .before .before .before .before in
+    let spans = entry .before .before .before .before .before .before .before in
+    let s = spans .before .before .before .before .before in
+    let room = rw (c .before .before .before .before .if1 .taken) at (s .pre .1 .1 .1 .1) in (
+      omega (
+        arith,
+        room,
+        entry .put-copy .ensures .0 .next,
+        spans .put-data .ensures .0,
+        c .before .before .before .before .before .before .before .list2 .given,
+        entry .before .before .before .before .before .before .list .given,
+      ),
+      (s .pre .0 .bounded, (omega (arith, entry .put-copy .ensures .0 .next), omega arith)),
+    )
 
 slice-aggregate-put-commit : tie.Need-slice-aggregate-put-commit
 slice-aggregate-put-commit c = search needs
 
 put-commit-requires : tie.Need-put-commit-requires
 put-commit-requires c κs =
-    let s = c .before .before .before .before .before .before .before .before .before .before .before .before .before .before .before .before .before .before .before .before .before .before .before .before .before .before in
-    let room = rw (c .before .before .before .before .before .before .before .before .before .before .if1 .taken) at (s .pre .1 .1 .1 .1) in
-    let n1 = c .before .before .before .before .before .before .before .before .before .before .before .before .before .before .put-copy .ensures .0 .next in
-    let n2 = c .before .before .before .before .before .put-copy2 .ensures .0 .next in (
-      omega (arith, room, n1, n2, c .before .before .before .before .before .before .before .before .before .before .before .before .before .before .before .before .before .before .before .before .before .put-data .ensures .0, c .before .before .before .before .list3 .given, c .before .before .before .before .before .before .before .before .before .before .before .before .before .list2 .given, c .before .before .before .before .before .before .before .before .before .before .before .before .before .before .before .before .before .before .before .before .list .given),
+    let table = c .before .before .before .before .before in
+    let entry = table .before .before .before .before .before .before .before .before .before in
+    let spans = entry .before .before .before .before .before .before .before in
+    let s = spans .before .before .before .before .before in
+    let room = rw (table .before .before .before .before .before .if1 .taken) at (s .pre .1 .1 .1 .1) in
+    let n1 = entry .put-copy .ensures .0 .next in
+    let n2 = table .put-copy2 .ensures .0 .next in (
+      omega (
+        arith,
+        room,
+        n1,
+        n2,
+        spans .put-data .ensures .0,
+        c .before .before .before .before .list3 .given,
+        table .before .before .before .before .before .before .before .before .list2 .given,
+        entry .before .before .before .before .before .before .list .given,
+      ),
       (
         omega (arith, s .pre .0 .held),
         (
@@ -86,32 +109,47 @@ put-commit-requires c κs =
     )
 
 same-length : tie.Need-same-length
-same-length c = c .before .list4 .given ∙ c .before .before .before .before .before .before .before .list3 .given ∙ c .before .before .before .before .before .before .before .before .before .before .before .before .before .before .before .before .list2 .given ∙ c .before .before .before .before .before .before .before .before .before .before .before .before .before .before .before .before .before .before .before .before .before .before .before .list .given
+same-length c =
+    let table = c .before .before .before .before .before .before .before .before in
+    let entry = table .before .before .before .before .before .before .before .before .before in
+    c .before .list4 .given ∙ c .before .before .before .before .before .before .before .list3 .given ∙ table .before .before .before .before .before .before .before .before .list2 .given
+    ∙ entry .before .before .before .before .before .before .list .given
 
 returns : tie.Need-returns
 returns c =
-    let s = c .before .before .before .before .before .before .before .before .before .before .before .before .before .before .before .before .before .before .before .before .before .before .before .before .before .before .before .before .before in
+    let commit = c .before .before in
+    let table = commit .before .before .before .before .before .before in
+    let entry = table .before .before .before .before .before .before .before .before .before in
+    let spans = entry .before .before .before .before .before .before .before in
+    let s = spans .before .before .before .before .before in
     let a = s .args in
     let w = s .pre .1 .0 .0 in
     let len = length-span (a .bytes .now) (a .len) in
     let span = spanOf (a .bytes .now) (a .len) in
     let touched : touchedSectors (a .offset) (a .len) ≡ touchedSectors (a .offset) (length span) = ap (touchedSectors (a .offset)) (sym len) in
-    let room = rw (c .before .before .before .before .before .before .before .before .before .before .before .before .before .if1 .taken) at (s .pre .1 .1 .1 .1) in
-    written-more (a .img .now) (a .g) (s .pre .0) (a .i .0) (a .offset) span (a .time) (a .z) (s .pre .1 .1 .1 .0 ∙ ap (λ (x : ℕ). sizeAfter (catalogueOf (view (a .img .now))) (a .i .0) (a .offset) x) (sym len)) (replicate 2 0) (c .before .before .before .before .before .before .before .before .before .before .before .before .before .before .before .before .before .before .sector .result .0) (c .before .before .before .before .before .before .before .before .before .before .before .before .before .before .before .before .before .before .before .before .before .updated-entry .result)
-    (rw touched at (c .before .before .before .before .before .before .before .before .before .before .before .before .before .before .before .before .before .before .before .before .before .before .before .before .put-data .ensures .1)) (c .before .before .before .before .before .before .before .before .before .before .before .before .before .before .before .before .before .before .sector .ensures) (c .before .before .before .before .before .before .before .before .before .before .before .before .before .before .before .before .before .before .before .before .before .updated-entry .ensures) (c .before .before .before .before .before .before .before .before .before .before .before .before .before .before .before .before .before .put-copy .ensures .0) (c .before .before .before .before .before .before .before .before .before .before .before .before .before .before .before .before .before .put-copy .ensures .1)
-    (a .w .next .0) (a .w .held) (c .before .before .before .before .before .before .before .before .before .table-sector-of .result .0) (c .before .before .before .before .before .before .before .before .before .before .before .before .taken-sector .result) (sym (w .needs-one) ∙ c .before .before .before .before .before .before .before .before .before .before .before .before .before .if1 .taken) (omega arith)
-    (omega (arith, room, c .before .before .before .before .before .before .before .before .before .before .before .before .before .before .before .before .before .put-copy .ensures .0 .next, c .before .before .before .before .before .before .before .before .put-copy2 .ensures .0 .next, c .before .before .before .before .before .before .before .before .before .before .before .before .before .before .before .before .before .before .before .before .before .before .before .before .put-data .ensures .0))
-    (w .taken) (w .extents) (c .before .before .before .before .before .before .before .before .before .table-sector-of .ensures) (c .before .before .before .before .before .before .before .before .before .before .before .before .taken-sector .ensures) (c .before .before .before .before .before .before .before .before .put-copy2 .ensures .0) (c .before .before .before .before .before .before .before .before .put-copy2 .ensures .1) (c .before .before .put-commit .ensures .0)
+    let room = rw (table .before .before .before .before .before .if1 .taken) at (s .pre .1 .1 .1 .1) in
+    written-more (a .img .now) (a .g) (s .pre .0) (a .i .0) (a .offset) span (a .time) (a .z)
+    (s .pre .1 .1 .1 .0 ∙ ap (λ (x : ℕ). sizeAfter (catalogueOf (view (a .img .now))) (a .i .0) (a .offset) x) (sym len)) (replicate 2 0) (entry .before .sector .result .0)
+    (entry .before .before .before .before .updated-entry .result)
+    (rw touched at (spans .put-data .ensures .1)) (entry .before .sector .ensures) (entry .before .before .before .before .updated-entry .ensures) (entry .put-copy .ensures .0)
+    (entry .put-copy .ensures .1)
+    (a .w .next .0) (a .w .held) (table .before .table-sector-of .result .0) (table .before .before .before .before .taken-sector .result)
+    (sym (w .needs-one) ∙ table .before .before .before .before .before .if1 .taken) (omega arith)
+    (omega (arith, room, entry .put-copy .ensures .0 .next, table .put-copy2 .ensures .0 .next, spans .put-data .ensures .0))
+    (w .taken) (w .extents) (table .before .table-sector-of .ensures) (table .before .before .before .before .taken-sector .ensures) (table .put-copy2 .ensures .0) (table .put-copy2 .ensures .1)
+    (commit .put-commit .ensures .0)
 
 slice-aggregate-put-commit-2 : tie.Need-slice-aggregate-put-commit-2
 slice-aggregate-put-commit-2 c = search needs
 
 put-commit-requires-2 : tie.Need-put-commit-requires-2
 put-commit-requires-2 c κs =
-    let s = c .before .before .before .before .before .before .before .before .before .before .before .before .before .before .before .before .before .before in
+    let entry = c .before .before .before .before .before .before in
+    let spans = entry .before .before .before .before .before .before .before in
+    let s = spans .before .before .before .before .before in
     let room = rw (c .before .before .if1 .left) at (s .pre .1 .1 .1 .1) in
-    let n1 = c .before .before .before .before .before .before .put-copy .ensures .0 .next in (
-      omega (arith, room, n1, c .before .before .before .before .before .before .before .before .before .before .before .before .before .put-data .ensures .0, c .before .before .before .before .before .list2 .given, c .before .before .before .before .before .before .before .before .before .before .before .before .list .given),
+    let n1 = entry .put-copy .ensures .0 .next in (
+      omega (arith, room, n1, spans .put-data .ensures .0, c .before .before .before .before .before .list2 .given, entry .before .before .before .before .before .before .list .given),
       (
         omega (arith, s .pre .0 .held),
         (
@@ -126,18 +164,24 @@ same-length-2 c = search needs
 
 returns-2 : tie.Need-returns-2
 returns-2 c =
-    let s = c .before .before .before .before .before .before .before .before .before .before .before .before .before .before .before .before .before .before .before .before .before in
+    let commit = c .before .before in
+    let entry = commit .before .before .before .before .before .before .before in
+    let spans = entry .before .before .before .before .before .before .before in
+    let s = spans .before .before .before .before .before in
     let a = s .args in
     let w = s .pre .1 .0 .0 in
     let len = length-span (a .bytes .now) (a .len) in
     let span = spanOf (a .bytes .now) (a .len) in
     let touched : touchedSectors (a .offset) (a .len) ≡ touchedSectors (a .offset) (length span) = ap (touchedSectors (a .offset)) (sym len) in
-    let room = rw (c .before .before .before .before .before .if1 .left) at (s .pre .1 .1 .1 .1) in
-    written-kept (a .img .now) (a .g) (s .pre .0) (a .i .0) (a .offset) span (a .time) (a .z) (s .pre .1 .1 .1 .0 ∙ ap (λ (x : ℕ). sizeAfter (catalogueOf (view (a .img .now))) (a .i .0) (a .offset) x) (sym len)) (replicate 2 0) (c .before .before .before .before .before .before .before .before .before .before .sector .result .0) (c .before .before .before .before .before .before .before .before .before .before .before .before .before .updated-entry .result)
-    (rw touched at (c .before .before .before .before .before .before .before .before .before .before .before .before .before .before .before .before .put-data .ensures .1)) (c .before .before .before .before .before .before .before .before .before .before .sector .ensures) (c .before .before .before .before .before .before .before .before .before .before .before .before .before .updated-entry .ensures) (c .before .before .before .before .before .before .before .before .before .put-copy .ensures .0) (c .before .before .before .before .before .before .before .before .before .put-copy .ensures .1)
-    (sym (w .needs-one) ∙ c .before .before .before .before .before .if1 .left) (omega arith)
-    (omega (arith, room, c .before .before .before .before .before .before .before .before .before .put-copy .ensures .0 .next, c .before .before .before .before .before .before .before .before .before .before .before .before .before .before .before .before .put-data .ensures .0))
-    (c .before .before .put-commit2 .ensures .0)
+    let room = rw (commit .before .before .before .if1 .left) at (s .pre .1 .1 .1 .1) in
+    written-kept (a .img .now) (a .g) (s .pre .0) (a .i .0) (a .offset) span (a .time) (a .z)
+    (s .pre .1 .1 .1 .0 ∙ ap (λ (x : ℕ). sizeAfter (catalogueOf (view (a .img .now))) (a .i .0) (a .offset) x) (sym len)) (replicate 2 0) (entry .before .sector .result .0)
+    (entry .before .before .before .before .updated-entry .result)
+    (rw touched at (spans .put-data .ensures .1)) (entry .before .sector .ensures) (entry .before .before .before .before .updated-entry .ensures) (entry .put-copy .ensures .0)
+    (entry .put-copy .ensures .1)
+    (sym (w .needs-one) ∙ commit .before .before .before .if1 .left) (omega arith)
+    (omega (arith, room, entry .put-copy .ensures .0 .next, spans .put-data .ensures .0))
+    (commit .put-commit2 .ensures .0)
 
 pub put-write-spec : {M : Type 1} → statement M
 put-write-spec =

@@ -15,7 +15,8 @@ returns : tie.Need-returns
 returns c =
     let s = c .before .before .before .before .before .before .before in
     let a = s .args in
-    size-shrinks (a .img .now) (a .g) (s .pre .opened) (s .pre .judgment) (a .list .now) (a .i .0) (a .z) (a .time) (a .size) (s .pre .says) (c .before .before .before .before .if1 .taken) (c .before .before .shrink-file .ensures)
+    size-shrinks (a .img .now) (a .g) (s .pre .opened) (s .pre .judgment) (a .list .now) (a .i .0) (a .z) (a .time) (a .size) (s .pre .says) (c .before .before .before .before .if1 .taken)
+    (c .before .before .shrink-file .ensures)
 
 refusal-requires : tie.Need-refusal-requires
 refusal-requires c κs = search needs

@@ -22,7 +22,8 @@ returns c =
     let s = c .before .before .before .before .before .before in
     let a = s .args in
     rw (c .refused .ensures, c .before .refusal .ensures)
-    (shrink-short (a .img .now) (a .g) (s .pre .1 .0) (s .pre .0) (a .list .now) (a .i .0) (a .z) (a .time) (rw (c .before .before .before .shrink-count .ensures .0) at (c .before .before .if1 .taken)))
+    (shrink-short (a .img .now) (a .g) (s .pre .1 .0) (s .pre .0) (a .list .now) (a .i .0) (a .z) (a .time)
+    (rw (c .before .before .before .shrink-count .ensures .0) at (c .before .before .if1 .taken)))
 
 shrink-requires : tie.Need-shrink-requires
 shrink-requires c κs = search needs

@@ -26,7 +26,8 @@ returns c =
     let a = s .args in
     let len = length-span (a .bytes .now) (a .len) in
     let span = spanOf (a .bytes .now) (a .len) in
-    rw (c .refused .ensures, c .before .refusal .ensures) (file-12 (a .img .now) (s .pre .0 .judgment) (a .list .now) (a .i .0) (a .offset) span (a .time) (a .size) (s .pre .0 .says) (c .before .before .if1 .taken))
+    rw (c .refused .ensures, c .before .refusal .ensures)
+    (file-12 (a .img .now) (s .pre .0 .judgment) (a .list .now) (a .i .0) (a .offset) span (a .time) (a .size) (s .pre .0 .says) (c .before .before .if1 .taken))
 
 add-most : tie.Need-add-most
 add-most c = search needs
@@ -43,8 +44,16 @@ put-if-room-requires c κs =
     let a = s .args in
     let len = length-span (a .bytes .now) (a .len) in
     let span = spanOf (a .bytes .now) (a .len) in
-    let e = c .before .before .before .before .most .ensures ∙ ap (λ (x : ℕ). max x (a .offset + a .len)) (s .pre .0 .says) in
-    (s .pre .0 .judgment, (s .pre .0 .opened, (c .before .before .before .need-for .ensures, ((s .pre .0 .file, s .pre .0 .short, omega (arith, s .pre .0 .fits, s .pre .0 .short, c .before .before .before .before .before .if1 .left), s .pre .1), e))))
+    let e = c .before .before .before .before .most .ensures ∙ ap (λ (x : ℕ). max x (a .offset + a .len)) (s .pre .0 .says) in (
+      s .pre .0 .judgment,
+      (
+        s .pre .0 .opened,
+        (
+          c .before .before .before .need-for .ensures,
+          ((s .pre .0 .file, s .pre .0 .short, omega (arith, s .pre .0 .fits, s .pre .0 .short, c .before .before .before .before .before .if1 .left), s .pre .1), e),
+        ),
+      ),
+    )
 
 same-length : tie.Need-same-length
 same-length c = search needs
@@ -57,8 +66,11 @@ returns-2 c =
     let span = spanOf (a .bytes .now) (a .len) in
     let w = c .before .before .before .before .before .before .need-for .ensures .0 in
     let e = c .before .before .before .before .before .before .before .most .ensures ∙ ap (λ (x : ℕ). max x (a .offset + a .len)) (s .pre .0 .says) in
-    file-room (a .img .now) (s .pre .0 .judgment) (a .list .now) (a .i .0) (a .offset) span (a .time) (a .size) (s .pre .0 .says) (c .before .before .before .before .before .before .before .before .if1 .left) (c .before .before .before .before .before .before .before .most .result) (e ∙ ap (λ (x : ℕ). sizeAfter (catalogueOf (view (a .img .now))) (a .i .0) (a .offset) x) (sym len))
-    (rw (← w .has-one, c .before .before .before .before .if3 .taken) (and-false (grows (catalogueOf (view (a .img .now))) (a .i .0) (c .before .before .before .before .before .before .before .most .result)))) (c .before .before .put-if-room .ensures)
+    file-room (a .img .now) (s .pre .0 .judgment) (a .list .now) (a .i .0) (a .offset) span (a .time) (a .size) (s .pre .0 .says)
+    (c .before .before .before .before .before .before .before .before .if1 .left) (c .before .before .before .before .before .before .before .most .result)
+    (e ∙ ap (λ (x : ℕ). sizeAfter (catalogueOf (view (a .img .now))) (a .i .0) (a .offset) x) (sym len))
+    (rw (← w .has-one, c .before .before .before .before .if3 .taken)
+    (and-false (grows (catalogueOf (view (a .img .now))) (a .i .0) (c .before .before .before .before .before .before .before .most .result)))) (c .before .before .put-if-room .ensures)
 
 refusal-requires-2 : tie.Need-refusal-requires-2
 refusal-requires-2 c κs = search needs
@@ -75,7 +87,8 @@ returns-3 c =
     let w = c .before .before .before .before .need-for .ensures .0 in
     let e = c .before .before .before .before .before .most .ensures ∙ ap (λ (x : ℕ). max x (a .offset + a .len)) (s .pre .0 .says) in
     rw (c .refused2 .ensures, c .before .refusal2 .ensures)
-    (file-13 (a .img .now) (s .pre .0 .judgment) (a .list .now) (a .i .0) (a .offset) span (a .time) (a .size) (s .pre .0 .says) (c .before .before .before .before .before .before .if1 .left) (c .before .before .before .before .before .most .result) (e ∙ ap (λ (x : ℕ). sizeAfter (catalogueOf (view (a .img .now))) (a .i .0) (a .offset) x) (sym len))
+    (file-13 (a .img .now) (s .pre .0 .judgment) (a .list .now) (a .i .0) (a .offset) span (a .time) (a .size) (s .pre .0 .says) (c .before .before .before .before .before .before .if1 .left)
+    (c .before .before .before .before .before .most .result) (e ∙ ap (λ (x : ℕ). sizeAfter (catalogueOf (view (a .img .now))) (a .i .0) (a .offset) x) (sym len))
     (sym (w .needs-one) ∙ c .before .before .before .if2 .taken) (sym (w .has-one) ∙ c .before .before .if3 .left))
 
 put-if-room-requires-2 : tie.Need-put-if-room-requires-2
@@ -84,8 +97,16 @@ put-if-room-requires-2 c κs =
     let a = s .args in
     let len = length-span (a .bytes .now) (a .len) in
     let span = spanOf (a .bytes .now) (a .len) in
-    let e = c .before .before .before .most .ensures ∙ ap (λ (x : ℕ). max x (a .offset + a .len)) (s .pre .0 .says) in
-    (s .pre .0 .judgment, (s .pre .0 .opened, (c .before .before .need-for .ensures, ((s .pre .0 .file, s .pre .0 .short, omega (arith, s .pre .0 .fits, s .pre .0 .short, c .before .before .before .before .if1 .left), s .pre .1), e))))
+    let e = c .before .before .before .most .ensures ∙ ap (λ (x : ℕ). max x (a .offset + a .len)) (s .pre .0 .says) in (
+      s .pre .0 .judgment,
+      (
+        s .pre .0 .opened,
+        (
+          c .before .before .need-for .ensures,
+          ((s .pre .0 .file, s .pre .0 .short, omega (arith, s .pre .0 .fits, s .pre .0 .short, c .before .before .before .before .if1 .left), s .pre .1), e),
+        ),
+      ),
+    )
 
 same-length-2 : tie.Need-same-length-2
 same-length-2 c = search needs
@@ -98,7 +119,9 @@ returns-4 c =
     let span = spanOf (a .bytes .now) (a .len) in
     let w = c .before .before .before .before .before .need-for .ensures .0 in
     let e = c .before .before .before .before .before .before .most .ensures ∙ ap (λ (x : ℕ). max x (a .offset + a .len)) (s .pre .0 .says) in
-    file-room (a .img .now) (s .pre .0 .judgment) (a .list .now) (a .i .0) (a .offset) span (a .time) (a .size) (s .pre .0 .says) (c .before .before .before .before .before .before .before .if1 .left) (c .before .before .before .before .before .before .most .result) (e ∙ ap (λ (x : ℕ). sizeAfter (catalogueOf (view (a .img .now))) (a .i .0) (a .offset) x) (sym len))
+    file-room (a .img .now) (s .pre .0 .judgment) (a .list .now) (a .i .0) (a .offset) span (a .time) (a .size) (s .pre .0 .says)
+    (c .before .before .before .before .before .before .before .if1 .left) (c .before .before .before .before .before .before .most .result)
+    (e ∙ ap (λ (x : ℕ). sizeAfter (catalogueOf (view (a .img .now))) (a .i .0) (a .offset) x) (sym len))
     (rw (← w .needs-one, c .before .before .before .before .if2 .left)) (c .before .before .put-if-room2 .ensures)
 
 pub write-file-spec : {M : Type 1} → statement M

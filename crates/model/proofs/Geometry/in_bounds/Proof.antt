@@ -6,11 +6,21 @@ use Rattle.model.proofs.Geometry.in_bounds.Tie as tie
 
 returns : tie.Need-returns
 unfolding inBounds
-returns c = rw (le-leb _ _ (c .before .before .before .before .before .before .before .if1 .taken), le-leb _ _ (c .before .before .before .before .before .if2 .taken), le-leb _ _ (c .before .before .before .if3 .taken), le-leb _ _ (c .before .if4 .taken))
+returns c = rw (
+  le-leb _ _ (c .before .before .before .before .before .before .before .if1 .taken),
+  le-leb _ _ (c .before .before .before .before .before .if2 .taken),
+  le-leb _ _ (c .before .before .before .if3 .taken),
+  le-leb _ _ (c .before .if4 .taken),
+)
 
 returns-2 : tie.Need-returns-2
 unfolding inBounds
-returns-2 c = rw (le-leb _ _ (c .before .before .before .before .before .before .if1 .taken), le-leb _ _ (c .before .before .before .before .if2 .taken), le-leb _ _ (c .before .before .if3 .taken), lt-leb _ _ (c .if4 .left))
+returns-2 c = rw (
+  le-leb _ _ (c .before .before .before .before .before .before .if1 .taken),
+  le-leb _ _ (c .before .before .before .before .if2 .taken),
+  le-leb _ _ (c .before .before .if3 .taken),
+  lt-leb _ _ (c .if4 .left),
+)
 
 returns-3 : tie.Need-returns-3
 unfolding inBounds

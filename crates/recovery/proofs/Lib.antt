@@ -1,4 +1,4 @@
 -- Laws that belong to no one function.
 pub mod Index
 pub mod Answer
-pub mod Short
+pub mod Rising

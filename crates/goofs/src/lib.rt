@@ -378,6 +378,6 @@ pub extern "C" fn goofs_carry_out(img: &mut [u8], list: &[u8]) -> u64
     ensures { λ r. ⌜ r ≡ carryAnswer (now (img .entry)) (now (list .entry)) .number ⌝ }
     ensures { λ _. ⌜ now (img .exit) ≡ carryImage (now (img .entry)) (now (list .entry)) ⌝ }
 {
-    let a = carrying::carry_out(img, list);
+    let a = carry_out::carry_out(img, list);
     a.number
 }

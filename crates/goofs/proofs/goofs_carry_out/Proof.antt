@@ -1,4 +1,4 @@
--- `goofs::goofs_carry_out` meets its contract. The number and the image are those of `carrying::carry_out`.
+-- `goofs::goofs_carry_out` meets its contract. The number and the image are those of `carry_out::carry_out`.
 use mathlib.Core.Path.{ap}
 use Rattle.model.specs.declared.CarriedOut.{CarriedOut}
 use borrow.Author.Needs.{needs}

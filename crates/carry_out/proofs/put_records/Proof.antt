@@ -1,4 +1,4 @@
--- `carrying::put_records` meets its contract. The loop's invariant: the records passed are written.
+-- `carry_out::put_records` meets its contract. The loop's invariant: the records passed are written.
 use Rattle.model.specs.WriteList.{recordSize}
 use borrow.Author.Needs.{needs}
 use Prim.Native.Nat.{_-_, _/_, _≤_}
@@ -9,9 +9,9 @@ use Rattle.model.specs.Search.{tabulate}
 use Rattle.model.specs.WriteList.{stored}
 use Rattle.model.specs.CarryOut.{recordIn, recordsIn, badRecord}
 use Rattle.laws.proofs.Search.{none-at}
-use Rattle.carrying.proofs.Laws.{stored-more}
-use Rattle.carrying.proofs.put_records.Statement.{statement}
-use Rattle.carrying.proofs.put_records.Tie as tie
+use Rattle.carry_out.proofs.Laws.{stored-more}
+use Rattle.carry_out.proofs.put_records.Statement.{statement}
+use Rattle.carry_out.proofs.put_records.Tie as tie
 
 abbrev Inv-loop : tie.InvT-loop
 Inv-loop img₀ list n k₀ img k = (k ≤ n) × (img ≡ stored (tabulate (recordIn list) 0 k) img₀) × (length img ≡ length img₀)

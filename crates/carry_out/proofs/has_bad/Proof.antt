@@ -1,4 +1,4 @@
--- `carrying::has_bad` meets its contract. The loop's invariant: none of the records passed is bad.
+-- `carry_out::has_bad` meets its contract. The loop's invariant: none of the records passed is bad.
 use Rattle.model.specs.WriteList.{recordSize}
 use borrow.Author.Needs.{needs}
 use Prim.Native.Nat.{_-_, _/_, _≤_}
@@ -9,8 +9,8 @@ use lib.ListN.{length}
 use Rattle.model.specs.Search.{anyBelow}
 use Rattle.model.specs.CarryOut.{badRecord}
 use Rattle.laws.proofs.Search.{anyBelow-more, anyBelow-true}
-use Rattle.carrying.proofs.has_bad.Statement.{statement}
-use Rattle.carrying.proofs.has_bad.Tie as tie
+use Rattle.carry_out.proofs.has_bad.Statement.{statement}
+use Rattle.carry_out.proofs.has_bad.Tie as tie
 
 abbrev Inv-loop : tie.InvT-loop
 Inv-loop list sectors n k₀ k = (k ≤ n) × (anyBelow (badRecord sectors list) k ≡ false)

@@ -1,12 +1,12 @@
--- `carrying::put_record` meets its contract. A barrier writes nothing; a good record's sector lies in the image.
+-- `carry_out::put_record` meets its contract. A barrier writes nothing; a good record's sector lies in the image.
 use borrow.Author.Needs.{needs}
 use Prim.Native.Nat.{_/_}
 use mathlib.Core.Path.{_∙_}
 use native.Mathlib.Omega.{arith}
 use lib.ListN.{length}
-use Rattle.carrying.proofs.Laws.{sector-inside, barrier-stored, sector-stored}
-use Rattle.carrying.proofs.put_record.Statement.{statement}
-use Rattle.carrying.proofs.put_record.Tie as tie
+use Rattle.carry_out.proofs.Laws.{sector-inside, barrier-stored, sector-stored}
+use Rattle.carry_out.proofs.put_record.Statement.{statement}
+use Rattle.carry_out.proofs.put_record.Tie as tie
 
 mul-at : tie.Need-mul-at
 mul-at c = search needs

@@ -1,4 +1,4 @@
--- `carrying::has_other` meets its contract. The loop's invariant: the greatest byte is 0 exactly if every byte passed is.
+-- `carry_out::has_other` meets its contract. The loop's invariant: the greatest byte is 0 exactly if every byte passed is.
 use Prim.Native.Nat.{ℕ, _+_, _-_, _≤_, max}
 use mathlib.Core.Path.{_≡_, refl, sym, ap, _∙_}
 use mathlib.Core.Bool.{Bool, true, false, not, _&&_}
@@ -10,8 +10,8 @@ use borrow.Author.Tests.{eq-eqb, ne-eqb, eqb-true, eqb-false}
 use Rattle.model.specs.Search.{allBelow}
 use Rattle.laws.proofs.Search.{allBelow-more}
 use borrow.Author.Needs.{needs}
-use Rattle.carrying.proofs.has_other.Statement.{statement}
-use Rattle.carrying.proofs.has_other.Tie as tie
+use Rattle.carry_out.proofs.has_other.Statement.{statement}
+use Rattle.carry_out.proofs.has_other.Tie as tie
 
 abbrev zeroAt : List ℕ → ℕ → ℕ → Bool
 zeroAt list at b = eqb (getD list (at + b) 0) 0

@@ -1,10 +1,10 @@
--- `carrying::is_bad` meets its contract. The position is compared first; then a barrier's bytes with 0, a sector's number with the
+-- `carry_out::is_bad` meets its contract. The position is compared first; then a barrier's bytes with 0, a sector's number with the
 -- image's length.
 use borrow.Author.Needs.{needs}
 use mathlib.Core.Path.{_∙_}
-use Rattle.carrying.proofs.Laws.{position-bad, barrier-bad, sector-bad}
-use Rattle.carrying.proofs.is_bad.Statement.{statement}
-use Rattle.carrying.proofs.is_bad.Tie as tie
+use Rattle.carry_out.proofs.Laws.{position-bad, barrier-bad, sector-bad}
+use Rattle.carry_out.proofs.is_bad.Statement.{statement}
+use Rattle.carry_out.proofs.is_bad.Tie as tie
 
 mul-at : tie.Need-mul-at
 mul-at c = search needs

@@ -1,9 +1,9 @@
--- `carrying::carry_out` meets its contract. Refused for a bad record, the list's length or the image's length, or carried out.
+-- `carry_out::carry_out` meets its contract. Refused for a bad record, the list's length or the image's length, or carried out.
 use borrow.Author.Needs.{needs}
 use mathlib.Core.Path.{sym, _∙_}
-use Rattle.carrying.proofs.Laws.{refused-1, cut-record, bad-record, carried}
-use Rattle.carrying.proofs.carry_out.Statement.{statement}
-use Rattle.carrying.proofs.carry_out.Tie as tie
+use Rattle.carry_out.proofs.Laws.{refused-1, cut-record, bad-record, carried}
+use Rattle.carry_out.proofs.carry_out.Statement.{statement}
+use Rattle.carry_out.proofs.carry_out.Tie as tie
 
 is-whole-requires : tie.Need-is-whole-requires
 is-whole-requires c κs = search needs

@@ -5,7 +5,7 @@ use mathlib.Core.Path.{_≡_}
 use mathlib.Core.Bool.{true, cond}
 use mathlib.Core.List.{List}
 use mathlib.Core.Option.{some}
-use lib.Dec.{ltb}
+use lib.Dec.{eqb, ltb}
 use lib.ListN.{length}
 use Rattle.model.specs.declared.State.the-variants.{Clean}
 use Rattle.model.specs.Bytes.{numberIn}
@@ -17,7 +17,7 @@ use Rattle.model.specs.Entry.{entryField}
 use Rattle.model.specs.Catalogue.{catalogueOf, isFree, fileBytes}
 use Rattle.model.specs.WriteList.{listLength}
 use Rattle.model.specs.Format.{Format}
-use Rattle.model.specs.Recovery.{recoveryGroups, recoveryAnswer}
+use Rattle.model.specs.Recovery.{recoveryGroups, recoveryAnswer, sliceGroups, sliceAnswer}
 use Rattle.model.specs.Ledger.{Ledger, File, catalogue, ledgerAfter, answersTo, Feed, Answer}
 use Rattle.model.specs.Run.{Phase, steady, broken, Run}
 
@@ -43,8 +43,14 @@ Settled broken L img = Unit {0}
 abbrev pub RecoveryAnswers : List ℕ → Type 0
 RecoveryAnswers img = (room : ℕ) → recoveryAnswer (length img) (view img) room .number ≡ cond (ltb room (listLength (recoveryGroups (view img)))) 14 0
 
+-- T-05: "Budget 0 is refused 8, .. in a run too"
+abbrev pub SliceAnswers : List ℕ → Type 0
+SliceAnswers img =
+    (budget room : ℕ) → sliceAnswer (length img) (view img) budget room .number
+    ≡ cond (eqb budget 0) 8 (cond (ltb room (listLength (sliceGroups (view img) budget))) 14 0)
+
 -- DEMAND 3
 unfoldable pub Demand3 : Type 0
 Demand3 =
     (a : Format) (phase : Phase) (img : List ℕ) (fs : List Feed) (rs : List Answer) → Run a phase img fs rs
-    → (rs ≡ answersTo a fs) × Settled phase (ledgerAfter a fs) img × RecoveryAnswers img
+    → (rs ≡ answersTo a fs) × Settled phase (ledgerAfter a fs) img × RecoveryAnswers img × SliceAnswers img

@@ -116,6 +116,13 @@ pub struct Recovered {
     pub length: u64,
 }
 
+// Of a slice: `count` sector writes.
+pub struct Sliced {
+    pub number: u64,
+    pub length: u64,
+    pub count: u64,
+}
+
 pub struct Formatted {
     pub number: u64,
     pub length: u64,

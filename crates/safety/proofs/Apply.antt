@@ -10,12 +10,13 @@ use native.Mathlib.Decide.{decLt}
 use native.Mathlib.Nat.{not-suc-le-zero, zero-add}
 use lib.Dec.{eqb}
 use lib.ListN.{length, getD}
-use borrow.Author.Tests.{eqb-true, eq-eqb, ne-eqb}
+use borrow.Author.Tests.{eqb-true, eqb-false, eq-eqb, ne-eqb}
 use Rattle.model.specs.Bytes.{put}
-use Rattle.model.specs.Search.{tabulate}
+use Rattle.model.specs.Search.{tabulate, concatenated}
 use Rattle.model.specs.Disk.{Disk, view}
 use Rattle.model.specs.WriteList.{Record, sectorWrite, barrierNumber, barrier, stored, Group, closedAfter, closed}
 use Rattle.model.specs.Cut.{kept, landedOf}
+use Rattle.laws.proofs.Booleans.{or-none}
 use Rattle.laws.proofs.Bytes.{length-put}
 use Rattle.laws.proofs.Disk.{view-same, view-other}
 
@@ -121,6 +122,15 @@ module _ (P : Record → Type 0) where
   all-at (w ∷ ws) zero z h l = h .0
   all-at (w ∷ ws) (suc k) z h l = all-at ws k z (h .1) (omega arith)
 
+  pub all-by : (ws : Group) (z : Record) → ((k : ℕ) → k < length ws → P (getD ws k z)) → All P ws
+  all-by [] z h = tt
+  all-by (w ∷ ws) z h = (h 0 (omega arith), all-by ws z (λ k l. h (suc k) (omega arith)))
+
+  pub all-concatenated : (f : ℕ → Group) (n : ℕ) → ((t : ℕ) → t < n → All P (f t)) → All P (concatenated f 0 n)
+  unfolding concatenated
+  all-concatenated f zero h = tt
+  all-concatenated f (suc n) h = all-append (concatenated f 0 n) (f (0 + n)) (all-concatenated f n (λ t l. h t (omega arith))) (rw zero-add (h n (omega arith)))
+
   pub all-kept : (m : List Bool) (ws : Group) → All P ws → All P (kept m ws)
   unfolding kept
   all-kept [] ws h = tt
@@ -162,6 +172,22 @@ pub all-miss : (j : ℕ) (ws : Group) → All (λ w. j ≢ w .sector) ws → hit
 unfolding hits
 all-miss j [] h = refl
 all-miss j (w ∷ ws) h = ap₂ (λ a b. a || b) (ne-eqb j (w .sector) (h .0)) (all-miss j ws (h .1))
+
+-- and of one that misses it none is
+pub miss-all : (j : ℕ) (ws : Group) → hits ws j ≡ false → All (λ w. j ≢ w .sector) ws
+unfolding hits
+miss-all j [] h = tt
+miss-all j (w ∷ ws) h = let o = or-none (eqb j (w .sector)) (hits ws j) h in (eqb-false j (w .sector) (o .0), miss-all j ws (o .1))
+
+-- writing what stands there already leaves the sector
+pub over-same : (ws : Group) (d : Disk) (j : ℕ) → All (λ w. d (w .sector) ≡ w .contents) ws → over ws j (d j) ≡ d j
+unfolding over
+over-same [] d j h = refl
+over-same (w ∷ ws) d j h = ap (over ws j) (go (eqb j (w .sector)) refl) ∙ over-same ws d j (h .1)
+  where
+    go : (b : Bool) → eqb j (w .sector) ≡ b → cond b (w .contents) (d j) ≡ d j
+    go true e = sym (h .0) ∙ ap d (sym (eqb-true j (w .sector) e))
+    go false e = refl
 
 keep-head : (a b : Bool) (w : Record) (ws vs : Group) (j : ℕ) → (a || hits ws j) ≡ false → eqb j (w .sector) ≡ a → (hits ws j ≡ false → hits vs j ≡ false) → hits (cond b (w ∷ vs) vs) j ≡ false
 unfolding hits

@@ -3,28 +3,33 @@
 use Prim.Native.Nat.{ℕ, zero, suc, _+_, _*_, _≤_, _<_}
 use mathlib.Core.Path.{_≡_, refl, sym, ap, _∙_, subst}
 use mathlib.Core.Logic.{_≢_, ⊎-elim}
-use mathlib.Core.Bool.{Bool, true, false, cond, true≢false, false≢true}
+use mathlib.Core.Bool.{Bool, true, false, cond, not, true≢false, false≢true}
 use mathlib.Core.List.{List, [], _∷_, _++_, append-nil}
 use native.Mathlib.Omega.{arith}
-use lib.ListN.{length}
+use lib.ListN.{length, getD}
+use borrow.Author.Tests.{not-true, not-false}
 use Rattle.model.specs.declared.Geometry.{Geometry}
 use Rattle.model.specs.declared.State.the-variants.{Clean}
 use Rattle.model.specs.Geometry.{superblockAt, extentSectors, reserveExtents, journalAt, dataAt, reserveAt, volumeSectors}
 use Rattle.model.specs.Disk.{Disk, view}
-use Rattle.model.specs.WriteList.{Record, sectorWrite, barrierNumber, stored, Plan, Group, groupsOf, closed}
+use Rattle.model.specs.Search.{anyBelow}
+use Rattle.model.specs.WriteList.{Record, sectorWrite, barrier, barrierNumber, stored, Plan, Group, groupsOf, closed}
 use Rattle.model.specs.Superblock.{journalLength, withJournalLength, stateOf, stateOn}
 use Rattle.model.specs.Journal.{journalSectors, journalSector}
 use Rattle.model.specs.Refusals.{isDone}
-use Rattle.model.specs.Recovery.{recoveryVerdict, recoveryListed}
+use Rattle.model.specs.Recovery.{recoveryVerdict, recoveryListed, differs, isCopied, copiedEntry, copied, entryWrite, someDiffer, Recovery, entire, slice, verdictBy, listedBy, isLast}
 use Rattle.model.specs.Cut.{Cut, kept, landedOf, landed, markedBy, startMark}
-use Rattle.laws.proofs.Disk.{length-view}
-use Rattle.safety.proofs.Apply.{over, apply, hits, apply-nil, apply-append, apply-miss, All, all-append, all-tab0, all-at, all-kept, kept-miss, kept-one, joined, stored-append}
-use Rattle.safety.proofs.Apply.{stored-closed, length-stored, InImage, stored-view}
-use Rattle.safety.proofs.Landing.{Begun, Ended, both-end, cut-begun}
+use Rattle.laws.proofs.Disk.{length-view, same-view}
+use Rattle.laws.proofs.Search.{none-at}
+use Rattle.safety.proofs.Searches.{same-true}
+use Rattle.safety.proofs.Apply.{over, apply, hits, apply-nil, apply-append, apply-miss, All, all-append, all-tab0, all-at, all-by, all-concatenated, all-kept, all-miss, miss-all, over-same}
+use Rattle.safety.proofs.Apply.{kept-miss, kept-one, joined, stored-append, stored-closed, length-stored, InImage, stored-view}
+use Rattle.safety.proofs.Landing.{Begun, Ended, both-end, cut-begun, part}
 use Rattle.safety.proofs.Journal.{length-entriesIn}
 use Rattle.safety.proofs.Superblock.{length-withJournalLength, journalLength-with, state-clean, Volume, volume-with, volume-long, Recovers, when-done, when-some, when-none, recovers-clean}
+use Rattle.safety.proofs.Superblock.{Slices, slices-clean, slice-done, slice-some, slice-none}
 use Rattle.safety.proofs.Plan.{UsableGeometry, WellFormed, Metadata, UsableSector, Whole, metadata-lt, volume-is, A, A-is, copyWrites, journalWrites, copyContents, journalContents}
-use Rattle.safety.proofs.Plan.{journal-few, A-zero, mark, clear, committed, final, Pending, recovers-pending}
+use Rattle.safety.proofs.Plan.{journal-few, A-zero, mark, clear, committed, final, Pending, recovers-pending, entry-writes, pending-volume, pending-waits, slices-pending}
 
 -- an image on which a plan is carried out: its superblock says clean
 pub record Ready (g : Geometry) (img : List ℕ) : Type 0 where
@@ -205,36 +210,119 @@ module _ (g : Geometry) (img0 : List ℕ) (p : Plan) (geo : UsableGeometry g) (o
       subst (λ (l : ℕ). Recovers l (view img) (C ∷ (cl ∷ []) ∷ [])) (sym (w .long))
       (recovers-pending g p geo ok d0 (view img) (w .shows) n (ready .volume) (length-view img0 superblockAt))
 
+  -- ---- slices
+
+  module _ (img : List ℕ) (w : Waits g img0 p img) where
+    abbrev d : Disk
+    d = view img
+
+    abbrev left : Bool
+    left = anyBelow (differs g (view img)) (length C)
+
+    pub waits-slices : (budget : ℕ) → Slices (length img) (view img) budget (cond left (copied g (view img) budget (length C)) (cl ∷ []) ∷ [])
+    unfolding Pending
+    waits-slices budget =
+        subst (λ (l : ℕ). Slices l (view img) budget (cond left (copied g (view img) budget (length C)) (cl ∷ []) ∷ [])) (sym (w .long))
+        (slices-pending g p geo ok d0 (view img) (w .shows) n (ready .volume) (length-view img0 superblockAt) budget)
+
+    -- what is left differs
+    pub last-differs : (budget room : ℕ) → isLast (slice budget room) (view img) ≡ true → left ≡ false
+    unfolding isLast Pending
+    last-differs budget room e =
+        let v = pending-volume g p geo ok d0 (view img) (w .shows) n (ready .volume) (length-view img0 superblockAt) in
+        let st = pending-waits g p geo ok d0 (view img) (w .shows) n (ready .volume) (length-view img0 superblockAt) in
+        not-true left (sym (λ i. not (someDiffer (v .geometry i) (view img) (st i))) ∙ e)
+
+    -- a slice copies targets, and no others
+    copied-all : (P : Record → Type 0) → All P C → (budget : ℕ) → All P (copied g (view img) budget (length C))
+    unfolding copied copiedEntry Pending
+    copied-all P h budget = all-concatenated P (copiedEntry g (view img) budget) (length C) (λ k l. go k l (isCopied g (view img) budget k))
+      where
+        go : (k : ℕ) → k < length C → (b : Bool) → All P (cond b (entryWrite g (view img) k ∷ []) [])
+        go k l true = (subst P (sym (entry-writes g p geo ok d0 (view img) (w .shows) k l)) (all-at P C k barrier h l), tt)
+        go k l false = tt
+
+    copied-miss : (budget j : ℕ) → hits C j ≡ false → hits (copied g (view img) budget (length C)) j ≡ false
+    copied-miss budget j h = all-miss j _ (copied-all (λ w. j ≢ w .sector) (miss-all j C h) budget)
+
+    abbrev partly : (ws : Group) → All (InImage n) ws → ((j : ℕ) → hits C j ≡ false → hits ws j ≡ false) → Waits g img0 p (stored ws img)
+    partly ws h miss = part n C cl (committed g d0 p) C-in-image (super-in-image 0) (uncut g img0 p) ended ws img h miss w
+
+    -- where none differs, the targets stand, and the superblock alone is left
+    stands : left ≡ false → All (λ v. view img (v .sector) ≡ v .contents) C
+    unfolding differs Pending
+    stands e = all-by (λ v. view img (v .sector) ≡ v .contents) C barrier (λ k l. subst (λ (v : Record). view img (v .sector) ≡ v .contents)
+        (entry-writes g p geo ok d0 (view img) (w .shows) k l)
+        (same-true _ _ (not-false _ (none-at (differs g (view img)) (length C) e k l))))
+
+    targets-stand : left ≡ false → stored C img ≡ img
+    unfolding apply
+    targets-stand e =
+        same-view _ _ (length-stored C img) (stored-view C img n (w .long) C-in-image ∙ (λ i j. over-same C (view img) j (stands e) i))
+
+    reset-ends : left ≡ false → stored (cl ∷ []) img ≡ uncut g img0 p
+    reset-ends e = ap (stored (cl ∷ [])) (sym (targets-stand e)) ∙ sym (stored-append C (cl ∷ []) img) ∙ completes img w
+
+    slice-cuts : (budget k : ℕ) (m : List Bool) (b : Bool) → left ≡ b
+        → Interrupted g img0 p (stored (landedOf k m (cond b (copied g (view img) budget (length C)) (cl ∷ []) ∷ [])) img)
+    unfolding landedOf stored
+    slice-cuts budget zero m true e =
+        let ws = copied g (view img) budget (length C) in
+        waits (partly (kept m ws) (all-kept (InImage n) m ws (copied-all (InImage n) C-in-image budget)) (λ j h. kept-miss m ws j (copied-miss budget j h)))
+    slice-cuts budget (suc k) m true e = waits (rw append-nil (partly (copied g (view img) budget (length C)) (copied-all (InImage n) C-in-image budget) (copied-miss budget)))
+    slice-cuts budget zero m false e = subst (λ (x : Group). Interrupted g img0 p (stored x img)) (sym (kept-one m cl)) (go (getD m 0 false))
+      where
+        go : (t : Bool) → Interrupted g img0 p (stored (cond t (cl ∷ []) []) img)
+        go true = finished (reset-ends e)
+        go false = waits w
+    slice-cuts budget (suc k) m false e = finished (reset-ends e)
+
 pub ready-recovers : (g : Geometry) (img : List ℕ) → Ready g img → Recovers (length img) (view img) []
 ready-recovers g img r = recovers-clean g (length img) (view img) (r .volume) (r .clean)
 
 -- ---- any number of cut recoveries, then one completed
 
 pub data RecoveredTo : List ℕ → List ℕ → Type 0 where
-  completed : {img : List ℕ} (room : ℕ) → isDone (recoveryVerdict (length img) (view img) room) ≡ true
-      → RecoveredTo img (stored (closed (recoveryListed (length img) (view img) room)) img)
-  interrupted : {img out : List ℕ} (room : ℕ) → recoveryListed (length img) (view img) room ≢ [] → (x : Cut)
-      → RecoveredTo (stored (landed x (recoveryListed (length img) (view img) room)) img) out → RecoveredTo img out
+  completed : {img : List ℕ} (r : Recovery) → isDone (verdictBy r (length img) (view img)) ≡ true → isLast r (view img) ≡ true
+      → RecoveredTo img (stored (closed (listedBy r (length img) (view img))) img)
+  interrupted : {img out : List ℕ} (r : Recovery) → listedBy r (length img) (view img) ≢ [] → (x : Cut)
+      → RecoveredTo (stored (landed x (listedBy r (length img) (view img))) img) out → RecoveredTo img out
 
 pub stored-none : (img : List ℕ) → stored (closed []) img ≡ img
 unfolding stored
 stored-none img = refl
 
+pub ready-slices : (g : Geometry) (img : List ℕ) → Ready g img → (budget : ℕ) → Slices (length img) (view img) budget []
+ready-slices g img r budget = slices-clean g (length img) (view img) budget (r .volume) (r .clean)
+
+-- on an image that says clean either lists nothing
+pub ready-none : (g : Geometry) (img : List ℕ) → Ready g img → (r : Recovery) → listedBy r (length img) (view img) ≡ []
+ready-none g img h (entire room) = when-none (length img) (view img) (ready-recovers g img h) room
+ready-none g img h (slice budget room) = slice-none (length img) (view img) budget (ready-slices g img h budget) room
+
 pub ready-recovered : (g : Geometry) {img out : List ℕ} → Ready g img → RecoveredTo img out → out ≡ img
-ready-recovered g {img} r (completed room e) =
-    ap (λ (gs : List Group). stored (closed gs) img) (when-none (length img) (view img) (ready-recovers g img r) room) ∙ stored-none img
-ready-recovered g {img} r (interrupted room ne x m) = absurd (ne (when-none (length img) (view img) (ready-recovers g img r) room))
+ready-recovered g {img} h (completed r e l) = ap (λ (gs : List Group). stored (closed gs) img) (ready-none g img h r) ∙ stored-none img
+ready-recovered g {img} h (interrupted r ne x m) = absurd (ne (ready-none g img h r))
 
 module _ (g : Geometry) (img0 : List ℕ) (p : Plan) (geo : UsableGeometry g) (ok : WellFormed g p) (ready : Ready g img0) where
-  pub waits-done : (img : List ℕ) → Waits g img0 p img → (room : ℕ) → isDone (recoveryVerdict (length img) (view img) room) ≡ true
-      → stored (closed (recoveryListed (length img) (view img) room)) img ≡ uncut g img0 p
-  waits-done img w room e =
+  pub waits-done : (img : List ℕ) → Waits g img0 p img → (r : Recovery) → isDone (verdictBy r (length img) (view img)) ≡ true → isLast r (view img) ≡ true
+      → stored (closed (listedBy r (length img) (view img))) img ≡ uncut g img0 p
+  waits-done img w (slice budget room) e l =
+      let none = last-differs g img0 p geo ok ready img w budget room l in
+      ap (λ (gs : List Group). stored (closed gs) img) (slice-done (length img) (view img) budget _ (waits-slices g img0 p geo ok ready img w budget) room e)
+      ∙ ap (λ (b : Bool). stored (closed (cond b (copied g (view img) budget (length (p .targets))) (clear g (view img0) p ∷ []) ∷ [])) img) none
+      ∙ stored-closed ((clear g (view img0) p ∷ []) ∷ []) img ∙ reset-ends g img0 p geo ok ready img w none
+  waits-done img w (entire room) e l =
       ap (λ (gs : List Group). stored (closed gs) img) (when-done (length img) (view img) _ (waits-recovers g img0 p geo ok ready img w) room e)
       ∙ stored-closed (p .targets ∷ (clear g (view img0) p ∷ []) ∷ []) img ∙ completes g img0 p geo ok ready img w
 
-  pub waits-cut : (img : List ℕ) → Waits g img0 p img → (room : ℕ) → recoveryListed (length img) (view img) room ≢ [] → (x : Cut)
-      → Interrupted g img0 p (stored (landed x (recoveryListed (length img) (view img) room)) img)
-  waits-cut img w room ne x =
+  pub waits-cut : (img : List ℕ) → Waits g img0 p img → (r : Recovery) → listedBy r (length img) (view img) ≢ [] → (x : Cut)
+      → Interrupted g img0 p (stored (landed x (listedBy r (length img) (view img))) img)
+  waits-cut img w (slice budget room) ne x =
+      subst (λ (gs : List Group). Interrupted g img0 p (stored (landed x gs) img))
+      (sym (slice-some (length img) (view img) budget _ (waits-slices g img0 p geo ok ready img w budget) room ne))
+      (slice-cuts g img0 p geo ok ready img w budget (x .before) (x .mask) _ refl)
+  waits-cut img w (entire room) ne x =
       subst (λ (gs : List Group). Interrupted g img0 p (stored (landed x gs) img))
       (sym (when-some (length img) (view img) _ (waits-recovers g img0 p geo ok ready img w) room ne)) (recovery-cuts g img0 p geo ok ready (x .before) (x .mask) img w)
 
@@ -242,10 +330,10 @@ module _ (g : Geometry) (img0 : List ℕ) (p : Plan) (geo : UsableGeometry g) (o
   finished-recovered e m = ready-recovered g (subst (Ready g) (sym e) (ready-uncut g img0 p geo ok ready)) m ∙ e
 
   interrupted-recovered : {img out : List ℕ} → RecoveredTo img out → Interrupted g img0 p img → out ≡ uncut g img0 p
-  interrupted-recovered {img} (completed room e) (waits w) = waits-done img w room e
-  interrupted-recovered {img} (completed room e) (finished q) = finished-recovered q (completed room e)
-  interrupted-recovered {img} (interrupted room ne x m) (waits w) = interrupted-recovered m (waits-cut img w room ne x)
-  interrupted-recovered {img} (interrupted room ne x m) (finished q) = finished-recovered q (interrupted room ne x m)
+  interrupted-recovered {img} (completed r e l) (waits w) = waits-done img w r e l
+  interrupted-recovered {img} (completed r e l) (finished q) = finished-recovered q (completed r e l)
+  interrupted-recovered {img} (interrupted r ne x m) (waits w) = interrupted-recovered m (waits-cut img w r ne x)
+  interrupted-recovered {img} (interrupted r ne x m) (finished q) = finished-recovered q (interrupted r ne x m)
 
   -- THE COMMIT THEOREM: with the start mark landed the image is in the end the uncut one, else the old one with the landed part
   -- of group A

@@ -28,11 +28,11 @@ use Rattle.laws.proofs.Bytes.{length-bytesFrom, getD-bytesFrom, bytesFrom-all, 
 use Rattle.laws.proofs.Search.{length-tabulate, Hit, first-none}
 use Rattle.safety.specs.Naming.{Contents, contentsAt, fileOn, contentsIn, fileIn}
 use Rattle.safety.proofs.OwnWords.{name-if, named-is, zeros-are}
-use Rattle.safety.proofs.Searches.{place-none, same-no}
+use Rattle.safety.proofs.Searches.{place-none, same-no, same-refl, same-true}
 use Rattle.safety.proofs.Rep.{catalogue-is, NoFaults}
 use Rattle.safety.proofs.Replaced.{names-apart}
 use Rattle.safety.proofs.TakenFile.{first-only}
-use Rattle.safety.proofs.Naming.{same-refl, same-true, named-hit, named-by, Found, Fresh, slotOf, filled}
+use Rattle.safety.proofs.Naming.{named-hit, named-by, Found, Fresh, slotOf, filled}
 
 -- ---- what is said of the file that the call names
 

@@ -33,7 +33,8 @@ module _ (len : ℕ) (C : Group) (last : Record) (d : Disk) (inC : All (InImage 
       (stored-view (C ++ (last ∷ [])) img len (b .long) both-in ∙ apply-append C (last ∷ []) (view img)
       ∙ ap (apply (last ∷ [])) (apply-agree C (view img) d (b .shows)) ∙ sym (e .shows))
 
-  part : (ws : Group) (img : List ℕ) → All (InImage len) ws → ((j : ℕ) → hits C j ≡ false → hits ws j ≡ false) → Begun len C d img → Begun len C d (stored ws img)
+  -- any part of it, or of what writes only where it does
+  pub part : (ws : Group) (img : List ℕ) → All (InImage len) ws → ((j : ℕ) → hits C j ≡ false → hits ws j ≡ false) → Begun len C d img → Begun len C d (stored ws img)
   part ws img h miss b = record {
     long = length-stored ws img ∙ b .long;
     shows = λ j q. ap (λ (x : Disk). x j) (stored-view ws img len (b .long) h) ∙ apply-miss ws (view img) j (miss j q) ∙ b .shows j q;

@@ -3,7 +3,7 @@
 use Prim.Native.Nat.{ℕ, zero, suc, _+_, _*_, _-_, _/_, _%_, _^_, _≤_, _<_}
 use mathlib.Core.Path.{_≡_, refl, sym, ap, ap₂, _∙_}
 use mathlib.Core.Logic.{_≢_}
-use mathlib.Core.Bool.{true, false, _&&_, _||_, not, true≢false}
+use mathlib.Core.Bool.{true, false, cond, _&&_, _||_, not, true≢false}
 use mathlib.Core.List.{List, [], _∷_, _++_}
 use native.Mathlib.Omega.{arith}
 use native.Mathlib.Decide.{decLt}
@@ -20,12 +20,12 @@ use Rattle.model.specs.Disk.{Disk}
 use Rattle.model.specs.WriteList.{barrierNumber, sectorsOf, Record, sectorWrite, barrier, Plan, Group, staging, copies, journalOf, groupA}
 use Rattle.model.specs.Superblock.{journalLength, withJournalLength, stateOf, stateOn}
 use Rattle.model.specs.Journal.{sourceAt, targetAt, journalSectors, journalSector}
-use Rattle.model.specs.Recovery.{isData, isMetadata, goodEntry, replayedSector, replayed, badJournal, replayGroups}
+use Rattle.model.specs.Recovery.{isData, isMetadata, goodEntry, replayedSector, replayed, badJournal, replayGroups, entryWrite, differs, copied, slicedGroups}
 use Rattle.laws.proofs.Booleans.{range-yes, range-no, and-yes, or-left, or-right}
 use Rattle.laws.proofs.Search.{allBelow-yes, anyBelow-no, getD-tab0, tabulate-ext, concatenated-ext}
 use Rattle.safety.proofs.Apply.{over, apply, hits, over-append, over-miss, over-skip, over-none, All, all-map, all-at, hits-append, all-miss, tabulate-miss, tabulate-at, Own}
 use Rattle.safety.proofs.Journal.{packed-source, packed-target, Rising, rising-lt, picked, concatenated-picked, made, made-picked}
-use Rattle.safety.proofs.Superblock.{journalLength-with, with-with, state-waiting, Volume, volume-with, recovers-by, Recovers}
+use Rattle.safety.proofs.Superblock.{journalLength-with, with-with, state-waiting, Volume, volume-with, recovers-by, Recovers, slices-by, Slices}
 
 -- ---- areas
 
@@ -264,6 +264,10 @@ module _ (g : Geometry) (p : Plan) (geo : UsableGeometry g) (ok : WellFormed g p
       unfolding copyContents
       from-source k h = ap d (source-is k h) ∙ pending-copy k h
 
+      -- the k-th entry writes the k-th target
+      pub entry-writes : (k : ℕ) → k < length (p .targets) → entryWrite g d k ≡ getD (p .targets) k barrier
+      entry-writes k h = λ i. sectorWrite (target-is k h i) (from-source k h i)
+
       entry-is : (t : ℕ) → replayedSector g d (length (p .targets)) t ≡ picked (p .targets) t
       unfolding replayedSector
       entry-is t =
@@ -297,15 +301,33 @@ module _ (g : Geometry) (p : Plan) (geo : UsableGeometry g) (ok : WellFormed g p
           (ap (isMetadata g) (target-is k h) ∙ all-at (Metadata g) (p .targets) k barrier (ok .metadata) h))
           (ap not once)
 
-      -- recovery reads the waiting plan back, from any disk that is committed but for the targets
-      pub recovers-pending : (len : ℕ) → Volume g len (d0 superblockAt) → length (d0 superblockAt) ≡ 512 → Recovers len d (p .targets ∷ (clear g d0 p ∷ []) ∷ [])
-      recovers-pending len v sec =
-          let n = length (p .targets) in
-          let few : n ≤ 1024 = ok .journalled in
-          let len-is : journalLength (d superblockAt) ≡ n = ap journalLength pending-zero ∙ journalLength-with n (d0 superblockAt) sec (omega arith) in
-          let st : stateOn d ≡ Waiting n = ap stateOf len-is ∙ state-waiting n (ok .nonempty) (omega arith) in
-          let vol : Volume g len (d superblockAt) = rw pending-zero (volume-with g n len (d0 superblockAt) v) in
-          let bad : badJournal g d (Waiting n) ≡ false = ap not (allBelow-yes (goodEntry g d) n good) in
-          let gs : replayGroups g d (Waiting n) ≡ p .targets ∷ (clear g d0 p ∷ []) ∷ [] =
-          ap₂ (λ (c : Group) (s : List ℕ). c ∷ (sectorWrite superblockAt s ∷ []) ∷ []) replayed-is (ap (withJournalLength 0) pending-zero ∙ with-with 0 n (d0 superblockAt)) in
-          recovers-by g len d (Waiting n) _ vol st refl bad gs
+      module _ (len : ℕ) (v : Volume g len (d0 superblockAt)) (sec : length (d0 superblockAt) ≡ 512) where
+        pub pending-volume : Volume g len (d superblockAt)
+        pending-volume = rw pending-zero (volume-with g (length (p .targets)) len (d0 superblockAt) v)
+
+        pub pending-waits : stateOn d ≡ Waiting (length (p .targets))
+        pending-waits =
+            let n = length (p .targets) in
+            let few : n ≤ 1024 = ok .journalled in
+            let len-is : journalLength (d superblockAt) ≡ n = ap journalLength pending-zero ∙ journalLength-with n (d0 superblockAt) sec (omega arith) in
+            ap stateOf len-is ∙ state-waiting n (ok .nonempty) (omega arith)
+
+        pending-good : badJournal g d (Waiting (length (p .targets))) ≡ false
+        pending-good = ap not (allBelow-yes (goodEntry g d) (length (p .targets)) good)
+
+        reset-is : withJournalLength 0 (d superblockAt) ≡ withJournalLength 0 (d0 superblockAt)
+        reset-is = ap (withJournalLength 0) pending-zero ∙ with-with 0 (length (p .targets)) (d0 superblockAt)
+
+        -- recovery reads the waiting plan back, from any disk that is committed but for the targets
+        pub recovers-pending : Recovers len d (p .targets ∷ (clear g d0 p ∷ []) ∷ [])
+        recovers-pending =
+            let gs : replayGroups g d (Waiting (length (p .targets))) ≡ p .targets ∷ (clear g d0 p ∷ []) ∷ [] =
+            ap₂ (λ (c : Group) (s : List ℕ). c ∷ (sectorWrite superblockAt s ∷ []) ∷ []) replayed-is reset-is in
+            recovers-by g len d (Waiting (length (p .targets))) _ pending-volume pending-waits refl pending-good gs
+
+        -- and a slice what is left of it
+        pub slices-pending : (budget : ℕ)
+            → Slices len d budget (cond (anyBelow (differs g d) (length (p .targets))) (copied g d budget (length (p .targets))) (clear g d0 p ∷ []) ∷ [])
+        slices-pending budget =
+            slices-by g len d budget (Waiting (length (p .targets))) _ pending-volume pending-waits refl pending-good
+            (ap (λ (s : List ℕ). cond (anyBelow (differs g d) (length (p .targets))) (copied g d budget (length (p .targets))) (sectorWrite superblockAt s ∷ []) ∷ []) reset-is)

@@ -28,7 +28,7 @@ use Rattle.laws.proofs.Bytes.{length-zeroSector}
 use Rattle.laws.proofs.Entry.{new-name-good}
 use Rattle.laws.proofs.Disk.{length-view}
 use Rattle.safety.proofs.OwnWords.{named-is, name-is, new-name-is, file-is}
-use Rattle.safety.proofs.Searches.{place-found, place-none, or-right-no}
+use Rattle.safety.proofs.Searches.{place-found, place-none, or-right-no, same-refl, same-true}
 use Rattle.safety.proofs.Apply.{over, over-append, over-skip, over-here, over-none, All}
 use Rattle.safety.proofs.Order.{Reordered, swapped, behind, again, to-end, over-reordered, rising-own}
 use Rattle.safety.proofs.Plan.{UsableGeometry, WellFormed, metadata-directory}
@@ -45,7 +45,6 @@ use Rattle.safety.proofs.FreedTable.{freed, length-freed, freed-few, fr
 use Rattle.safety.proofs.FreedSlot.{rep-freed}
 use Rattle.safety.proofs.KeptFile.{name-apart}
 use Rattle.safety.proofs.RenamedSlot.{rep-renamed}
-use Rattle.safety.proofs.Naming.{same-refl, same-true}
 use Rattle.safety.proofs.Induction.{Effect}
 
 -- the name of a file that has it

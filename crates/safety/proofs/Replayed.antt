@@ -27,19 +27,13 @@ use Rattle.laws.proofs.Booleans.{and-left, and-right, or-left}
 use Rattle.laws.proofs.Search.{allBelow-yes, anyBelow-no, anyBelow-ext, first-ext, first-none, none-at, concatenated-ext}
 use Rattle.laws.proofs.Seeking.{first-there, anyBelow-first}
 use Rattle.safety.proofs.Searches.{place-found, not-yes}
-use Rattle.safety.proofs.Apply.{over, hits, over-append, over-here, over-miss, over-none, All, all-append, all-map, all-miss}
+use Rattle.safety.proofs.Apply.{over, hits, over-append, over-here, over-miss, over-none, All, all-concatenated, all-map, all-miss}
 use Rattle.safety.proofs.Superblock.{Volume, Recovers, recovers-by}
 use Rattle.safety.proofs.Plan.{metadata-lt, metadata-no}
 use Rattle.safety.proofs.Frame.{closed-cons}
 use Rattle.laws.proofs.Count.{countBelow-none, countBelow-new, length-concatenated}
 
 -- ---- lists made sector by sector
-
-all-concatenated : (P : Record → Type 0) (f : ℕ → Group) (n : ℕ) → ((t : ℕ) → t < n → All P (f t)) → All P (concatenated f 0 n)
-unfolding concatenated
-all-concatenated P f zero h = tt
-all-concatenated P f (suc n) h =
-    all-append P (concatenated f 0 n) (f (0 + n)) (all-concatenated P f n (λ t l. h t (omega arith))) (rw zero-add (h n (omega arith)))
 
 module _ (f : ℕ → Group) (own : (t : ℕ) → All (λ w. w .sector ≡ t) (f t)) where
   concatenated-over : (n t : ℕ) (x : List ℕ) → t < n → over (concatenated f 0 n) t x ≡ over (f t) t x

@@ -20,6 +20,7 @@ use Rattle.model.specs.Superblock.{stateOn, magic, isVolume, geometryIn, journa
 use Rattle.model.specs.Refusals.{verdictOf, andThen, isDone, refusal, done, isWhole, fitsImage, imageVerdict, stateNumber}
 use Rattle.model.specs.WriteList.{Group, listLength}
 use Rattle.model.specs.Recovery.{badJournal, replayGroups, recoveryGroups, recoveryVerdict, recoveryListed, recoveryAnswer}
+use Rattle.model.specs.Recovery.{slicedGroups, sliceGroups, sliceVerdict, sliceListed, sliceAnswer}
 use Rattle.model.specs.declared.Verdict.{Verdict}
 use Rattle.laws.proofs.Booleans.{and-left, and-right}
 use Rattle.laws.proofs.Bytes.{length-put, length-beBytes, number-same, number-other, bytes-other, put-put}
@@ -161,3 +162,63 @@ when-none len d r room =
 -- a clean volume's recovery does nothing
 pub recovers-clean : (g : Geometry) (len : ℕ) (d : Disk) → Volume g len (d superblockAt) → stateOn d ≡ Clean → Recovers len d []
 recovers-clean g len d v e = recovers-by g len d Clean [] v e refl refl refl
+
+-- ---- a slice
+
+-- one that refuses a disk only for budget 0 and for a list shorter than these groups, and has these to list
+pub record Slices (len : ℕ) (d : Disk) (budget : ℕ) (gs : List Group) : Type 0 where
+  pub verdict : (room : ℕ) → sliceVerdict len d budget room ≡ cond (eqb budget 0) (refusal 8) (byRoom room gs)
+  pub groups : sliceGroups d budget ≡ gs
+
+sliced-are : (g : Geometry) (d : Disk) (budget : ℕ) (st : State) → geometryIn (d superblockAt) ≡ g → stateOn d ≡ st → sliceGroups d budget ≡ slicedGroups g d budget st
+unfolding sliceGroups
+sliced-are g d budget st e f = λ i. slicedGroups (e i) d budget (f i)
+
+-- unfinished, bad journal, budget 0, short list
+abbrev slicedBy : Bool → Bool → Bool → ℕ → List Group → Verdict
+slicedBy unfinished bad none room gs = andThen (cond unfinished (refusal 4) (cond bad (refusal 6) (cond none (refusal 8) done))) (byRoom room gs)
+
+by-budget : (none : Bool) (room : ℕ) (gs : List Group) → slicedBy false false none room gs ≡ cond none (refusal 8) (byRoom room gs)
+by-budget true room gs = refl
+by-budget false room gs = refl
+
+module _ (g : Geometry) (len : ℕ) (d : Disk) (budget : ℕ) where
+  pub slices-by : (st : State) (gs : List Group) → Volume g len (d superblockAt) → stateOn d ≡ st → eqb (stateNumber st) 4 ≡ false
+      → badJournal g d st ≡ false → slicedGroups g d budget st ≡ gs → Slices len d budget gs
+  unfolding sliceVerdict verdictOf
+  slices-by st gs v e n b r =
+      let gr : sliceGroups d budget ≡ gs = sliced-are g d budget st (v .geometry) e ∙ r in
+      record {
+        verdict = λ room.
+            (λ i. andThen (volume-accepted g len d v i) (slicedBy (eqb (stateNumber (e i)) 4) (badJournal (v .geometry i) d (e i)) (eqb budget 0) room (gr i)))
+            ∙ (λ i. slicedBy (n i) (b i) (eqb budget 0) room gs) ∙ by-budget (eqb budget 0) room gs;
+        groups = gr;
+      }
+
+  pub slices-clean : Volume g len (d superblockAt) → stateOn d ≡ Clean → Slices len d budget []
+  slices-clean v e = slices-by Clean [] v e refl refl refl
+
+slice-number : (none short : Bool) → cond none (refusal 8) (cond short (refusal 14) done) .number ≡ cond none 8 (cond short 14 0)
+slice-number true short = refl
+slice-number false true = refl
+slice-number false false = refl
+
+module _ (len : ℕ) (d : Disk) (budget : ℕ) (gs : List Group) (r : Slices len d budget gs) (room : ℕ) where
+  pub slice-done : isDone (sliceVerdict len d budget room) ≡ true → sliceListed len d budget room ≡ gs
+  unfolding sliceListed
+  slice-done h = λ i. cond (h i) (r .groups i) []
+
+  pub slice-some : sliceListed len d budget room ≢ [] → sliceListed len d budget room ≡ gs
+  unfolding sliceListed
+  slice-some h = listed-by (isDone (sliceVerdict len d budget room)) (sliceGroups d budget) h ∙ r .groups
+
+  pub slice-answers : sliceAnswer len d budget room .number ≡ cond (eqb budget 0) 8 (cond (ltb room (listLength (sliceGroups d budget))) 14 0)
+  unfolding sliceAnswer
+  slice-answers =
+      ap (λ (v : Verdict). v .number) (r .verdict room) ∙ slice-number (eqb budget 0) (ltb room (listLength gs))
+      ∙ ap (λ (x : List Group). cond (eqb budget 0) 8 (cond (ltb room (listLength x)) 14 0)) (sym (r .groups))
+
+pub slice-none : (len : ℕ) (d : Disk) (budget : ℕ) → Slices len d budget [] → (room : ℕ) → sliceListed len d budget room ≡ []
+unfolding sliceListed
+slice-none len d budget r room =
+    ap (λ (x : List Group). cond (isDone (sliceVerdict len d budget room)) x []) (r .groups) ∙ listed-none (isDone (sliceVerdict len d budget room))

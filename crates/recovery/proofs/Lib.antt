@@ -2,3 +2,4 @@
 pub mod Index
 pub mod Answer
 pub mod Rising
+pub mod Slice

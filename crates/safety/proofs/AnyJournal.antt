@@ -17,7 +17,7 @@ use Rattle.model.specs.Geometry.{superblockAt, extentSectors, journalAt, tableA
 use Rattle.model.specs.Disk.{Disk, view}
 use Rattle.model.specs.Superblock.{geometryIn, stateOn, stateOf, journalLength, withJournalLength}
 use Rattle.model.specs.Journal.{sourceAt, targetAt}
-use Rattle.model.specs.Refusals.{verdictOf, given, isDone, done, refusal, imageVerdict, stateNumber}
+use Rattle.model.specs.Refusals.{verdictOf, andThen, given, isDone, done, refusal, imageVerdict, stateNumber}
 use Rattle.model.specs.Summary.{stateEntries, summaryAnswer, summaryOn, noSummary}
 use Rattle.model.specs.WriteList.{Record, Group, recordSize, superblockGroup, sectorWrite, stored, closed, listLength}
 use Rattle.model.specs.Recovery.{isData, isMetadata, goodEntry, replayed, badJournal, recoveryGroups, recoveryVerdict, recoveryListed, recoveryAnswer}
@@ -60,6 +60,13 @@ waiting-few m n e = subst (λ (k : ℕ). k ≤ 1024) (ap stateEntries e) (go (eq
     go false false true h = omega arith
     go false false false h = omega arith
 
+pub no-4-6-8 : (a b c : Bool) (later : Verdict)
+    → isDone (andThen (cond a (refusal 4) (cond b (refusal 6) (cond c (refusal 8) done))) later) ≡ true → (b ≡ false) × (c ≡ false)
+no-4-6-8 true b c later h = absurd (false≢true h)
+no-4-6-8 false true c later h = absurd (false≢true h)
+no-4-6-8 false false true later h = absurd (false≢true h)
+no-4-6-8 false false false later h = (refl, refl)
+
 no-6 : (a b : Bool) → isDone (cond a (refusal 4) (cond b (refusal 6) done)) ≡ true → b ≡ false
 no-6 true b h = absurd (false≢true h)
 no-6 false true h = absurd (false≢true h)
@@ -84,13 +91,13 @@ module _ (img : List ℕ) (n room : ℕ) (st : stateOn (view img) ≡ Waiting n)
   unfolding recoveryAnswer
   accepted = eq-eqb _ 0 ok
 
-  volume : Volume (geometryOn img) (length img) (view img superblockAt)
+  pub volume : Volume (geometryOn img) (length img) (view img superblockAt)
   unfolding recoveryVerdict
   volume =
       let p = image-passed (length img) (view img) (eqb-true _ 0 (earlier-done (imageVerdict (length img) (view img)) _ accepted)) in
       record { whole = p .whole; marked = p .volume; geometry = refl; fits = p .fits }
 
-  good : (k : ℕ) → k < n → goodEntry (geometryOn img) (view img) k ≡ true
+  pub good : (k : ℕ) → k < n → goodEntry (geometryOn img) (view img) k ≡ true
   unfolding recoveryVerdict verdictOf
   good =
       allBelow-at (goodEntry g d) n (not-no _ (ap (badJournal g d) (sym st)
@@ -98,20 +105,20 @@ module _ (img : List ℕ) (n room : ℕ) (st : stateOn (view img) ≡ Waiting n)
       (earlier-done (cond (eqb (stateNumber (stateOn d)) 4) (refusal 4) (cond (badJournal g d (stateOn d)) (refusal 6) done)) (byRoom room (recoveryGroups d))
       (later-done (imageVerdict (length img) (view img)) _ accepted))))
 
-  few : n ≤ 1024
+  pub few : n ≤ 1024
   few = waiting-few (journalLength (view img superblockAt)) n st
 
   -- group C writes below the data area, where no number is a barrier's
-  in-image : (j : ℕ) (s : List ℕ) → j < dataAt (geometryOn img) → length s ≡ 512 → InImage (length img) (sectorWrite j s)
+  pub in-image : (j : ℕ) (s : List ℕ) → j < dataAt (geometryOn img) → length s ≡ 512 → InImage (length img) (sectorWrite j s)
   in-image j s h l =
       let b = few-sectors g (volume-bounds g (length img) (view img superblockAt) volume) in
       let v : 512 * volumeSectors g ≤ length img = volume-long g (length img) (view img superblockAt) volume in
       record { within = omega arith; number = λ e. omega (arith, b .0, b .1); sector = l }
 
-  C-in : All (InImage (length img)) C
+  pub C-in : All (InImage (length img)) C
   C-in = replayed-by g d n (InImage (length img)) (λ k l. in-image _ _ (metadata-lt g _ (target-metadata g d n good k l)) (length-view img _))
 
-  last-in : InImage (length img) last
+  pub last-in : InImage (length img) last
   last-in = in-image 0 _ (omega arith) (length-withJournalLength 0 (view img superblockAt) ∙ length-view img superblockAt)
 
   -- recovery of an image that group C began to change has the same groups to list
@@ -124,7 +131,7 @@ module _ (img : List ℕ) (n room : ℕ) (st : stateOn (view img) ≡ Waiting n)
       (subst (λ (l : ℕ). Volume g l (view out superblockAt)) (sym (b .long)) (subst (Volume g (length img)) (sym z) volume))
       (ap (λ (s : List ℕ). stateOf (journalLength s)) z ∙ st))
 
-  first-begun : Begun (length img) C (view img) img
+  pub first-begun : Begun (length img) C (view img) img
   first-begun = record { long = refl; shows = λ j e. refl }
 
   whole-is : recoveredBy room img ≡ stored (C ++ (last ∷ [])) img
@@ -132,7 +139,7 @@ module _ (img : List ℕ) (n room : ℕ) (st : stateOn (view img) ≡ Waiting n)
       ap (λ (gs : List Group). stored (closed gs) img) (when-done (length img) (view img) _ (begun-recovers img first-begun) room accepted)
       ∙ stored-closed (C ∷ (last ∷ []) ∷ []) img
 
-  ended : Ended (length img) C last (view img) (stored (C ++ (last ∷ [])) img)
+  pub ended : Ended (length img) C last (view img) (stored (C ++ (last ∷ [])) img)
   ended = record {
     long = length-stored (C ++ (last ∷ [])) img;
     shows = stored-view (C ++ (last ∷ [])) img (length img) refl (all-append (InImage (length img)) C (last ∷ []) C-in (last-in, tt)) ∙ apply-append C (last ∷ []) (view img);
@@ -265,7 +272,7 @@ module _ (n : ℕ) (img : List ℕ) where
   abbrev geo : Geometry
   geo = geometryOn img
 
-  from-good : ((k : ℕ) → k < n → goodEntry (geometryOn img) (view img) k ≡ true) → GoodEntries n img
+  pub from-good : ((k : ℕ) → k < n → goodEntry (geometryOn img) (view img) k ≡ true) → GoodEntries n img
   unfolding goodEntry isData
   from-good good = record {
     sources = λ k l. in-range (dataAt geo) (volumeSectors geo) _ (and-left _ (isMetadata geo (targetAt geo (view img) k)) (and-left _ _ (good k l)));

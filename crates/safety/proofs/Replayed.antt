@@ -154,7 +154,7 @@ module _ (g : Geometry) (d : Disk) (n : ℕ) where
       unfolding targetAt
       target-same k l = ap (λ (s : List ℕ). beAt s (16 * (k % 32) + 8) 8) (journal-stays k l)
 
-      contents-same : (k : ℕ) → k < n → d′ (sourceAt g d′ k) ≡ d (sourceAt g d k)
+      pub contents-same : (k : ℕ) → k < n → d′ (sourceAt g d′ k) ≡ d (sourceAt g d k)
       contents-same k l =
           let h : dataAt g ≤ sourceAt g d k = source-data k l in
           ap d′ (source-same k l) ∙ shows (sourceAt g d k) (no-metadata _ (metadata-no g _ (λ a b. omega arith) (λ a b. omega arith)))

@@ -37,6 +37,9 @@ enum { NAME_LENGTH = sizeof name - 1, BESIDE_LENGTH = sizeof beside - 1 };
 
 enum { FILES = 255, ROOT_ID = 1, MODE = 0644 };
 
+/* Sectors that are written between two feeds of the watchdog. */
+enum { SLICE = 2 };
+
 /* The fourteen refusals, by their numbers. */
 static const char *const refusals[] = {
     "done",
@@ -63,7 +66,7 @@ static union {
     uint8_t write[GOOFS_WRITE_LIST];
     uint8_t rename[GOOFS_RENAME_LIST];
     uint8_t removal[GOOFS_DELETE_LIST];
-    uint8_t recover[GOOFS_RECOVER_LIST];
+    uint8_t slice[GOOFS_SLICE_LIST(SLICE)];
 } list;
 
 /* The image file, and all its bytes in memory: the calls read the image there. The file is locked as long as it is open, as a list
@@ -235,6 +238,11 @@ static void format(const char *path, uint64_t sectors)
         system_failure(path);
 }
 
+/* A box feeds its watchdog here; at a desk there is none. */
+static void feed_watchdog(void)
+{
+}
+
 /* What a detector does first when it is switched on: make sure of what it reads, finish a change that was cut, see whether the volume
  * is sound, and remove a file beside that a save did not come to rename. */
 static void start(struct card *card)
@@ -254,10 +262,16 @@ static void start(struct card *card)
         barrier(card);
     }
     if (summary.state == GOOFS_STATE_WAITING) {
-        /* If the power goes here too, the volume still waits, and the next start asks again. */
-        goofs_length_result answer = goofs_recover(card->image, card->length, list.recover, sizeof list.recover);
-        done("recover", answer.code);
-        carry_out(card, list.recover, answer.length);
+        /* The boot loop: a few sectors at a time, so that the watchdog is fed in between. If the power goes here too, the volume still
+         * waits, and the next start goes on. */
+        goofs_slice_result slice;
+
+        do {
+            feed_watchdog();
+            slice = goofs_recover_slice(card->image, card->length, SLICE, list.slice, sizeof list.slice);
+            done("recover", slice.code);
+            carry_out(card, list.slice, slice.length);
+        } while (slice.count != 0);
         fprintf(stderr, "detector: finished a change that was cut, of %" PRIu64 " sectors\n", summary.entries);
     }
     check = goofs_check(card->image, card->length);

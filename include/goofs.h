@@ -73,6 +73,7 @@ extern "C" {
 #define GOOFS_RESIZE_LIST (GOOFS_RECORDS(0, 1 + 512) * GOOFS_RECORD)
 #define GOOFS_WRITE_LIST (GOOFS_RECORDS(129, 2) * GOOFS_RECORD)
 #define GOOFS_RECOVER_LIST (GOOFS_RECOVERY_RECORDS(1024) * GOOFS_RECORD)
+#define GOOFS_SLICE_LIST(budget) (((budget) + 1) * GOOFS_RECORD)
 
 enum goofs_code {
     GOOFS_DONE = 0,
@@ -86,7 +87,7 @@ enum goofs_code {
     GOOFS_BAD_ARGUMENT = 8,      /* a name that isn't 1 to 476 bytes without 0; a name to create or to rename to that has a byte
                                   * other than 33 to 126, or a slash; create with id 0; a read or write of more than 65,536
                                   * bytes; a resize that grows by more than that; a list index past the directory; a format
-                                  * without a geometry; a bad record */
+                                  * without a geometry; a bad record; a slice with budget 0 */
     GOOFS_NOT_THERE = 9,         /* no such name, listed entry is free, or format position past the last record */
     GOOFS_ALREADY_THERE = 10,    /* create: name already there, or id an occupied entry's or the root's */
     GOOFS_DIRECTORY_FULL = 11,   /* create: no free entry */
@@ -141,6 +142,12 @@ typedef struct {
     uint64_t code, length;
 } goofs_length_result;
 
+typedef struct {
+    uint64_t code;
+    uint64_t length; /* bytes of the list that are filled */
+    uint64_t count;  /* sector writes in it */
+} goofs_slice_result;
+
 /* Geometry and state. Gives 0 to 3 only. */
 goofs_summary_result goofs_summary(const uint8_t *image, size_t image_length);
 
@@ -188,6 +195,13 @@ goofs_change_result goofs_write(const uint8_t *image, size_t image_length, const
 /* Finishes a change that was cut after its start mark; a clean volume gives an empty list. Gives 0 to 4, 6 and 14. List: at most
  * GOOFS_RECOVER_LIST. It may itself be cut and asked for again. */
 goofs_length_result goofs_recover(const uint8_t *image, size_t image_length, uint8_t *list, size_t list_length);
+
+/* The same in slices of at most `budget` sector writes, for a boot loader under a watchdog: the first targets, in the journal's order, that
+ * don't hold their copy yet, then a barrier; when none is left, the end mark and a barrier. `count` is the number of sector writes.
+ * Asked for and carried out until `count` is 0: with d targets left, the volume is clean after d / budget rounded up, plus 1, calls.
+ * Slices and goofs_recover may be mixed, and each may be cut. Gives 0 to 4, 6, 8 (a budget of 0) and 14. List: GOOFS_SLICE_LIST(budget) is always
+ * enough. A clean volume gives an empty list and the count 0. */
+goofs_slice_result goofs_recover_slice(const uint8_t *image, size_t image_length, uint64_t budget, uint8_t *list, size_t list_length);
 
 /* Record `position`, from 0 on, of the format of a medium of so many sectors, to `out` (GOOFS_RECORD bytes); all of them, landed in
  * order, are the format. The record carries this position, so that all of them, joined in order, are a list for goofs_carry_out; one

@@ -475,6 +475,8 @@ static void all_refuse(int besides, const uint8_t *image, size_t length, uint64_
            .code = code, .fault = fault, .place = place);
         if (besides & RECOVER)
             IS(goofs_length_result, goofs_recover(image, length, out, room), .code = code);
+        if (besides & RECOVER)
+            IS(goofs_slice_result, goofs_recover_slice(image, length, number, out, room), .code = code);
     }
     lent_is(__LINE__, NULL, 0);
     held_is(__LINE__);
@@ -1085,6 +1087,33 @@ static void cut_after_the_start_mark(void)
         lend();
         IS(goofs_length_result, goofs_recover(medium.bytes, IMAGE, lent.bytes, GOOFS_RECOVER_LIST), .code = 0, .length = 3168);
         lent_is(__LINE__, tail, 3168);
+        lend();
+        IS(goofs_slice_result, goofs_recover_slice(medium.bytes, IMAGE, 0, lent.bytes, sizeof lent.bytes), .code = 8);
+        IS(goofs_slice_result, goofs_recover_slice(medium.bytes, IMAGE, 9, lent.bytes, (size_t)(landed < 3 ? 4 - landed : 2) * 528 - 1),
+           .code = 14);
+        lent_is(__LINE__, NULL, 0);
+        if (landed < 3) { /* the targets that are left, in journal order, and a barrier */
+            uint8_t slice[4 * 528];
+            int left = 3 - landed, k;
+
+            memcpy(slice, tail + landed * 528, (size_t)(left + 1) * 528);
+            for (k = 0; k <= left; k++)
+                put(slice + k * 528, 8, (uint64_t)k);
+            IS(goofs_slice_result, goofs_recover_slice(medium.bytes, IMAGE, 9, lent.bytes, (size_t)(left + 1) * 528),
+               .length = (uint64_t)(left + 1) * 528, .count = (uint64_t)left);
+            lent_is(__LINE__, slice, (size_t)(left + 1) * 528);
+        } else { /* the end mark and a barrier */
+            uint8_t slice[2 * 528];
+
+            memcpy(slice, tail + 4 * 528, sizeof slice);
+            put(slice, 8, 0);
+            put(slice + 528, 8, 1);
+            IS(goofs_slice_result, goofs_recover_slice(medium.bytes, IMAGE, 9, lent.bytes, sizeof slice), .length = sizeof slice,
+               .count = 1);
+            lent_is(__LINE__, slice, sizeof slice);
+        }
+        lend();
+        IS(goofs_length_result, goofs_recover(medium.bytes, IMAGE, lent.bytes, sizeof lent.bytes), .code = 0, .length = 3168);
         held_is(__LINE__);
     }
     NUMBER(goofs_carry_out(medium.bytes, IMAGE, lent.bytes, 3168), 0);
@@ -1126,6 +1155,7 @@ static void bad_journals(void)
         lend();
         IS(goofs_length_result, goofs_recover(medium.bytes, IMAGE, lent.bytes, sizeof lent.bytes), .code = 6);
         IS(goofs_length_result, goofs_recover(medium.bytes, IMAGE, NULL, 0), .code = 6);
+        IS(goofs_slice_result, goofs_recover_slice(medium.bytes, IMAGE, 0, lent.bytes, sizeof lent.bytes), .code = 6);
         lent_is(__LINE__, NULL, 0);
         held_is(__LINE__);
         ALL_REFUSE(NOT_THESE, medium.bytes, IMAGE, 5, 0, 0);

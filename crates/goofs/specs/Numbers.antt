@@ -6,6 +6,7 @@ use Rattle.model.specs.declared.Listed.{Listed}
 use Rattle.model.specs.declared.BytesRead.{BytesRead}
 use Rattle.model.specs.declared.Changed.{Changed}
 use Rattle.model.specs.declared.Recovered.{Recovered}
+use Rattle.model.specs.declared.Sliced.{Sliced}
 use Rattle.model.specs.declared.Formatted.{Formatted}
 use Rattle.model.specs.Geometry.{extentSectors}
 use Rattle.model.specs.Summary.{stateCode, stateEntries}
@@ -16,6 +17,7 @@ use Rattle.goofs.specs.declared.ListResult.{ListResult}
 use Rattle.goofs.specs.declared.ReadResult.{ReadResult}
 use Rattle.goofs.specs.declared.ChangeResult.{ChangeResult}
 use Rattle.goofs.specs.declared.RecoverResult.{RecoverResult}
+use Rattle.goofs.specs.declared.SliceResult.{SliceResult}
 use Rattle.goofs.specs.declared.FormatResult.{FormatResult}
 
 abbrev pub summaryNumbers : Summarized → SummaryResult
@@ -68,6 +70,9 @@ changeNumbers a = record { code = a .verdict .number; fault = a .verdict .fault;
 
 abbrev pub recoverNumbers : Recovered → RecoverResult
 recoverNumbers a = record { code = a .number; length = a .length }
+
+abbrev pub sliceNumbers : Sliced → SliceResult
+sliceNumbers a = record { code = a .number; length = a .length; count = a .count }
 
 abbrev pub formatNumbers : Formatted → FormatResult
 formatNumbers a = record { code = a .number; length = a .length }

@@ -19,10 +19,10 @@ ghost use Rattle.model.specs.Delete.{deleteAnswer, deleteList};
 ghost use Rattle.model.specs.Resize.{resizeAnswer, resizeList};
 ghost use Rattle.model.specs.Write.{writeAnswer, writeList};
 ghost use Rattle.model.specs.Rename.{renameAnswer, renameList};
-ghost use Rattle.model.specs.Recovery.{recoveryAnswer, recoveryList};
+ghost use Rattle.model.specs.Recovery.{recoveryAnswer, recoveryList, sliceAnswer, sliceList};
 ghost use Rattle.model.specs.Format.{formatAnswer, formatOutput};
 ghost use Rattle.model.specs.CarryOut.{carryAnswer, carryImage};
-ghost use Rattle.goofs.specs.Numbers.{summaryNumbers, checkNumbers, findNumbers, listNumbers, readNumbers, changeNumbers, recoverNumbers, formatNumbers};
+ghost use Rattle.goofs.specs.Numbers.{summaryNumbers, checkNumbers, findNumbers, listNumbers, readNumbers, changeNumbers, recoverNumbers, sliceNumbers, formatNumbers};
 
 // ---- summary
 
@@ -344,6 +344,26 @@ pub extern "C" fn goofs_recover(img: &[u8], list: &mut [u8]) -> RecoverResult
     RecoverResult {
         code: a.number,
         length: a.length,
+    }
+}
+
+#[repr(C)]
+pub struct SliceResult {
+    pub code: u64,
+    pub length: u64,
+    pub count: u64,
+}
+
+#[no_mangle]
+pub extern "C" fn goofs_recover_slice(img: &[u8], budget: u64, list: &mut [u8]) -> SliceResult
+    ensures { λ r. ⌜ r ≡ sliceNumbers (sliceAnswer (length (now (img .entry))) (view (now (img .entry))) budget (length (now (list .entry)))) ⌝ }
+    ensures { λ _. ⌜ now (list .exit) ≡ sliceList (length (now (img .entry))) (view (now (img .entry))) budget (now (list .entry)) ⌝ }
+{
+    let a = recovery::recover_slice(img, budget, list);
+    SliceResult {
+        code: a.number,
+        length: a.length,
+        count: a.count,
     }
 }
 

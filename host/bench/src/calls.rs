@@ -135,6 +135,7 @@ fn one_file(table: &mut CallTable) {
     let length = oracle::delete(&image, b"all", 2, &mut list).length as usize;
     cut(&mut image, &list[..length]);
     table.recover("recovery, of the delete", input, &image);
+    table.slice("slice of 32, of the delete", input, &image, 32);
     table.carry_out(
         "carrying out, the delete",
         input,
@@ -338,6 +339,16 @@ impl CallTable<'_> {
             &mut self.list,
             |list| goofs::recover(black_box(image), list).length,
             |list| oracle::recover(black_box(image), list).length,
+        );
+        self.row_of_list(call, input, &compared);
+    }
+
+    fn slice(&mut self, call: &str, input: &str, image: &[u8], budget: u64) {
+        let compared = self.comparisons.filling(
+            call,
+            &mut self.list,
+            |list| goofs::recover_slice(black_box(image), budget, list).length,
+            |list| oracle::recover_slice(black_box(image), budget, list).length,
         );
         self.row_of_list(call, input, &compared);
     }

@@ -11,7 +11,7 @@ use std::time::{SystemTime, UNIX_EPOCH};
 use goofs::change::{Change, Format};
 use goofs::device::{Device, Disk, SECTOR};
 use goofs::error::{Error, Refusal};
-use goofs::image::Image;
+use goofs::image::{Image, State};
 use goofs::save::MODE;
 use goofs::system::{self, Held};
 use goofs::volume::{self, Stage, Volume};
@@ -324,6 +324,20 @@ pub fn recover(arguments: &Arguments) -> Result<(), Failure> {
     let card = &arguments.places(&["CARD"])?[0];
     let mut volume = card::volume(card, arguments.wait()?)?;
     let _held = Held::new();
+    if let Some(budget) = arguments.number("budget", 10, u64::MAX)? {
+        let written = volume
+            .recover_slice(budget)
+            .map_err(of_card::<Error>(card))?;
+        let state = volume.image().map_err(of_card(card))?.summary().state;
+        if state == State::Clean && written == 0 {
+            return print_done(card, "nothing to recover: no change was cut\n");
+        }
+        if state != State::Clean {
+            let more = format!("sectors written: {written}; not finished: recover again\n");
+            return print_done(card, &more);
+        }
+        return print_done(card, "recovered: the change that was cut is done now\n");
+    }
     let was_cut = volume.recover().map_err(of_card::<Error>(card))?;
     // Recovery itself does not judge the volume.
     let files = volume.image().map_err(of_card(card))?.entries();

@@ -17,7 +17,7 @@ goofs - files on a volume that survives a cut of the power
   goofs rm CARD NAME                  remove a file
   goofs mv CARD OLD NEW               give a file another name
   goofs resize CARD NAME SIZE         give a file another size
-  goofs recover CARD                  finish a change that was cut
+  goofs recover CARD [--budget N]     finish a change that was cut
   goofs format CARD [--sectors N]     make an empty volume
   goofs trial CARD CHANGE ...         try a change with cuts of the power, in memory
 
@@ -138,11 +138,13 @@ other, each atomic. All are tried in memory first: if one is refused, nothing is
 ";
 
 pub const RECOVER: &str = "\
-goofs recover CARD
+goofs recover CARD [--budget N]
 
 Finishes a change that a cut of the power interrupted. A recovery may itself be cut; then recover
 again. On a clean volume there is nothing to do, and nothing is changed. If the volume is not sound
 after it, the fault is printed and the exit status is 1.
+  --budget N   write at most N sectors, at least 1, and say whether more is left; then recover again.
+               For each N sectors that are still to be copied it takes one call, and one call more
 ";
 
 pub const FORMAT: &str = "\

@@ -65,7 +65,13 @@ const COMMANDS: [Command; 11] = [
     command("rm", help::RM, &["time"], &[], changing::rm),
     command("mv", help::MV, &["time"], &[], changing::mv),
     command("resize", help::RESIZE, &["time"], &[], writing::resize),
-    command("recover", help::RECOVER, &[], &[], changing::recover),
+    command(
+        "recover",
+        help::RECOVER,
+        &["budget"],
+        &[],
+        changing::recover,
+    ),
     command(
         "format",
         help::FORMAT,

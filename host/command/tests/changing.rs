@@ -159,6 +159,28 @@ fn recovery_after_a_cut_by_hand() {
     }
 }
 
+/// One sector at a time: a call for each target that is still to be copied, and one more.
+#[test]
+fn recovery_in_slices() {
+    let folder = Folder::new("slices");
+    let card = formatted(&folder);
+    let image = Image::new(fs::read(&card).unwrap()).unwrap();
+    let list = image.list_of(&new(b"g", 3)).unwrap();
+    let mut cut = Image::new(image.bytes().to_vec()).unwrap();
+    for write in list.groups()[..2].iter().flatten() {
+        cut.land(*write).unwrap();
+    }
+    fs::write(&card, cut.bytes()).unwrap();
+    assert!(bad("recover", &card, &["--budget", "0"], 1).contains("refused (8)"));
+    for _ in 0..2 {
+        let said = good("recover", &card, &["--budget", "1"]);
+        assert_eq!(said, "sectors written: 1; not finished: recover again\n");
+    }
+    assert!(good("recover", &card, &["--budget", "1"]).starts_with("recovered"));
+    assert!(good("recover", &card, &["--budget", "1"]).starts_with("nothing to recover"));
+    assert_eq!(good("check", &card, &[]), "sound, 1 files\n");
+}
+
 /// The copies of a change stand behind sector 674 of the sample, so its first write fails.
 #[test]
 fn a_failing_medium_is_reported() {

@@ -176,6 +176,16 @@ impl Image {
         Ok(List { bytes })
     }
 
+    /// At most `budget` sector writes of a recovery; empty if no change was cut.
+    pub fn recovery_slice(&self, budget: u64) -> Result<List, Refusal> {
+        let most = recovery_records(MOST_JOURNAL_ENTRIES) as u64;
+        let mut bytes = vec![0; (budget.min(most) as usize + 2) * RECORD];
+        let answer = crate::recover_slice(&self.bytes, budget, &mut bytes);
+        Refusal::judge(answer.code, 0, 0)?;
+        bytes.truncate(answer.length as usize);
+        Ok(List { bytes })
+    }
+
     /// The first refusal that these changes would meet, one after the other. The image is then as it
     /// was. Whether a change is refused depends on the metadata alone, so only they are changed and
     /// put back, and many writes take little memory. `progress` hears how many are tried.

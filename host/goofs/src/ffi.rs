@@ -41,6 +41,9 @@ results! {
     /// `length` bytes of the list are filled.
     RecoverAnswer { code, length }
 
+    /// `length` bytes of the list are filled, with `count` sector writes.
+    SliceAnswer { code, length, count }
+
     /// `length` bytes of the output are filled, a whole record.
     FormatRecordAnswer { code, length }
 }
@@ -136,6 +139,9 @@ calls! {
     /// The list that finishes an interrupted change; empty for a clean volume.
     recover is goofs_recover(image: bytes, list: buffer) -> RecoverAnswer;
 
+    /// At most `budget` sector writes of it: copies that are still missing, or, when none is, its end.
+    recover_slice is goofs_recover_slice(image: bytes, budget: u64, list: buffer) -> SliceAnswer;
+
     /// The record at this position of the format of a medium with so many sectors.
     format_record is goofs_format_record(
         sectors: u64, files: u64, id: u64, mode: u32, time: u32, position: u64, output: buffer
@@ -184,6 +190,7 @@ mod tests {
                 one
             );
             assert_eq!(goofs_recover(null(), 0, null_mut(), 0).code, one);
+            assert_eq!(goofs_recover_slice(null(), 0, 1, null_mut(), 0).code, one);
             let too_short = goofs_format_record(1_313, 255, 1, 0, 0, 0, null_mut(), 0);
             assert_eq!(too_short.code, 14);
             assert_eq!(goofs_carry_out(null_mut(), 0, null(), 0), one);

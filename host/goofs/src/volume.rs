@@ -122,6 +122,14 @@ impl<D: Device> Volume<D> {
         Ok(!list.is_empty())
     }
 
+    /// One slice of a recovery, of at most so many sector writes. Gives how many it wrote: 0 when no
+    /// change waits.
+    pub fn recover_slice(&mut self, budget: u64) -> Result<usize, Error> {
+        let list = self.image()?.recovery_slice(budget)?;
+        self.carry_out(&list, 0)?;
+        Ok(list.steps().filter(|step| *step != Step::Barrier).count())
+    }
+
     fn carry_out(&mut self, list: &List, changes_done: usize) -> Result<(), Error> {
         // In memory first: a list that doesn't fit the image must not touch the device.
         self.image.carry_out(list)?;

@@ -195,6 +195,15 @@ pub struct RecoverAnswer {
     pub length: u64,
 }
 
+/// The answer of sliced recovery.
+#[derive(Clone, Copy, Debug, Default, PartialEq, Eq)]
+pub struct SliceAnswer {
+    pub code: u64,
+    /// Sector writes; barriers are none.
+    pub count: u64,
+    pub length: u64,
+}
+
 #[derive(Clone, Copy, Debug, Default, PartialEq, Eq)]
 pub struct FormatRecordAnswer {
     pub code: u64,
@@ -215,6 +224,15 @@ impl From<Refusal> for RecoverAnswer {
         RecoverAnswer {
             code: refusal.code,
             length: 0,
+        }
+    }
+}
+
+impl From<Refusal> for SliceAnswer {
+    fn from(refusal: Refusal) -> SliceAnswer {
+        SliceAnswer {
+            code: refusal.code,
+            ..SliceAnswer::default()
         }
     }
 }

@@ -8,7 +8,7 @@
 //! - `calls`: summary, check, find, list and read;
 //! - `changes`: create, delete, resize and write;
 //! - `rename`: rename, also onto an existing name;
-//! - `recovery`: finishing a transaction that a power cut interrupted;
+//! - `recovery`: finishing a transaction that a power cut interrupted, at once or in slices;
 //! - `format`: the geometry for a sector count, and the format's records;
 //! - `lists`: write lists and carrying them out;
 //! - `report`: the text of the small program that describes a superblock.
@@ -42,7 +42,7 @@ pub use changes::{create, delete, resize, write};
 pub use format::{format_record, FormatRequest};
 pub use ledger::Ledger;
 pub use lists::carry_out;
-pub use recovery::recover;
+pub use recovery::{recover, recover_slice};
 pub use rename::rename;
 pub use request::{Answer, Request};
 

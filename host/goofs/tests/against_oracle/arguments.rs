@@ -190,6 +190,9 @@ fn empty_slices() {
     }
     assert_eq!(goofs::recover(&image, &mut []).code, 0);
     assert_eq!(goofs::recover(&[], &mut []).code, 1);
+    assert_eq!(goofs::recover_slice(&image, 1, &mut []).code, 0);
+    assert_eq!(goofs::recover_slice(&image, 0, &mut []).code, 8);
+    assert_eq!(goofs::recover_slice(&[], 0, &mut []).code, 1);
     assert_eq!(goofs::carry_out(&mut [], &[]), 1);
     assert_eq!(goofs::carry_out(&mut [7; 512], &[]), 0);
     let record = goofs::format_record(1_313, 255, 1, 0, 0, 0, &mut []);

@@ -22,6 +22,8 @@ pub enum Compared {
     Cuts,
     Recoveries,
     CutRecoveries,
+    Slices,
+    CutSlices,
     DamagedImages,
     Truncations,
     ArgumentEdges,
@@ -29,13 +31,15 @@ pub enum Compared {
     ShortBuffers,
 }
 
-const ALL: [(Compared, &str); 11] = [
+const ALL: [(Compared, &str); 13] = [
     (Compared::Calls, "calls put to both sides"),
     (Compared::RandomRuns, "random runs"),
     (Compared::CallsInRuns, "calls in random runs"),
     (Compared::Cuts, "cuts"),
     (Compared::Recoveries, "recoveries in runs and after cuts"),
     (Compared::CutRecoveries, "cut recoveries"),
+    (Compared::Slices, "slices among the recoveries"),
+    (Compared::CutSlices, "cut slices"),
     (
         Compared::DamagedImages,
         "damaged images, journals that no call wrote among them",
@@ -87,6 +91,8 @@ pub fn count_all(counts: &Counts) {
     count(Compared::Cuts, counts.cuts());
     count(Compared::Recoveries, counts.recoveries);
     count(Compared::CutRecoveries, counts.cut_recoveries);
+    count(Compared::Slices, counts.slices);
+    count(Compared::CutSlices, counts.cut_slices);
 }
 
 #[test]

@@ -17,6 +17,12 @@ fn with_each_list(image: &[u8], entries: usize) -> u64 {
     for length in [0, needed - 1, needed, needed + 1] {
         Both.recover(image, length);
     }
+    for budget in [0, 1, 2, entries as u64, u64::MAX] {
+        let slice = Both.recover_slice(image, budget, needed).0.length as usize;
+        for length in [0, slice.saturating_sub(1), slice, slice + 1] {
+            Both.recover_slice(image, budget, length);
+        }
+    }
     Both.recover(image, needed + RECORD).0.code
 }
 

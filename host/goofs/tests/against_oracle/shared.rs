@@ -2,7 +2,7 @@
 //! that show a stray byte.
 
 use crate::counts::{count, Compared};
-use oracle::answers::{code, CheckAnswer, FormatRecordAnswer, RecoverAnswer};
+use oracle::answers::{code, CheckAnswer, FormatRecordAnswer, RecoverAnswer, SliceAnswer};
 use oracle::testing::buffers::LentBuffer;
 use oracle::testing::requests::{create, delete, find, read, rename, resize, shortened, write};
 use oracle::testing::volumes::ANY_LIST;
@@ -145,6 +145,33 @@ impl Subject for Both {
         same_bytes(&found.1, &expected.1, what);
         count_buffer(answer.code, filled, list_length, || {
             Oracle.recover(image, list_length + 1).0.code
+        });
+        found
+    }
+
+    fn recover_slice(
+        &self,
+        image: &[u8],
+        budget: u64,
+        list_length: usize,
+    ) -> (SliceAnswer, Vec<u8>) {
+        let expected = Oracle.recover_slice(image, budget, list_length);
+        let mut list = LentBuffer::new(list_length);
+        let answer = as_oracle!(
+            goofs::recover_slice(image, budget, list.lent()),
+            SliceAnswer {
+                code,
+                length,
+                count,
+            }
+        );
+        let filled = answer.length as usize;
+        let found = (answer, list.filled(filled));
+        let what = || format!("slice of {budget} with {list_length} bytes lent");
+        assert_eq!(found.0, expected.0, "{}", what());
+        same_bytes(&found.1, &expected.1, what);
+        count_buffer(answer.code, filled, list_length, || {
+            Oracle.recover_slice(image, budget, list_length + 1).0.code
         });
         found
     }

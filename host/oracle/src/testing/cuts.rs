@@ -1,16 +1,17 @@
-//! Every cut of a call, each followed by recovery, and by every cut of that recovery. Large groups
-//! are cut by all prefixes, all singles, all but one, and some random subsets.
+//! Every cut of a call, each followed by recovery, whole or in slices, and by the cuts of that
+//! recovery. Large groups are cut by all prefixes, all singles, all but one, and some random subsets.
 
 use super::audit::audit;
 use super::requests::{create, delete, rename, resize, write};
+use super::slices::{differing, expected_slice};
 use super::volumes::{format_list, Volume, ANY_LIST, SAMPLE};
 use super::{Counts, Oracle, Subject};
-use crate::answers::{code, state, SummaryAnswer};
+use crate::answers::{code, state, Refusal, SliceAnswer, SummaryAnswer};
 use crate::draw::Draw;
 use crate::layout::superblock;
 use crate::ledger::Ledger;
 use crate::lists::RECORD;
-use crate::power::{every_cut, groups, Cut};
+use crate::power::{draw_cut, every_cut, groups, Cut, Group};
 use crate::request::{Answer, Request};
 use crate::FormatRequest;
 
@@ -140,7 +141,7 @@ fn cut_call_everywhere(
             report.start_mark && !cut.landed_whole(&call_groups)
         );
         let recovery_groups = groups(&recovery);
-        for second_cut in every_cut(&recovery_groups, 0, draw) {
+        for second_cut in recovery_cuts(&recovery_groups, &image, draw) {
             let mut image = image.clone();
             second_cut.apply(&recovery_groups, &mut image);
             counts.cut_recoveries += 1;
@@ -148,9 +149,84 @@ fn cut_call_everywhere(
             assert_eq!(subject.carry_out(&mut image, &second_recovery), 0);
             finished(subject, &image, &ledger, &cut);
         }
+        if waiting {
+            for budget in [1, 2, u64::MAX] {
+                let ended = |image: &[u8]| finished(subject, image, &ledger, &cut);
+                recover_by_slices(subject, &image, budget, draw, counts, &ended);
+            }
+        }
         assert_eq!(subject.carry_out(&mut image, &recovery), 0);
         finished(subject, &image, &ledger, &cut);
     }
+}
+
+/// Images of more bytes are copied less often.
+const LARGE_IMAGE: usize = 4 << 20;
+
+/// Every cut of a recovery's list; of a large image's some.
+fn recovery_cuts(groups: &[Group], image: &[u8], draw: &mut Draw) -> Vec<Cut> {
+    if image.len() < LARGE_IMAGE {
+        every_cut(groups, 0, draw)
+    } else {
+        (0..4).filter_map(|_| draw_cut(groups, draw)).collect()
+    }
+}
+
+/// Recovers the image slice by slice. Each slice is also cut, and the other recovery ends it then.
+/// Hands on all the images that this ends with.
+fn recover_by_slices(
+    subject: &dyn Subject,
+    image: &[u8],
+    budget: u64,
+    draw: &mut Draw,
+    counts: &mut Counts,
+    ended: &dyn Fn(&[u8]),
+) {
+    let mut image = image.to_vec();
+    let differing = differing(&image);
+    let calls = differing.div_ceil(budget) + 1;
+    let mut reported = Vec::new();
+    for _ in 0..calls {
+        let (answer, list) = slice_list(subject, &image, budget, counts);
+        reported.push(answer.count);
+        let slice_groups = groups(&list);
+        for cut in recovery_cuts(&slice_groups, &image, draw) {
+            let mut image = image.clone();
+            cut.apply(&slice_groups, &mut image);
+            counts.cut_slices += 1;
+            let rest = recovery_list(subject, &image, counts);
+            assert_eq!(subject.carry_out(&mut image, &rest), 0);
+            ended(&image);
+        }
+        assert_eq!(subject.carry_out(&mut image, &list), 0);
+    }
+    assert_eq!(reported.pop(), Some(1));
+    assert_eq!(reported.iter().sum::<u64>(), differing);
+    let (answer, _) = slice_list(subject, &image, budget, counts);
+    assert_eq!((answer.count, answer.length), (0, 0));
+    ended(&image);
+}
+
+/// A slice in a list of exactly the right length; one byte less is 14, and no budget 8.
+fn slice_list(
+    subject: &dyn Subject,
+    image: &[u8],
+    budget: u64,
+    counts: &mut Counts,
+) -> (SliceAnswer, Vec<u8>) {
+    let expected = expected_slice(image, budget);
+    let length = expected.1.len();
+    if length > 0 {
+        let (short, _) = subject.recover_slice(image, budget, length - 1);
+        assert_eq!(short, Refusal::new(code::BUFFER_TOO_SHORT).into());
+    }
+    let (no_budget, _) = subject.recover_slice(image, 0, length);
+    assert_eq!(no_budget, Refusal::new(code::BAD_ARGUMENT).into());
+    let found = subject.recover_slice(image, budget, length);
+    assert!(found == expected, "{:?}, not {:?}", found.0, expected.0);
+    counts.recoveries += 1;
+    counts.slices += 1;
+    found
 }
 
 /// Recovers the image with a list of exactly the right length; one byte less is 14.

@@ -11,9 +11,10 @@ pub mod images;
 pub mod records;
 pub mod requests;
 pub mod runs;
+pub mod slices;
 pub mod volumes;
 
-use crate::answers::{FormatRecordAnswer, RecoverAnswer};
+use crate::answers::{FormatRecordAnswer, RecoverAnswer, SliceAnswer};
 use crate::request::{Answer, Request};
 use crate::FormatRequest;
 use buffers::LentBuffer;
@@ -24,6 +25,13 @@ pub trait Subject {
     fn ask(&self, request: &Request, image: &[u8], buffer_length: usize) -> (Answer, Vec<u8>);
 
     fn recover(&self, image: &[u8], list_length: usize) -> (RecoverAnswer, Vec<u8>);
+
+    fn recover_slice(
+        &self,
+        image: &[u8],
+        budget: u64,
+        list_length: usize,
+    ) -> (SliceAnswer, Vec<u8>);
 
     fn format_record(
         &self,
@@ -48,6 +56,17 @@ impl Subject for Oracle {
     fn recover(&self, image: &[u8], list_length: usize) -> (RecoverAnswer, Vec<u8>) {
         let mut list = LentBuffer::new(list_length);
         let answer = crate::recover(image, list.lent());
+        (answer, list.filled(answer.length as usize))
+    }
+
+    fn recover_slice(
+        &self,
+        image: &[u8],
+        budget: u64,
+        list_length: usize,
+    ) -> (SliceAnswer, Vec<u8>) {
+        let mut list = LentBuffer::new(list_length);
+        let answer = crate::recover_slice(image, budget, list.lent());
         (answer, list.filled(answer.length as usize))
     }
 
@@ -83,6 +102,9 @@ pub struct Counts {
     pub recoveries: usize,
     pub cut_recoveries: usize,
     pub short_recoveries: usize,
+    /// Of these, the slices, and those that were cut.
+    pub slices: usize,
+    pub cut_slices: usize,
     /// Changes while some file had several extents, and those with several table sectors.
     pub several_extents: usize,
     pub several_table_sectors: usize,

@@ -10,14 +10,15 @@ use std::ops::RangeInclusive;
 use super::audit::audit;
 use super::cuts::recovery_length;
 use super::requests::{create, resize, shortened};
+use super::slices::expected_slice;
 use super::volumes::{format_list, Volume};
 use super::{Counts, Oracle, Subject};
-use crate::answers::code;
+use crate::answers::{code, Refusal};
 use crate::draw::Draw;
 use crate::layout::{put32, superblock, Geometry, LONGEST_SPAN, SECTOR};
 use crate::ledger::{File, Ledger};
 use crate::lists::RECORD;
-use crate::power::{draw_cut, groups};
+use crate::power::{draw_cut, groups, sector_numbers};
 use crate::request::{Answer, Request};
 use crate::FormatRequest;
 
@@ -64,6 +65,8 @@ impl Counts {
             self.recoveries,
             self.cut_recoveries,
             self.short_recoveries,
+            self.slices,
+            self.cut_slices,
             self.several_extents,
             self.lost_records,
             self.older_names,
@@ -222,10 +225,11 @@ impl Run<'_> {
 
     fn step(&mut self) {
         if self.draw.one_in(12) {
-            // On a clean volume recovery has nothing to do.
+            // On a clean volume neither recovery has anything to do.
             let (answer, _) = self.subject.recover(&self.volume.image, 0);
             assert_eq!((answer.code, answer.length), (0, 0));
             self.counts.recoveries += 1;
+            self.slice_completed();
         }
         if self.draw.one_in(40) {
             self.volume.disturb(&mut self.draw);
@@ -303,16 +307,56 @@ impl Run<'_> {
         assert_eq!(self.ask(&Request::Check, 0).0.code(), code::DONE);
     }
 
+    /// Makes one call of either recovery; whether it completed.
     fn recovery_completed(&mut self) -> bool {
         let needed = recovery_length(self.subject, &self.volume.image);
         if needed > 0 && self.draw.one_in(2) {
             self.call_of_a_waiting_volume();
         }
-        let length = match self.draw.below(4) {
+        if self.draw.one_in(2) {
+            self.slice_completed()
+        } else {
+            self.whole_recovery_completed(needed)
+        }
+    }
+
+    fn slice_completed(&mut self) -> bool {
+        let budget = *self.draw.pick(&[0, 1, 1, 1, 2, 3, 1_000, u64::MAX]);
+        let (expected, expected_list) = expected_slice(&self.volume.image, budget.max(1));
+        let length = self.draw_recovery_length(expected_list.len());
+        let image = &self.volume.image;
+        let (answer, list) = self.subject.recover_slice(image, budget, length);
+        self.counts.recoveries += 1;
+        self.counts.slices += 1;
+        if budget == 0 {
+            assert_eq!(answer, Refusal::new(code::BAD_ARGUMENT).into());
+            return false;
+        }
+        if length < expected_list.len() {
+            self.counts.short_recoveries += 1;
+            assert_eq!(answer, Refusal::new(code::BUFFER_TOO_SHORT).into());
+            return false;
+        }
+        assert_eq!(answer, expected);
+        assert!(list == expected_list);
+        let ends = sector_numbers(&list)
+            .first()
+            .is_none_or(|first| *first == 0);
+        let landed_whole = self.land(&list);
+        self.counts.cut_slices += usize::from(!landed_whole);
+        ends && landed_whole
+    }
+
+    fn draw_recovery_length(&mut self, needed: usize) -> usize {
+        match self.draw.below(4) {
             0 => self.draw.below(needed as u64 + 1) as usize,
             1 => needed,
             _ => needed + 1_000,
-        };
+        }
+    }
+
+    fn whole_recovery_completed(&mut self, needed: usize) -> bool {
+        let length = self.draw_recovery_length(needed);
         let (answer, list) = self.subject.recover(&self.volume.image, length);
         self.counts.recoveries += 1;
         if length < needed {
@@ -321,16 +365,22 @@ impl Run<'_> {
             return false;
         }
         assert_eq!((answer.code, list.len()), (code::DONE, needed));
-        let groups = groups(&list);
+        let landed_whole = self.land(&list);
+        self.counts.cut_recoveries += usize::from(!landed_whole);
+        landed_whole
+    }
+
+    /// Carries out a recovery's list, or a part of it; whether all of it landed.
+    fn land(&mut self, list: &[u8]) -> bool {
+        let groups = groups(list);
         let cut = draw_cut(&groups, &mut self.draw).filter(|_| self.draw.one_in(2));
         match cut {
             Some(cut) => {
-                self.counts.cut_recoveries += 1;
                 cut.apply(&groups, &mut self.volume.image);
                 cut.landed_whole(&groups)
             }
             None => {
-                let carried = self.subject.carry_out(&mut self.volume.image, &list);
+                let carried = self.subject.carry_out(&mut self.volume.image, list);
                 assert_eq!(carried, 0);
                 true
             }

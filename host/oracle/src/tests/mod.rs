@@ -11,3 +11,4 @@ mod names;
 mod refusals;
 mod renames;
 mod runs;
+mod slices;

@@ -2,8 +2,8 @@
 use model::Sector;
 ghost use mathlib.Core.Path.{_≡_};
 ghost use mathlib.Core.List.{[]};
-ghost use Prim.Native.Nat.{_+_, _*_, _≤_, _<_, _^_, min};
-ghost use lib.ListN.{length};
+ghost use Prim.Native.Nat.{ℕ, _+_, _*_, _≤_, _<_, _^_, min};
+ghost use lib.ListN.{length, getD};
 ghost use Rattle.model.specs.Bytes.{beAt, beBytes, bytesFrom, put};
 ghost use Rattle.model.specs.Disk.{view};
 ghost use Rattle.model.specs.Search.{equalBytes};
@@ -67,6 +67,18 @@ pub fn put_zeros(b: &mut [u8], at: usize, n: usize)
     let mut i: usize = 0;
     while i < n {
         b[at + i] = 0;
+        i += 1;
+    }
+}
+
+// All numbers become 0.
+pub fn clear(s: &mut [u32])
+    ensures { λ _. ⌜ ((i : ℕ) → i < length (now (s .exit)) → getD (now (s .exit)) i 0 ≡ 0) ⌝ }
+{
+    let n = s.len();
+    let mut i: usize = 0;
+    while i < n {
+        s[i] = 0;
         i += 1;
     }
 }

@@ -12,6 +12,7 @@ pub mod Catalogue
 pub mod Faults
 pub mod Refusals
 pub mod Summary
+pub mod Scratch
 pub mod Find
 pub mod Listing
 pub mod Read

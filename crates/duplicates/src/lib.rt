@@ -6,7 +6,7 @@ use model::Lowest;
 ghost use mathlib.Core.Path.{_≡_};
 ghost use mathlib.Core.Bool.{true, false};
 ghost use Prim.Native.Nat.{ℕ, _+_, _*_, _≤_, _<_};
-ghost use lib.ListN.{length, getD, set};
+ghost use lib.ListN.{length, getD};
 ghost use Rattle.model.specs.Search.{first};
 ghost use Rattle.model.specs.Geometry.{entryAt};
 ghost use Rattle.model.specs.Disk.{view};
@@ -14,7 +14,7 @@ ghost use Rattle.model.specs.Catalogue.{catalogueOf};
 ghost use Rattle.model.specs.Faults.{fault22, fault23, fault24};
 ghost use Rattle.model.specs.Opened.{Opened};
 ghost use Rattle.duplicates.specs.Keys.{shares, keyFits, KeysFit, isReserved, isRepeated, isFaulty, mixed, nameHash, keyHash, bucketOf};
-ghost use Rattle.duplicates.specs.Chains.{Chains, member};
+ghost use Rattle.duplicates.specs.Chains.{Chained, Entered};
 
 // What no two occupied entries may share.
 enum Key {
@@ -106,56 +106,56 @@ fn is_reserved(img: &[u8], key: Key, i: FileIndex) -> bool
     }
 }
 
-// ---- chains
+// ---- chains, two numbers in one: the upper 16 bits of number b are bucket b's last entry, the lower ones of number j the entry before j
 
 // Whether an occupied entry below i has its key. `b` is the bucket of both.
-fn is_repeated(img: &[u8], key: Key, i: usize, b: usize, head: &[u16], next: &[u16]) -> bool
+fn is_repeated(img: &[u8], key: Key, i: usize, b: usize, chains: &[u32]) -> bool
     requires { ⌜ 512 * entryAt i + 512 ≤ length (now img) ⌝ }
     requires { ⌜ keyFits key (view (now img) (entryAt i)) ≡ true ⌝ }
-    requires { ⌜ (b < length (now head)) × (i ≤ length (now next)) ⌝ }
-    requires { ⌜ b ≡ bucketOf key (length (now head)) (view (now img) (entryAt i)) ⌝ }
-    requires { ⌜ Chains (member key (view (now img)) (length (now head))) i (now head) (now next) ⌝ }
+    requires { ⌜ (b < length (now chains)) × (i ≤ length (now chains)) ⌝ }
+    requires { ⌜ b ≡ bucketOf key (length (now chains)) (view (now img) (entryAt i)) ⌝ }
+    requires { ⌜ Chained key (view (now img)) i (now chains) ⌝ }
     ensures { λ r. ⌜ r ≡ isRepeated key (view (now (img .entry))) i ⌝ }
 {
-    let mut j = head[b] as usize;
+    let mut j = (chains[b] / 65536) as usize;
     while j != 0 {
         if shares(img, key, FileIndex(i as u64), FileIndex((j - 1) as u64)) {
             return true;
         }
-        j = next[j - 1] as usize;
+        j = (chains[j - 1] % 65536) as usize;
     }
     false
 }
 
 // Entry i becomes the last of bucket b.
-fn enter(i: usize, b: usize, head: &mut [u16], next: &mut [u16])
-    requires { ⌜ (b < length (now head)) × (i < length (now next)) × (i < 65535) ⌝ }
-    ensures { λ _. ⌜ now (next .exit) ≡ set (now (next .entry)) i (getD (now (head .entry)) b 0) ⌝ }
-    ensures { λ _. ⌜ now (head .exit) ≡ set (now (head .entry)) b (i + 1) ⌝ }
+fn enter(i: usize, b: usize, chains: &mut [u32])
+    requires { ⌜ (b < length (now chains)) × (i < length (now chains)) × (i < 65535) ⌝ }
+    ensures { λ _. ⌜ Entered i b (now (chains .entry)) (now (chains .exit)) ⌝ }
 {
-    next[i] = head[b];
-    head[b] = (i + 1) as u16;
+    let last = chains[b] / 65536;
+    chains[i] = chains[i] / 65536 * 65536 + last;
+    chains[b] = (i as u32 + 1) * 65536 + chains[b] % 65536;
 }
 
 // Whether entry i has the fault. Where it has not, it has joined its chain.
-fn is_faulty(img: &[u8], key: Key, i: usize, head: &mut [u16], next: &mut [u16]) -> bool
+fn is_faulty(img: &[u8], key: Key, i: usize, chains: &mut [u32]) -> bool
     requires { ⌜ 512 * entryAt i + 512 ≤ length (now img) ⌝ }
     requires { ⌜ KeysFit key (view (now img)) (i + 1) ⌝ }
-    requires { ⌜ (0 < length (now head)) × (length (now head) ≤ 65536) × (i < length (now next)) × (i < 65535) ⌝ }
-    requires { ⌜ Chains (member key (view (now img)) (length (now head))) i (now head) (now next) ⌝ }
+    requires { ⌜ (length (now chains) ≤ 65536) × (i < length (now chains)) × (i < 65535) ⌝ }
+    requires { ⌜ Chained key (view (now img)) i (now chains) ⌝ }
     ensures { λ r. ⌜ r ≡ isFaulty key (view (now (img .entry))) i ⌝ }
-    ensures { λ r. ⌜ (r ≡ false → Chains (member key (view (now (img .entry))) (length (now (head .exit)))) (i + 1) (now (head .exit)) (now (next .exit))) ⌝ }
+    ensures { λ r. ⌜ (r ≡ false → Chained key (view (now (img .entry))) (i + 1) (now (chains .exit))) ⌝ }
 {
     let e = FileIndex(i as u64);
     if directory::is_occupied(img, e) {
         if is_reserved(img, key, e) {
             return true;
         }
-        let b = bucket_of(img, key, e, head.len());
-        if is_repeated(img, key, i, b, head, next) {
+        let b = bucket_of(img, key, e, chains.len());
+        if is_repeated(img, key, i, b, chains) {
             return true;
         }
-        enter(i, b, head, next);
+        enter(i, b, chains);
         return false;
     }
     false
@@ -164,17 +164,17 @@ fn is_faulty(img: &[u8], key: Key, i: usize, head: &mut [u16], next: &mut [u16])
 // ---- the searches
 
 // The lowest faulty entry, by way of empty chains that are lent.
-fn first_in(img: &[u8], g: Geometry, key: Key, head: &mut [u16], next: &mut [u16]) -> Lowest
+fn first_in(img: &[u8], g: Geometry, key: Key, chains: &mut [u32]) -> Lowest
     requires { ⌜ Opened (now img) g ⌝ }
     requires { ⌜ KeysFit key (view (now img)) (g .files) ⌝ }
-    requires { ⌜ (0 < length (now head)) × (length (now head) ≤ 65536) × (g .files ≤ length (now next)) × (g .files ≤ 65535) ⌝ }
-    requires { ⌜ ((b : ℕ) → b < length (now head) → getD (now head) b 0 ≡ 0) ⌝ }
+    requires { ⌜ (length (now chains) ≤ 65536) × (g .files ≤ length (now chains)) × (g .files ≤ 65535) ⌝ }
+    requires { ⌜ ((b : ℕ) → b < length (now chains) → getD (now chains) b 0 ≡ 0) ⌝ }
     ensures { λ r. ⌜ r ≡ first (isFaulty key (view (now (img .entry)))) (g .files) ⌝ }
 {
     let f = g.files as usize;
     let mut i: usize = 0;
     while i < f {
-        if is_faulty(img, key, i, head, next) {
+        if is_faulty(img, key, i, chains) {
             return Lowest::At(i);
         }
         i += 1;
@@ -188,9 +188,8 @@ fn first_of_few(img: &[u8], g: Geometry, key: Key) -> Lowest
     requires { ⌜ g .files ≤ 1024 ⌝ }
     ensures { λ r. ⌜ r ≡ first (isFaulty key (view (now (img .entry)))) (g .files) ⌝ }
 {
-    let mut head = [0u16; 1024];
-    let mut next = [0u16; 1024];
-    first_in(img, g, key, &mut head, &mut next)
+    let mut chains = [0u32; 1024];
+    first_in(img, g, key, &mut chains)
 }
 
 fn first_of_many(img: &[u8], g: Geometry, key: Key) -> Lowest
@@ -199,9 +198,8 @@ fn first_of_many(img: &[u8], g: Geometry, key: Key) -> Lowest
     requires { ⌜ g .files ≤ 65535 ⌝ }
     ensures { λ r. ⌜ r ≡ first (isFaulty key (view (now (img .entry)))) (g .files) ⌝ }
 {
-    let mut head = [0u16; 65536];
-    let mut next = [0u16; 65536];
-    first_in(img, g, key, &mut head, &mut next)
+    let mut chains = [0u32; 65536];
+    first_in(img, g, key, &mut chains)
 }
 
 // By way of chains for `room` entries, or for 64 times as many. It calls itself to keep the longer chains out of the stack of a
@@ -243,4 +241,44 @@ pub fn fault24(img: &[u8], g: Geometry) -> Lowest
     ensures { λ r. ⌜ r ≡ first (fault24 (catalogueOf (view (now (img .entry))))) (g .files) ⌝ }
 {
     first_faulty(img, g, Key::Id)
+}
+
+// ---- the same by way of lent scratch
+
+// A number for each entry.
+fn first_cleared(img: &[u8], g: Geometry, key: Key, chains: &mut [u32]) -> Lowest
+    requires { ⌜ Opened (now img) g ⌝ }
+    requires { ⌜ KeysFit key (view (now img)) (g .files) ⌝ }
+    requires { ⌜ length (now chains) ≡ g .files ⌝ }
+    ensures { λ r. ⌜ r ≡ first (isFaulty key (view (now (img .entry)))) (g .files) ⌝ }
+{
+    fields::clear(chains);
+    first_in(img, g, key, chains)
+}
+
+fn first_faulty_with(img: &[u8], g: Geometry, key: Key, scratch: &mut [u32]) -> Lowest
+    requires { ⌜ Opened (now img) g ⌝ }
+    requires { ⌜ KeysFit key (view (now img)) (g .files) ⌝ }
+    requires { ⌜ g .files ≤ length (now scratch) ⌝ }
+    ensures { λ r. ⌜ r ≡ first (isFaulty key (view (now (img .entry)))) (g .files) ⌝ }
+{
+    let f = g.files as usize;
+    first_cleared(img, g, key, &mut scratch[0..f])
+}
+
+pub fn fault23_with(img: &[u8], g: Geometry, scratch: &mut [u32]) -> Lowest
+    requires { ⌜ Opened (now img) g ⌝ }
+    requires { ⌜ first (fault22 (catalogueOf (view (now img)))) (g .files) ≡ Lowest.Nowhere ⌝ }
+    requires { ⌜ g .files ≤ length (now scratch) ⌝ }
+    ensures { λ r. ⌜ r ≡ first (fault23 (catalogueOf (view (now (img .entry))))) (g .files) ⌝ }
+{
+    first_faulty_with(img, g, Key::Name, scratch)
+}
+
+pub fn fault24_with(img: &[u8], g: Geometry, scratch: &mut [u32]) -> Lowest
+    requires { ⌜ Opened (now img) g ⌝ }
+    requires { ⌜ g .files ≤ length (now scratch) ⌝ }
+    ensures { λ r. ⌜ r ≡ first (fault24 (catalogueOf (view (now (img .entry))))) (g .files) ⌝ }
+{
+    first_faulty_with(img, g, Key::Id, scratch)
 }

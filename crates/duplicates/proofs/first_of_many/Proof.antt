@@ -1,4 +1,4 @@
--- `duplicates::first_of_many` meets its contract. Arrays of zeros are lent.
+-- `duplicates::first_of_many` meets its contract. An array of zeros is lent.
 use borrow.Author.Needs.{needs}
 use Prim.Native.Nat.{ℕ}
 use native.Mathlib.Omega.{arith}
@@ -10,14 +10,11 @@ use Rattle.duplicates.proofs.first_of_many.Tie as tie
 slice-aggregate-first-in : tie.Need-slice-aggregate-first-in
 slice-aggregate-first-in c = search needs
 
-slice-aggregate-first-in-2 : tie.Need-slice-aggregate-first-in-2
-slice-aggregate-first-in-2 c = search needs
-
 first-in-requires : tie.Need-first-in-requires
 first-in-requires c κs =
-    let s = c .before .before .before in
+    let s = c .before .before in
     let n = length-replicate {A = ℕ} 65536 0 in
-    (s .pre .0, (s .pre .1 .0, ((omega arith, omega arith, omega arith, omega arith), λ b l. zeros-at 65536 b)))
+    (s .pre .0, (s .pre .1 .0, ((omega arith, omega arith, omega arith), λ b l. zeros-at 65536 b)))
 
 returns : tie.Need-returns
 returns c = search needs
@@ -25,4 +22,4 @@ returns c = search needs
 pub first-of-many-spec : {M : Type 1} → statement M
 first-of-many-spec =
     tie.close
-    (tie.spec slice-aggregate-first-in slice-aggregate-first-in-2 first-in-requires returns)
+    (tie.spec slice-aggregate-first-in first-in-requires returns)

@@ -4,12 +4,12 @@ use Prim.Native.Nat.{_+_}
 use mathlib.Core.Path.{_≡_, sym, _∙_}
 use mathlib.Core.Bool.{true, false, true≢false}
 use native.Mathlib.Omega.{arith}
-use lib.ListN.{length, getD, set, length-set}
+use lib.ListN.{length}
 use Rattle.model.specs.Geometry.{entryAt}
 use Rattle.model.specs.Disk.{view}
 use Rattle.model.specs.Entry.{isOccupied}
 use Rattle.duplicates.specs.Keys.{isFaulty}
-use Rattle.duplicates.specs.Chains.{Chains, member}
+use Rattle.duplicates.specs.Chains.{Chains, member, headIn, nextIn}
 use Rattle.duplicates.proofs.Chains.{chains-pass, chains-join}
 use Rattle.duplicates.proofs.Keys.{member-own, member-other, member-none}
 use Rattle.duplicates.proofs.is_faulty.Statement.{statement}
@@ -30,14 +30,14 @@ returns c =
 bucket-of-requires : tie.Need-bucket-of-requires
 bucket-of-requires c κs =
     let o = c .before .before .before in
-    let s = o .before .before .before .before in
-    (s .pre .0, (s .pre .1 .0 (s .args .i) (omega arith) (sym (o .is-occupied .ensures) ∙ c .before .before .if1 .taken), (s .pre .1 .1 .0 .0, s .pre .1 .1 .0 .1)))
+    let s = o .before .before .before in
+    (s .pre .0, (s .pre .1 .0 (s .args .i) (omega arith) (sym (o .is-occupied .ensures) ∙ c .before .before .if1 .taken), (omega arith, s .pre .1 .1 .0 .0)))
 
 is-repeated-requires : tie.Need-is-repeated-requires
 is-repeated-requires c κs =
-    let b = c .before .before in
+    let b = c .before in
     let o = b .before .before .before .before in
-    let s = o .before .before .before .before in (
+    let s = o .before .before .before in (
       s .pre .0,
       (
         s .pre .1 .0 (s .args .i) (omega arith) (sym (o .is-occupied .ensures) ∙ b .before .before .before .if1 .taken),
@@ -48,13 +48,10 @@ is-repeated-requires c κs =
 same-length : tie.Need-same-length
 same-length c = search needs
 
-same-length-2 : tie.Need-same-length-2
-same-length-2 c = search needs
-
 returns-2 : tie.Need-returns-2
 unfolding isFaulty
 returns-2 c =
-    let b = c .before .before .before .before in
+    let b = c .before .before .before in
     let o = b .before .before .before .before in (
       rw (← o .is-occupied .ensures, b .before .before .before .if1 .taken, ← b .before .before .is-reserved .ensures, b .before .if2 .left, ← c .before .is-repeated .ensures, c .if3 .taken),
       λ e. absurd (true≢false e),
@@ -63,40 +60,37 @@ returns-2 c =
 enter-requires : tie.Need-enter-requires
 enter-requires c κs = search needs
 
-same-length-3 : tie.Need-same-length-3
-same-length-3 c = search needs
-
-same-length-4 : tie.Need-same-length-4
-same-length-4 c = search needs
+same-length-2 : tie.Need-same-length-2
+same-length-2 c = search needs
 
 returns-3 : tie.Need-returns-3
 unfolding isFaulty
 returns-3 c =
-    let k = c .before .before .before .before .enter in
-    let t = c .before .before .before .before .before .before .before in
-    let b = t .before .before .before .before in
-    let s = b .before .before .before .before .before .before .before .before in
+    let k = c .before .before .enter in
+    let t = c .before .before .before .before in
+    let b = t .before .before .before in
+    let s = b .before .before .before .before .before .before .before in
     let a = s .args in
     let d = view (a .img .now) in
-    let n = length (a .head .now) in
+    let n = length (a .chains .now) in
     let i = b .bucket-of .result in
     let o : isOccupied (d (entryAt (a .i))) ≡ true = sym (b .before .before .before .before .is-occupied .ensures) ∙ b .before .before .before .if1 .taken in
-    let joined : Chains (member (a .key) d n) (a .i + 1) (set (a .head .now) i (a .i + 1)) (set (a .next .now) (a .i) (getD (a .head .now) i 0)) =
-    chains-join (member (a .key) d n) (a .i) (a .head .now) (a .next .now) (s .pre .1 .1 .1) i (b .bucket-of .ensures .1) (s .pre .1 .1 .0 .2)
+    let joined : Chains (member (a .key) d n) n (a .i + 1) (headIn (k .last .1 .1 .0)) (nextIn (k .last .1 .1 .0)) =
+    chains-join (member (a .key) d n) n (a .i) i (a .chains .now) (k .last .1 .1 .0) (s .pre .1 .1 .1) (k .ensures) (b .bucket-of .ensures .1)
     (member-own (a .key) d n (a .i) i o (b .bucket-of .ensures .0)) (member-other (a .key) d n (a .i) i o (b .bucket-of .ensures .0)) in (
       rw (o, ← b .before .before .is-reserved .ensures, b .before .if2 .left, ← t .before .is-repeated .ensures, t .if3 .left),
-      λ e. rw (k .ensures .1, k .ensures .0, length-set) joined,
+      λ e. rw (k .kept .1 .1 .0) joined,
     )
 
 returns-4 : tie.Need-returns-4
 unfolding isFaulty
 returns-4 c =
-    let s = c .before .before .before .before .before in
+    let s = c .before .before .before .before in
     let a = s .args in
     let d = view (a .img .now) in
-    let n = length (a .head .now) in
+    let n = length (a .chains .now) in
     let o : isOccupied (d (entryAt (a .i))) ≡ false = sym (c .before .is-occupied .ensures) ∙ c .if1 .left in
-    (rw o, λ e. chains-pass (member (a .key) d n) (a .i) (a .head .now) (a .next .now) (s .pre .1 .1 .1) (member-none (a .key) d n (a .i) o))
+    (rw o, λ e. chains-pass (member (a .key) d n) n (a .i) (headIn (a .chains .now)) (nextIn (a .chains .now)) (s .pre .1 .1 .1) (member-none (a .key) d n (a .i) o))
 
 pub is-faulty-spec : {M : Type 1} → statement M
 is-faulty-spec =
@@ -108,10 +102,8 @@ is-faulty-spec =
     bucket-of-requires
     is-repeated-requires
     same-length
-    same-length-2
     returns-2
     enter-requires
-    same-length-3
-    same-length-4
+    same-length-2
     returns-3
     returns-4)

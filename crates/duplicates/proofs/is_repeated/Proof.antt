@@ -14,10 +14,10 @@ use Rattle.duplicates.proofs.is_repeated.Statement.{statement}
 use Rattle.duplicates.proofs.is_repeated.Tie as tie
 
 abbrev Inv-loop : tie.InvT-loop
-Inv-loop img key i b head next j₀ j = Walk (shares key (view img) i) (member key (view img) (length head) b) i j
+Inv-loop img key i b chains j₀ j = Walk (shares key (view img) i) (member key (view img) (length chains) b) i j
 
 abbrev μ-loop : tie.MeasureT-loop
-μ-loop img key i b head next j₀ j = j
+μ-loop img key i b chains j₀ j = j
 
 mul-j : tie.Need-mul-j Inv-loop μ-loop
 mul-j c = search needs
@@ -26,13 +26,13 @@ shared-slice-read-j : tie.Need-shared-slice-read-j Inv-loop μ-loop
 shared-slice-read-j c = search needs
 
 cast-j : tie.Need-cast-j Inv-loop μ-loop
-cast-j c = omega (arith, c .shared-slice-known4 .given (c .before .before .before .before .args .b))
+cast-j c = omega (arith, c .shared-slice-known3 .given (c .before .before .before .args .b))
 
 loop-holds : tie.Need-loop-holds Inv-loop μ-loop
 loop-holds c =
-    let s = c .before .before .before .before in
+    let s = c .before .before .before in
     let a = s .args in
-    let only = shares-member (a .key) (view (a .img .now)) (length (a .head .now)) (a .i) (a .b) (s .pre .1 .1 .1 .0) in
+    let only = shares-member (a .key) (view (a .img .now)) (length (a .chains .now)) (a .i) (a .b) (s .pre .1 .1 .1 .0) in
     let C = s .pre .1 .1 .1 .1 .chain (a .b) (s .pre .1 .1 .0 .0) in
     walk-start only C
 
@@ -40,7 +40,7 @@ sub-t15 : tie.Need-sub-t15 Inv-loop μ-loop
 sub-t15 c = search needs
 
 shares-requires : tie.Need-shares-requires Inv-loop μ-loop
-shares-requires c κs = let s = c .before .before .before .before .before .before in (s .pre .0, (omega arith, s .pre .1 .0))
+shares-requires c κs = let s = c .before .before .before .before .before in (s .pre .0, (omega arith, s .pre .1 .0))
 
 returns : tie.Need-returns Inv-loop μ-loop
 unfolding isRepeated
@@ -56,21 +56,21 @@ shared-slice-read-j-2 : tie.Need-shared-slice-read-j-2 Inv-loop μ-loop
 shared-slice-read-j-2 c = search needs
 
 cast-j-2 : tie.Need-cast-j-2 Inv-loop μ-loop
-cast-j-2 c = omega (arith, c .shared-slice-known5 .given (c .before .before .before .before .loop .j - 1))
+cast-j-2 c = omega (arith, c .shared-slice-known4 .given (c .before .before .before .before .loop .j - 1))
 
 loop-less : tie.Need-loop-less Inv-loop μ-loop
 loop-less c =
-    let s = c .before .before .before .before .before .before .before .before .before in
+    let s = c .before .before .before .before .before .before .before .before in
     let a = s .args in
-    let only = shares-member (a .key) (view (a .img .now)) (length (a .head .now)) (a .i) (a .b) (s .pre .1 .1 .1 .0) in
+    let only = shares-member (a .key) (view (a .img .now)) (length (a .chains .now)) (a .i) (a .b) (s .pre .1 .1 .1 .0) in
     let C = s .pre .1 .1 .1 .1 .chain (a .b) (s .pre .1 .1 .0 .0) in
     walk-falls only C (c .before .before .before .before .loop .inv) (c .before .before .before .loop-test .taken)
 
 loop-again : tie.Need-loop-again Inv-loop μ-loop
 loop-again c =
-    let s = c .before .before .before .before .before .before .before .before .before in
+    let s = c .before .before .before .before .before .before .before .before in
     let a = s .args in
-    let only = shares-member (a .key) (view (a .img .now)) (length (a .head .now)) (a .i) (a .b) (s .pre .1 .1 .1 .0) in
+    let only = shares-member (a .key) (view (a .img .now)) (length (a .chains .now)) (a .i) (a .b) (s .pre .1 .1 .1 .0) in
     let C = s .pre .1 .1 .1 .1 .chain (a .b) (s .pre .1 .1 .0 .0) in
     walk-next only C (c .before .before .before .before .loop .inv) (c .before .before .before .loop-test .taken) (sym (c .before .before .shares .ensures) ∙ c .before .if1 .left)
 

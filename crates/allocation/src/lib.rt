@@ -8,7 +8,7 @@ use model::Soundness;
 ghost use mathlib.Core.Path.{_≡_};
 ghost use Prim.Native.Nat.{ℕ, _+_, _-_, _≤_, _<_};
 ghost use lib.Dec.{eqb};
-ghost use lib.ListN.{length, getD};
+ghost use lib.ListN.{length, getD, drop};
 ghost use Rattle.model.specs.Search.{first, anyBelow};
 ghost use Rattle.model.specs.Geometry.{usable};
 ghost use Rattle.model.specs.Disk.{view};
@@ -328,4 +328,163 @@ pub fn faults(img: &[u8], g: Geometry) -> Soundness
     ensures { λ r. ⌜ r ≡ tableFault g (view (now (img .entry))) ⌝ }
 {
     faults_with(img, g, 4096)
+}
+
+// ---- the same by way of lent scratch: the starts, and from `at` on a number for each extent that the files need
+
+// As `fill_starts`; what lies behind the starts stays.
+fn put_starts(img: &[u8], g: Geometry, s: &mut [u32]) -> usize
+    requires { ⌜ Opened (now img) g ⌝ }
+    requires { ⌜ g .files < length (now s) ⌝ }
+    ensures { λ r. ⌜ Starts g (view (now (img .entry))) r (now (s .exit)) ⌝ }
+    ensures { λ r. ⌜ (r < g .files → g .extents < startOf g (view (now (img .entry))) (r + 1)) ⌝ }
+    ensures { λ _. ⌜ drop (g .files + 1) (now (s .exit)) ≡ drop (g .files + 1) (now (s .entry)) ⌝ }
+{
+    let f = g.files as usize;
+    let mut sum: u64 = 0;
+    let mut i: usize = 0;
+    while i < f {
+        s[i] = sum as u32;
+        let next = sum + needed(img, g, FileIndex(i as u64));
+        if g.extents < next {
+            return i;
+        }
+        sum = next;
+        i += 1;
+    }
+    s[f] = sum as u32;
+    f
+}
+
+// As `mark`.
+fn mark_in(img: &[u8], g: Geometry, u: u64, e: Extent, at: usize, m: usize, s: &mut [u32]) -> Marked
+    requires { ⌜ Opened (now img) g ⌝ }
+    requires { ⌜ (u ≡ usable g) × (e .0 < g .extents) × (at ≡ g .files + 1) ⌝ }
+    requires { ⌜ Starts g (view (now img)) m (now s) ⌝ }
+    requires { ⌜ Marks g (view (now img)) (e .0) m (drop at (now s)) ⌝ }
+    ensures { λ r. ⌜ r .misplaced ≡ fault25 (catalogueOf (view (now (img .entry)))) (e .0) ⌝ }
+    ensures { λ r. ⌜ Marks g (view (now (img .entry))) (e .0 + 1) (r .reached) (drop at (now (s .exit))) ⌝ }
+    ensures { λ r. ⌜ Starts g (view (now (img .entry))) m (now (s .exit)) ⌝ }
+    ensures { λ r. ⌜ r .reached ≤ m ⌝ }
+{
+    let f = table::table_file(img, g, e) as usize;
+    if m <= f {
+        return Marked {
+            misplaced: is_misplaced(img, g, u, e),
+            reached: m,
+        };
+    }
+    let p = s[f] as usize + table::table_offset(img, g, e) as usize;
+    if s[f + 1] as usize <= p {
+        return Marked {
+            misplaced: is_misplaced(img, g, u, e),
+            reached: f,
+        };
+    }
+    if s[at + p] == 1 {
+        return Marked {
+            misplaced: u <= e.0,
+            reached: f,
+        };
+    }
+    s[at + p] = 1;
+    Marked {
+        misplaced: u <= e.0,
+        reached: m,
+    }
+}
+
+// As `pass_part`.
+fn pass_in(img: &[u8], g: Geometry, from: u64, to: u64, at: usize, f: usize, s: &mut [u32]) -> Pass
+    requires { ⌜ Opened (now img) g ⌝ }
+    requires { ⌜ (from ≤ to) × (to ≤ g .extents) × (at ≡ g .files + 1) ⌝ }
+    requires { ⌜ Starts g (view (now img)) f (now s) ⌝ }
+    requires { ⌜ Marks g (view (now img)) from f (drop at (now s)) ⌝ }
+    ensures { λ r. ⌜ Passed g (view (now (img .entry))) from to f (r .misplaced) (r .reached) (drop at (now (s .exit))) ⌝ }
+    ensures { λ r. ⌜ (r .misplaced ≡ Lowest.Nowhere → Starts g (view (now (img .entry))) (r .reached) (now (s .exit))) ⌝ }
+{
+    let u = g.usable();
+    let mut m = f;
+    let mut e = from;
+    while e < to {
+        let next = mark_in(img, g, u, Extent(e), at, m, s);
+        if next.misplaced {
+            return Pass {
+                misplaced: Lowest::At(e as usize),
+                reached: m,
+            };
+        }
+        m = next.reached;
+        e += 1;
+    }
+    Pass {
+        misplaced: Lowest::Nowhere,
+        reached: m,
+    }
+}
+
+// One of the numbers from a to b - 1 is 0.
+fn has_unmarked(s: &[u32], a: usize, b: usize) -> bool
+    requires { ⌜ (a ≤ b) × (b ≤ length (now s)) ⌝ }
+    ensures { λ r. ⌜ r ≡ anyBelow (λ k. eqb (getD (now (s .entry)) (a + k) 0) 0) (b - a) ⌝ }
+{
+    let n = b - a;
+    let mut i: usize = 0;
+    while i < n {
+        if s[a + i] == 0 {
+            return true;
+        }
+        i += 1;
+    }
+    false
+}
+
+// As `lowest_lacking`.
+fn lowest_unmarked(s: &[u32], at: usize, m: usize) -> Lowest
+    requires { ⌜ (m < at) × (at ≤ length (now s)) ⌝ }
+    requires { ⌜ Rising (now s) m (length (now s) - at) ⌝ }
+    ensures { λ r. ⌜ r ≡ first (lacks (now (s .entry)) (drop at (now (s .entry)))) m ⌝ }
+{
+    let mut i: usize = 0;
+    while i < m {
+        if has_unmarked(s, at + s[i] as usize, at + s[i + 1] as usize) {
+            return Lowest::At(i);
+        }
+        i += 1;
+    }
+    Lowest::Nowhere
+}
+
+// As `faults_in`.
+fn faults_on(img: &[u8], g: Geometry, s: &mut [u32]) -> Soundness
+    requires { ⌜ Opened (now img) g ⌝ }
+    requires { ⌜ length (now s) ≡ g .files + 1 + g .extents ⌝ }
+    ensures { λ r. ⌜ r ≡ tableFault g (view (now (img .entry))) ⌝ }
+{
+    fields::clear(s);
+    let at = g.files as usize + 1;
+    let f = put_starts(img, g, s);
+    let pass = pass_in(img, g, 0, g.extents, at, f, s);
+    let misplaced = pass.misplaced;
+    if let Lowest::At(e) = misplaced {
+        return Soundness::Faulty(25, e as u64);
+    }
+    let m = pass.reached;
+    if let Lowest::At(i) = lowest_unmarked(s, at, m) {
+        return Soundness::Faulty(26, i as u64);
+    }
+    if m < g.files as usize {
+        return Soundness::Faulty(26, m as u64);
+    }
+    Soundness::Sound
+}
+
+// `faults` by way of lent scratch.
+pub fn faults_by(img: &[u8], g: Geometry, scratch: &mut [u32]) -> Soundness
+    requires { ⌜ Opened (now img) g ⌝ }
+    requires { ⌜ g .files + 1 + g .extents ≤ length (now scratch) ⌝ }
+    ensures { λ r. ⌜ r ≡ tableFault g (view (now (img .entry))) ⌝ }
+{
+    let n = (g.files + 1 + g.extents) as usize;
+    faults_on(img, g, &mut scratch[0..n])
 }

@@ -1,6 +1,7 @@
 -- The first fault, one pass after the other. Assumes nothing.
 use Prim.Native.Nat.{ℕ}
-use mathlib.Core.Path.{_≡_}
+use mathlib.Core.Path.{_≡_, refl}
+use mathlib.Core.Bool.{true}
 use Rattle.model.specs.declared.Geometry.{Geometry}
 use Rattle.model.specs.declared.Lowest.the-variants.{At, Nowhere}
 use Rattle.model.specs.declared.Soundness.{Soundness}
@@ -10,6 +11,8 @@ use Rattle.model.specs.Disk.{Disk}
 use Rattle.model.specs.Superblock.{geometryIn}
 use Rattle.model.specs.Catalogue.{catalogueOf}
 use Rattle.model.specs.Faults.{fault21, fault22, fault23, fault24, fault25, fault26, orElse, firstFault}
+use Rattle.model.specs.Refusals.{faultVerdict}
+use Rattle.model.specs.Scratch.{isJudged}
 
 module _ (d : Disk) (g : Geometry) (is : g ≡ geometryIn (d 0)) where
   in-order : firstFault d
@@ -40,3 +43,8 @@ module _ (d : Disk) (g : Geometry) (is : g ≡ geometryIn (d 0)) where
         pub from-25 : first (fault24 (catalogueOf d)) (g .files) ≡ Nowhere → (r : Soundness)
             → r ≡ orElse 25 (first (fault25 (catalogueOf d)) (g .extents)) (orElse 26 (first (fault26 (catalogueOf d)) (g .files)) Sound) → r ≡ firstFault d
         from-25 no24 r e = rw (in-order, no21, no22, no23, no24) e
+
+-- a judgement of soundness is 0 or 7
+pub fault-judged : (s : Soundness) → isJudged (faultVerdict s) ≡ true
+fault-judged Sound = refl
+fault-judged (Faulty n p) = refl

@@ -1,15 +1,17 @@
 // Judging a volume: the first fault, and the refusals 1 to 7 that all calls but format, summary, recovery and carrying out share.
-// The judging needs no heap and no lent scratch; bench/README.md has its stack.
+// The judging needs no heap; it has arrays of its own, or is lent scratch (T-10). bench/README.md has its stack.
 use model::Geometry;
 use model::Lowest;
 use model::Soundness;
 use model::State;
 use model::Verdict;
 ghost use mathlib.Core.Path.{_≡_};
+ghost use Prim.Native.Nat.{_≤_};
 ghost use lib.ListN.{length};
 ghost use Rattle.model.specs.Disk.{view};
 ghost use Rattle.model.specs.Faults.{firstFault};
 ghost use Rattle.model.specs.Refusals.{imageVerdict, stateNumber, faultVerdict, soundVerdict, judged};
+ghost use Rattle.model.specs.Scratch.{scratchNumbers, soundVerdictWith, judgedWith, ScratchAfter};
 ghost use Rattle.model.specs.Opened.{Opened};
 
 // Lowest number first, then lowest place. Each test may rest on the earlier faults' not being there.
@@ -76,6 +78,65 @@ pub fn judge(img: &[u8]) -> Verdict
     let v = volume::image_verdict(img);
     if v.number == 0 {
         return sound_verdict(img);
+    }
+    v
+}
+
+// ---- the same by way of lent scratch
+
+// How many numbers the scratch must have.
+fn scratch_numbers(g: Geometry) -> u64
+    requires { ⌜ (g .files ≤ 65535) × (g .extents ≤ 65535) ⌝ }
+    ensures { λ r. ⌜ r ≡ scratchNumbers g ⌝ }
+{
+    4 * g.files + g.extents
+}
+
+pub fn first_fault_with(img: &[u8], g: Geometry, scratch: &mut [u32]) -> Soundness
+    requires { ⌜ Opened (now img) g ⌝ }
+    requires { ⌜ scratchNumbers g ≤ length (now scratch) ⌝ }
+    ensures { λ r. ⌜ r ≡ firstFault (view (now (img .entry))) ⌝ }
+{
+    if let Lowest::At(i) = directory::fault21(img, g) {
+        return Soundness::Faulty(21, i as u64);
+    }
+    if let Lowest::At(i) = directory::fault22(img, g) {
+        return Soundness::Faulty(22, i as u64);
+    }
+    if let Lowest::At(i) = duplicates::fault23_with(img, g, scratch) {
+        return Soundness::Faulty(23, i as u64);
+    }
+    if let Lowest::At(i) = duplicates::fault24_with(img, g, scratch) {
+        return Soundness::Faulty(24, i as u64);
+    }
+    allocation::faults_by(img, g, scratch)
+}
+
+// The refusals 4 to 6, 14 and 7.
+fn sound_verdict_with(img: &[u8], scratch: &mut [u32]) -> Verdict
+    requires { ⌜ imageVerdict (length (now img)) (view (now img)) .number ≡ 0 ⌝ }
+    ensures { λ r. ⌜ r ≡ soundVerdictWith (view (now (img .entry))) (length (now (scratch .entry))) ⌝ }
+    ensures { λ r. ⌜ ScratchAfter r (now (scratch .entry)) (now (scratch .exit)) ⌝ }
+{
+    let n = state_number(volume::state_on(img));
+    if n == 0 {
+        let g = volume::geometry_in(img);
+        if (scratch.len() as u64) < scratch_numbers(g) {
+            return volume::refusal(14);
+        }
+        return fault_verdict(first_fault_with(img, g, scratch));
+    }
+    volume::refusal(n)
+}
+
+// The refusals 1 to 6, 14 and 7.
+pub fn judge_with(img: &[u8], scratch: &mut [u32]) -> Verdict
+    ensures { λ r. ⌜ r ≡ judgedWith (length (now (img .entry))) (view (now (img .entry))) (length (now (scratch .entry))) ⌝ }
+    ensures { λ r. ⌜ ScratchAfter r (now (scratch .entry)) (now (scratch .exit)) ⌝ }
+{
+    let v = volume::image_verdict(img);
+    if v.number == 0 {
+        return sound_verdict_with(img, scratch);
     }
     v
 }

@@ -1,4 +1,4 @@
-// The calls that only read, on any bytes and any arguments: check, find, list, read. (The summary stands in `volume`.)
+// The calls that only read, on any bytes and any arguments: check, with lent scratch too, find, list, read. (The summary stands in `volume`.)
 use model::BytesRead;
 use model::Checked;
 use model::Found;
@@ -7,6 +7,7 @@ ghost use mathlib.Core.Path.{_≡_};
 ghost use lib.ListN.{length};
 ghost use Rattle.model.specs.Disk.{view};
 ghost use Rattle.model.specs.Summary.{checkAnswer};
+ghost use Rattle.model.specs.Scratch.{checkWithAnswer, ScratchAfter};
 ghost use Rattle.model.specs.Find.{findAnswer};
 ghost use Rattle.model.specs.Listing.{listAnswer, listOutput};
 ghost use Rattle.model.specs.Read.{readAnswer, readOutput};
@@ -15,6 +16,15 @@ pub fn check(img: &[u8]) -> Checked
     ensures { λ r. ⌜ r ≡ checkAnswer (length (now (img .entry))) (view (now (img .entry))) ⌝ }
 {
     let verdict = soundness::judge(img);
+    Checked { verdict }
+}
+
+// Check by way of lent scratch (T-10). What scratch holds after 0 or 7 is the program's choice.
+pub fn check_with(img: &[u8], scratch: &mut [u32]) -> Checked
+    ensures { λ r. ⌜ r ≡ checkWithAnswer (length (now (img .entry))) (view (now (img .entry))) (length (now (scratch .entry))) ⌝ }
+    ensures { λ r. ⌜ ScratchAfter (r .verdict) (now (scratch .entry)) (now (scratch .exit)) ⌝ }
+{
+    let verdict = soundness::judge_with(img, scratch);
     Checked { verdict }
 }
 

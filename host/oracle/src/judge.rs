@@ -190,12 +190,12 @@ struct FileExtents {
     extents: Vec<Extent>,
 }
 
-fn judge_marks(volume: Volume) -> Result<(), Refusal> {
+pub(crate) fn judge_marks(volume: Volume) -> Result<(), Refusal> {
     let wrong = |entry: Entry| entry.mark() != entry::FREE && entry.mark() != entry::OCCUPIED;
     lowest_file(fault::MARK, volume.entries(), wrong)
 }
 
-fn judge_names_and_sizes(volume: Volume) -> Result<(), Refusal> {
+pub(crate) fn judge_names_and_sizes(volume: Volume) -> Result<(), Refusal> {
     let largest = volume.geometry.largest_size();
     let wrong = |entry: Entry| match entry.name() {
         None => true,
@@ -232,12 +232,18 @@ fn lowest_file<'i>(
 
 /// Counts the extents of each file; every owner is an occupied file and the reserve is free.
 fn judge_table(volume: Volume) -> Result<Vec<usize>, Refusal> {
+    let mut counts = vec![0; volume.geometry.files() as usize];
+    judge_owners(volume, |owner| counts[owner] += 1)?;
+    Ok(counts)
+}
+
+/// Every owner is an occupied file, and the reserve is free. `met` is told each owner.
+pub(crate) fn judge_owners(volume: Volume, mut met: impl FnMut(usize)) -> Result<(), Refusal> {
     let usable = volume.geometry.usable_extents();
     let occupied: Vec<bool> = volume
         .entries()
         .map(|(_, entry)| entry.is_occupied())
         .collect();
-    let mut counts = vec![0; occupied.len()];
     for (extent, owner, _) in volume.table() {
         if owner == NO_FILE {
             continue;
@@ -246,9 +252,9 @@ fn judge_table(volume: Volume) -> Result<Vec<usize>, Refusal> {
         if extent.0 >= usable || !occupied.get(owner).copied().unwrap_or(false) {
             return Err(Refusal::not_sound(fault::TABLE_ENTRY, extent.0));
         }
-        counts[owner] += 1;
+        met(owner);
     }
-    Ok(counts)
+    Ok(())
 }
 
 /// Puts each extent at its offset in its file. A file that has as many extents as its size asks for

@@ -6,6 +6,7 @@
 //! - `answers`: the numbers that a call gives back;
 //! - `judge`: opening an image, its state and its faults;
 //! - `calls`: summary, check, find, list and read;
+//! - `sorted_check`: the check with lent scratch;
 //! - `changes`: create, delete, resize and write;
 //! - `rename`: rename, also onto an existing name;
 //! - `recovery`: finishing a transaction that a power cut interrupted, at once or in slices;
@@ -35,6 +36,7 @@ pub mod recovery;
 pub mod rename;
 pub mod report;
 pub mod request;
+pub mod sorted_check;
 pub mod testing;
 
 pub use calls::{check, find, list, read, summary};
@@ -45,6 +47,7 @@ pub use lists::carry_out;
 pub use recovery::{recover, recover_slice};
 pub use rename::rename;
 pub use request::{Answer, Request};
+pub use sorted_check::check_with_scratch;
 
 #[cfg(test)]
 mod tests;

@@ -3,6 +3,7 @@
 
 use std::sync::LazyLock;
 
+use crate::answers::code;
 use crate::draw::Draw;
 use crate::lists::RECORD;
 
@@ -67,6 +68,37 @@ impl LentBuffer {
     }
 }
 
+/// Scratch to lend: numbers between guards.
+pub struct LentScratch {
+    numbers: Vec<u32>,
+}
+
+/// Stands in the guards and in scratch that wasn't used yet.
+const UNUSED: u32 = 0xa5a5_5a5a;
+const NUMBERS_GUARD: usize = 7;
+
+impl LentScratch {
+    pub fn new(length: usize) -> LentScratch {
+        LentScratch {
+            numbers: vec![UNUSED; length + 2 * NUMBERS_GUARD],
+        }
+    }
+
+    pub fn lent(&mut self) -> &mut [u32] {
+        let end = self.numbers.len() - NUMBERS_GUARD;
+        &mut self.numbers[NUMBERS_GUARD..end]
+    }
+
+    /// Makes sure that only a check that answered 0 or 7 used the scratch, and none the guards.
+    pub fn assert_kept(mut self, code: u64) {
+        if code == code::DONE || code == code::NOT_SOUND {
+            self.lent().fill(UNUSED);
+        }
+        let kept = self.numbers.iter().all(|number| *number == UNUSED);
+        assert!(kept, "scratch changed with {code}");
+    }
+}
+
 #[cfg(test)]
 mod tests {
     use super::*;
@@ -103,5 +135,28 @@ mod tests {
         buffer.lent()[..10].fill(7);
         assert_eq!(buffer.filled(10), [7; 10]);
         assert_eq!(LentBuffer::holding(&[1, 2, 3]).contents(), [1, 2, 3]);
+    }
+
+    #[test]
+    #[should_panic(expected = "scratch changed with 14")]
+    fn scratch_changed_by_a_refused_check() {
+        let mut scratch = LentScratch::new(3);
+        scratch.lent()[2] = 0;
+        scratch.assert_kept(14);
+    }
+
+    #[test]
+    #[should_panic(expected = "scratch changed with 0")]
+    fn number_changed_after_the_scratch() {
+        let mut scratch = LentScratch::new(3);
+        scratch.numbers[NUMBERS_GUARD + 3] = 0;
+        scratch.assert_kept(0);
+    }
+
+    #[test]
+    fn scratch_used_by_a_check() {
+        let mut scratch = LentScratch::new(3);
+        scratch.lent().fill(1);
+        scratch.assert_kept(7);
     }
 }

@@ -14,10 +14,11 @@ pub mod runs;
 pub mod slices;
 pub mod volumes;
 
-use crate::answers::{FormatRecordAnswer, RecoverAnswer, SliceAnswer};
+use crate::answers::{code, CheckAnswer, FormatRecordAnswer, RecoverAnswer, Refusal, SliceAnswer};
 use crate::request::{Answer, Request};
+use crate::sorted_check::scratch_length;
 use crate::FormatRequest;
-use buffers::LentBuffer;
+use buffers::{LentBuffer, LentScratch};
 
 /// What is under test: it makes each call, compares what it can, and gives the answer with the
 /// bytes that the call put at the start of its lent buffer. It panics at a difference.
@@ -41,6 +42,8 @@ pub trait Subject {
     ) -> (FormatRecordAnswer, Vec<u8>);
 
     fn carry_out(&self, image: &mut [u8], list: &[u8]) -> u64;
+
+    fn check_with_scratch(&self, image: &[u8], scratch_length: usize) -> CheckAnswer;
 }
 
 /// The oracle alone: nothing outside its answer's bytes may change.
@@ -84,6 +87,33 @@ impl Subject for Oracle {
     fn carry_out(&self, image: &mut [u8], list: &[u8]) -> u64 {
         crate::carry_out(image, list)
     }
+
+    fn check_with_scratch(&self, image: &[u8], scratch_length: usize) -> CheckAnswer {
+        let mut scratch = LentScratch::new(scratch_length);
+        let answer = crate::check_with_scratch(image, scratch.lent());
+        scratch.assert_kept(answer.code);
+        answer
+    }
+}
+
+/// Check with scratch says what check without says, once the scratch is long enough. Gives that.
+pub fn checks_alike(subject: &dyn Subject, image: &[u8]) -> CheckAnswer {
+    let plain = crate::check(image);
+    let needed = crate::summary(image).geometry().map_or(0, scratch_length) as usize;
+    for length in [needed, needed + 1] {
+        assert_eq!(subject.check_with_scratch(image, length), plain);
+    }
+    if needed > 0 {
+        let judged = plain.code == code::DONE || plain.code == code::NOT_SOUND;
+        let expected = if judged {
+            Refusal::new(code::BUFFER_TOO_SHORT).into()
+        } else {
+            plain
+        };
+        assert_eq!(subject.check_with_scratch(image, needed - 1), expected);
+        assert_eq!(subject.check_with_scratch(image, 0), expected);
+    }
+    plain
 }
 
 /// What runs and cuts went through.

@@ -12,7 +12,7 @@ use super::cuts::recovery_length;
 use super::requests::{create, resize, shortened};
 use super::slices::expected_slice;
 use super::volumes::{format_list, Volume};
-use super::{Counts, Oracle, Subject};
+use super::{checks_alike, Counts, Oracle, Subject};
 use crate::answers::{code, Refusal};
 use crate::draw::Draw;
 use crate::layout::{put32, superblock, Geometry, LONGEST_SPAN, SECTOR};
@@ -230,6 +230,10 @@ impl Run<'_> {
             assert_eq!((answer.code, answer.length), (0, 0));
             self.counts.recoveries += 1;
             self.slice_completed();
+        }
+        if self.draw.one_in(12) {
+            let checked = checks_alike(self.subject, &self.volume.image);
+            assert_eq!(checked.code, code::DONE);
         }
         if self.draw.one_in(40) {
             self.volume.disturb(&mut self.draw);

@@ -11,4 +11,5 @@ mod names;
 mod refusals;
 mod renames;
 mod runs;
+mod scratch;
 mod slices;

@@ -11,6 +11,7 @@ ghost use mathlib.Core.Path.{_≡_};
 ghost use lib.ListN.{length};
 ghost use Rattle.model.specs.Disk.{view};
 ghost use Rattle.model.specs.Summary.{stateCode, stateEntries, summaryAnswer, checkAnswer};
+ghost use Rattle.model.specs.Scratch.{checkWithAnswer, ScratchAfter};
 ghost use Rattle.model.specs.Find.{findAnswer};
 ghost use Rattle.model.specs.Listing.{listAnswer, listOutput};
 ghost use Rattle.model.specs.Read.{readAnswer, readOutput};
@@ -106,6 +107,16 @@ pub extern "C" fn goofs_check(img: &[u8]) -> CheckResult
     ensures { λ r. ⌜ r ≡ checkNumbers (checkAnswer (length (now (img .entry))) (view (now (img .entry)))) ⌝ }
 {
     check_result(queries::check(img))
+}
+
+// What scratch holds after 0 or 7 is the program's choice; only its length is common to every choice.
+#[no_mangle]
+pub extern "C" fn goofs_check_with(img: &[u8], scratch: &mut [u32]) -> CheckResult
+    ensures { λ r. ⌜ r ≡ checkNumbers (checkWithAnswer (length (now (img .entry))) (view (now (img .entry))) (length (now (scratch .entry)))) ⌝ }
+    ensures { λ _. ⌜ ScratchAfter (checkWithAnswer (length (now (img .entry))) (view (now (img .entry))) (length (now (scratch .entry))) .verdict) (now (scratch .entry)) (now (scratch .exit)) ⌝ }
+{
+    let a = queries::check_with(img, scratch);
+    check_result(a)
 }
 
 // ---- find

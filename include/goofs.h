@@ -75,6 +75,9 @@ extern "C" {
 #define GOOFS_RECOVER_LIST (GOOFS_RECOVERY_RECORDS(1024) * GOOFS_RECORD)
 #define GOOFS_SLICE_LIST(budget) (((budget) + 1) * GOOFS_RECORD)
 
+/* The numbers of scratch that goofs_check_with needs. */
+#define GOOFS_SCRATCH(files, extents) (4 * (files) + (extents))
+
 enum goofs_code {
     GOOFS_DONE = 0,
     GOOFS_NOT_WHOLE_SECTORS = 1, /* image empty or not whole sectors of 512 bytes */
@@ -93,7 +96,7 @@ enum goofs_code {
     GOOFS_DIRECTORY_FULL = 11,   /* create: no free entry */
     GOOFS_PAST_THE_END = 12,     /* offset greater than size */
     GOOFS_NO_ROOM = 13,          /* one more extent is needed and none is free */
-    GOOFS_BUFFER_TOO_SHORT = 14  /* list or output too short for the answer */
+    GOOFS_BUFFER_TOO_SHORT = 14  /* list or output too short for the answer, or scratch for the check */
 };
 
 enum goofs_fault {
@@ -153,6 +156,11 @@ goofs_summary_result goofs_summary(const uint8_t *image, size_t image_length);
 
 /* Whether the volume is sound. Gives 0 to 7. */
 goofs_check_result goofs_check(const uint8_t *image, size_t image_length);
+
+/* The same fault and place by way of `scratch`, `numbers` numbers of 32 bits, at least GOOFS_SCRATCH of the volume's files and extents:
+ * fewer are refused 14, which is tested after 6 and before soundness. What scratch holds after 0 or 7 is not fixed; with any other
+ * code it is untouched. The call has no large array of its own: 360 bytes of stack, measured. Gives 0 to 7 and 14. */
+goofs_check_result goofs_check_with(const uint8_t *image, size_t image_length, uint32_t *scratch, size_t numbers);
 
 /* The file of that name: its index and fields. Gives 0 to 9. */
 goofs_find_result goofs_find(const uint8_t *image, size_t image_length, const uint8_t *name, size_t name_length);

@@ -1,4 +1,4 @@
-/* Tests of the C interface through include/goofs.h: all thirteen calls, every result number, every byte of every buffer. What is
+/* Tests of the C interface through include/goofs.h: all fourteen calls, every result number, every byte of every buffer. What is
  * expected is worked out from document 01 and stands here as plain numbers. The last line is 'N passed, M failed', where a test is
  * one function of the table at the end.
  *
@@ -318,6 +318,31 @@ static size_t longest(enum kind kind)
     }
 }
 
+/* Check with scratch says what check says, with scratch exactly long enough and longer; one number less and none get 14 where check
+ * judges soundness. Only 0 and 7 may change it, and nothing behind it. */
+static void checked_with(const uint8_t *image, size_t length, uint64_t code, uint64_t fault, uint64_t place)
+{
+    static uint32_t scratch[GOOFS_SCRATCH(65535, 65535) + 8];
+    goofs_summary_result s = goofs_summary(image, length);
+    size_t needed = s.code ? 0 : GOOFS_SCRATCH(s.files, s.extents), i, k;
+    const size_t numbers[] = {needed, needed + 7, needed ? needed - 1 : 0, 0};
+
+    for (k = 0; k < sizeof numbers / sizeof *numbers; k++) {
+        int judged = code == 0 || code == 7, enough = numbers[k] >= needed;
+        uint32_t changed = 0;
+
+        for (i = 0; i < needed + 8; i++)
+            scratch[i] = 0xa5a55a5au + (uint32_t)i;
+        if (judged && !enough)
+            IS(goofs_check_result, goofs_check_with(image, length, scratch, numbers[k]), .code = 14);
+        else
+            IS(goofs_check_result, goofs_check_with(image, length, scratch, numbers[k]), .code = code, .fault = fault, .place = place);
+        for (i = judged && enough ? numbers[k] : 0; i < needed + 8; i++)
+            changed |= scratch[i] ^ (0xa5a55a5au + (uint32_t)i);
+        NUMBER(changed, 0);
+    }
+}
+
 /* The change gives the wanted list, into a list that has just its length, and into one as long as the header's macro; one byte
  * less is 14, and so is no list at all. The image is only read. Then the list lands on it, which leaves a sound volume. */
 static void gives(struct change c)
@@ -346,6 +371,7 @@ static void gives(struct change c)
     land(held.bytes, wanted.length / 528);
     held_is(__LINE__);
     IS(goofs_check_result, goofs_check(medium.bytes, IMAGE), .code = 0);
+    checked_with(medium.bytes, IMAGE, 0, 0, 0);
 }
 
 /* The change is refused, with any list: 14 is the highest number and the lowest that holds is given. No byte changes. */
@@ -453,6 +479,7 @@ static void all_refuse(int besides, const uint8_t *image, size_t length, uint64_
     if (besides & SUMMARY)
         IS(goofs_summary_result, goofs_summary(image, length), .code = code);
     IS(goofs_check_result, goofs_check(image, length), .code = code, .fault = fault, .place = place);
+    checked_with(image, length, code, fault, place);
     for (bad = 0; bad < 2; bad++) {
         const uint8_t *name = bad ? NULL : beam, *new_name = bad ? NULL : created, *data = bad ? NULL : one;
         size_t name_length = bad ? 0 : 4, new_length = bad ? 0 : 3, data_length = bad ? 0 : 1, room = bad ? 0 : sizeof lent.bytes;

@@ -77,6 +77,15 @@ macro_rules! calls {
     };
     (@ $about:tt $call:ident $symbol:ident $answer:ty;
         [$($type:ty,)*] [$($parameter:tt)*] [$($given:expr,)*];
+        $slice:ident: numbers, $($rest:tt)*) => {
+        calls! { @ $about $call $symbol $answer;
+            [$($type,)* *mut u32, usize,]
+            [$($parameter)* $slice: &mut [u32],]
+            [$($given,)* $slice.as_mut_ptr(), $slice.len(),];
+            $($rest)* }
+    };
+    (@ $about:tt $call:ident $symbol:ident $answer:ty;
+        [$($type:ty,)*] [$($parameter:tt)*] [$($given:expr,)*];
         $number:ident: $width:ident, $($rest:tt)*) => {
         calls! { @ $about $call $symbol $answer;
             [$($type,)* $width,] [$($parameter)* $number: $width,] [$($given,)* $number,];
@@ -101,6 +110,10 @@ calls! {
 
     /// Whether the volume is clean and has no fault.
     check is goofs_check(image: bytes) -> CheckAnswer;
+
+    /// The same with lent scratch; fewer than four numbers for each file and one for each extent are
+    /// refused 14, before the volume is judged. What the scratch holds after 0 or 7 is not fixed.
+    check_with is goofs_check_with(image: bytes, scratch: numbers) -> CheckAnswer;
 
     /// The index and the fields of the file of this name.
     find is goofs_find(image: bytes, name: bytes) -> FindAnswer;
@@ -163,6 +176,7 @@ mod tests {
         unsafe {
             assert_eq!(goofs_summary(null(), 0).code, one);
             assert_eq!(goofs_check(null(), 0).code, one);
+            assert_eq!(goofs_check_with(null(), 0, null_mut(), 0).code, one);
             assert_eq!(goofs_find(null(), 0, null(), 0).code, one);
             assert_eq!(goofs_list(null(), 0, 0, null_mut(), 0).code, one);
             assert_eq!(

@@ -254,6 +254,18 @@ impl Image {
         Refusal::judge(answer.code, answer.fault, answer.place)
     }
 
+    /// The same by way of scratch, which is made long enough and can be lent again: the check then
+    /// takes little stack. What it holds afterwards is not fixed.
+    pub fn check_with(&self, scratch: &mut Vec<u32>) -> Result<(), Refusal> {
+        let summary = self.summary();
+        let needed = (4 * summary.files + summary.extents) as usize;
+        if scratch.len() < needed {
+            scratch.resize(needed, 0);
+        }
+        let answer = crate::check_with(&self.bytes, scratch);
+        Refusal::judge(answer.code, answer.fault, answer.place)
+    }
+
     /// What the root record says.
     pub fn root(&self) -> Root {
         let root = &self.bytes[SECTOR..2 * SECTOR];

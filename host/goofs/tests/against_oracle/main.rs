@@ -24,4 +24,5 @@ mod recoveries;
 mod renames;
 mod runs;
 mod sample;
+mod scratch;
 mod shared;

@@ -3,10 +3,10 @@
 
 use crate::counts::{count, Compared};
 use oracle::answers::{code, CheckAnswer, FormatRecordAnswer, RecoverAnswer, SliceAnswer};
-use oracle::testing::buffers::LentBuffer;
+use oracle::testing::buffers::{LentBuffer, LentScratch};
 use oracle::testing::requests::{create, delete, find, read, rename, resize, shortened, write};
 use oracle::testing::volumes::ANY_LIST;
-use oracle::testing::{Oracle, Subject};
+use oracle::testing::{checks_alike, Oracle, Subject};
 use oracle::{Answer, FormatRequest, Request};
 
 /// The oracle's answer with the same fields; neither side may have one that the other lacks.
@@ -214,6 +214,19 @@ impl Subject for Both {
         count(Compared::Calls, 1);
         code
     }
+
+    fn check_with_scratch(&self, image: &[u8], scratch_length: usize) -> CheckAnswer {
+        let expected = Oracle.check_with_scratch(image, scratch_length);
+        let mut scratch = LentScratch::new(scratch_length);
+        let found = as_oracle!(
+            goofs::check_with(image, scratch.lent()),
+            CheckAnswer { code, fault, place }
+        );
+        assert_eq!(found, expected, "check with {scratch_length} numbers lent");
+        scratch.assert_kept(found.code);
+        count(Compared::Calls, 1);
+        found
+    }
 }
 
 /// Counts a call, and whether its output or list was exactly long enough or one byte too short.
@@ -284,7 +297,7 @@ pub fn calls_alike(image: &[u8]) -> CheckAnswer {
         alike(&request, image, ANY_LIST);
     }
     Both.recover(image, ANY_LIST);
-    oracle::check(image)
+    checks_alike(&Both, image)
 }
 
 /// The same on an image that was damaged.

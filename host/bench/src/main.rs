@@ -7,6 +7,7 @@ mod free_search;
 mod growth;
 mod images;
 mod memory;
+mod scratch_check;
 mod text;
 mod timing;
 mod write_list;
@@ -37,6 +38,13 @@ fn main() -> ExitCode {
         let ratio = free_search::print(&mut comparisons);
         if ratio > free_search::MOST {
             eprintln!("bench: the search for a free extent takes {ratio:.2} times a loop's time");
+            failed = true;
+        }
+    }
+    if wanted("scratch") {
+        let ratio = scratch_check::print(&mut comparisons);
+        if ratio > scratch_check::MOST {
+            eprintln!("bench: the check with scratch takes {ratio:.2} times a check by sorting");
             failed = true;
         }
     }

@@ -13,6 +13,7 @@ use Rattle.model.specs.Faults.{fault21, fault22, fault23, fault24, fault25, exa
 use Rattle.model.specs.Refusals.{verdictOf, isWhole, fitsImage, imageVerdict, soundVerdict, judged}
 use Rattle.model.specs.WriteList.{barrier, recordBytes, listBytes}
 use Rattle.model.specs.Summary.{superblockVerdict, superblockAnswer, checkAnswer}
+use Rattle.model.specs.Scratch.{soundVerdictWith, judgedWith, checkWithAnswer}
 use Rattle.model.specs.Listing.{listConditions, listedBy, listVerdict, listAnswer}
 use Rattle.model.specs.Recovery.{isData, isMetadata, goodEntry, replayedSector, replayed, recoveryGroups, recoveryVerdict}
 use Rattle.model.specs.Search.{concatenated}
@@ -24,7 +25,7 @@ pub edges : Edges
 unfolding beAt beBytes bytesFrom put onesSector zeroSector scan anyBelow allBelow countBelow equalBytes tabulate concatenated inBounds isVolume geometryIn journalLength stateOf newSuperblock
     rootIn newRootSector nameIn entryIn isOccupied hasZero badName newEntrySector updatedEntrySector tableFile tableOffset takenIn sourceAt targetAt
     entriesIn journalSector catalogueOf entryOf fault21 fault22 fault23 fault24 fault25 exact fault26 firstFault
-    verdictOf isWhole fitsImage imageVerdict soundVerdict judged barrier recordBytes listBytes superblockVerdict superblockAnswer checkAnswer
+    verdictOf isWhole fitsImage imageVerdict soundVerdict judged barrier recordBytes listBytes superblockVerdict superblockAnswer checkAnswer soundVerdictWith judgedWith checkWithAnswer
     listConditions listedBy listVerdict listAnswer isData isMetadata goodEntry replayedSector replayed recoveryGroups recoveryVerdict
     doubled geometryFor canFormat formatVerdict formatAnswer positionIn recordIn badRecord carryVerdict carryAnswer
 edges = record {
@@ -41,6 +42,7 @@ edges = record {
   lowest = refl;
   tail-stays = refl;
   entries = refl;
+  scratch = refl;
   table = refl;
   journals = refl;
   lists = refl;

@@ -23,6 +23,7 @@ use Rattle.model.specs.Journal.{journalSector}
 use Rattle.model.specs.Refusals.{refusal, done}
 use Rattle.model.specs.WriteList.{barrier, sectorWrite, recordBytes, listBytes}
 use Rattle.model.specs.Summary.{superblockAnswer, stateCode, located, areaAt, checkAnswer}
+use Rattle.model.specs.Scratch.{checkWithAnswer}
 use Rattle.model.specs.Listing.{listAnswer}
 use Rattle.model.specs.Recovery.{recoveryVerdict}
 use Rattle.model.specs.Format.{Format, formatAnswer}
@@ -68,6 +69,10 @@ sized size = updatedEntrySector size 0 (empty 97 5)
 
 abbrev pub fault : ℕ → ℕ → Verdict
 fault n place = record { number = 7; fault = n; place = place }
+
+-- a file "a" of id 5 and another one, checked with so many numbers of scratch
+abbrev pub lends : ℕ → List ℕ → Verdict
+lends numbers fourth = checkWithAnswer sampleBytes (diskOf (empty 97 5) fourth onesSector) numbers .verdict
 
 -- ---- recovery: the sample's disk, waiting with two entries: their sources, their targets
 
@@ -120,6 +125,10 @@ pub record Edges : Type 0 where
       ∷ checks (empty 97 5) (empty 97 6) onesSector ∷ checks (empty 97 5) (empty 98 0) onesSector ∷ checks (empty 97 5) (empty 98 1) onesSector
       ∷ checks (empty 97 5) (empty 98 5) onesSector ∷ [])
       ≡ (done ∷ fault 21 3 ∷ fault 22 3 ∷ fault 22 0 ∷ fault 23 3 ∷ fault 24 3 ∷ fault 24 3 ∷ fault 24 3 ∷ [])
+  -- T-10: scratch on both sides of 4 x F + N, 1,024 numbers here; 14 before 7, and 5 before 14
+  pub scratch : (lends 0 (empty 98 6) ∷ lends 1023 (empty 98 6) ∷ lends 1024 (empty 98 6) ∷ lends 1023 (empty 98 5) ∷ lends 1024 (empty 98 5)
+      ∷ checkWithAnswer sampleBytes (waits 674 1 675 2) 0 .verdict ∷ [])
+      ≡ (refusal 14 ∷ refusal 14 ∷ done ∷ refusal 14 ∷ fault 24 3 ∷ refusal 5 ∷ [])
   -- 25 an extent of no file, one of the reserve; 26 none of two extents, one twice, one too many; and both where they belong
   pub table : (checks (empty 97 5) (empty 98 6) (takenIn 2 9 0 onesSector) ∷ checks (sized 1) (empty 98 6) (takenIn 3 0 0 onesSector)
       ∷ checks (sized 65537) (empty 98 6) (takenIn 1 0 0 onesSector) ∷ checks (sized 1) (empty 98 6) (takenIn 1 0 0 (takenIn 2 0 0 onesSector))

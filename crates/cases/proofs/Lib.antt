@@ -2,3 +2,4 @@
 pub mod Computed
 pub mod Literals
 pub mod Edges
+pub mod RepairsComputed

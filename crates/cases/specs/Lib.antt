@@ -2,3 +2,4 @@
 pub mod Cases
 pub mod Literals
 pub mod Edges
+pub mod Repairs

@@ -22,7 +22,7 @@ use Rattle.model.specs.Faults.{holdsOf, fault22, fault23, fault24, fault25, fau
 use Rattle.laws.proofs.Booleans.{not-and, not-leb}
 use Rattle.laws.proofs.Search.{first-ext, anyBelow-ext, allBelow-ext, countBelow-ext}
 
-among-if {ℓ} : {A : Type ℓ} (b : Bool) (x : A) (p : A → Bool) → holdsOf (cond b (some x) none) p ≡ (b && p x)
+pub among-if {ℓ} : {A : Type ℓ} (b : Bool) (x : A) (p : A → Bool) → holdsOf (cond b (some x) none) p ≡ (b && p x)
 among-if true x p = refl
 among-if false x p = refl
 
@@ -39,10 +39,10 @@ free-if true e = refl
 free-if false e = refl
 
 -- an owner read off two numbers, where the free mark is no file's
-abbrev owner : ℕ → ℕ → Option Owner
+abbrev pub owner : ℕ → ℕ → Option Owner
 owner f o = cond (not (eqb f freeFile)) (some (record { file = f; offset = o })) none
 
-by-owner : (t : Option Owner → Bool) (u : Bool) (f o : ℕ) → (f ≡ freeFile → u ≡ t none) → t (some (record { file = f; offset = o })) ≡ u → t (owner f o) ≡ u
+pub by-owner : (t : Option Owner → Bool) (u : Bool) (f o : ℕ) → (f ≡ freeFile → u ≡ t none) → t (some (record { file = f; offset = o })) ≡ u → t (owner f o) ≡ u
 by-owner t u f o h k = go (eqb f freeFile) refl
   where
     go : (b : Bool) → eqb f freeFile ≡ b → t (cond (not b) (some (record { file = f; offset = o })) none) ≡ u

@@ -9,5 +9,6 @@ pub mod Entry
 pub mod Refusals
 pub mod Catalogue
 pub mod WriteList
+pub mod Repair
 pub mod Judged
 pub mod Named

@@ -56,13 +56,15 @@ abbrev pub orElse : ℕ → Lowest → Soundness → Soundness
 orElse n (At i) later = Faulty n i
 orElse n Nowhere later = later
 
--- "Places are file indexes, for 25 an extent."
-unfoldable pub firstFault : Disk → Soundness
-firstFault d =
-    let c = catalogueOf d in
+-- "Places are file indexes, for 25 an extent": by the entries whose marks are faults, and by what the catalogue says
+abbrev pub faultsIn : (FileNumber → Bool) → Catalogue → Soundness
+faultsIn marks c =
     let files = c .geometry .files in
-    orElse 21 (first (fault21 d) files)
+    orElse 21 (first marks files)
     (orElse 22 (first (fault22 c) files)
     (orElse 23 (first (fault23 c) files)
     (orElse 24 (first (fault24 c) files)
     (orElse 25 (first (fault25 c) (c .geometry .extents)) (orElse 26 (first (fault26 c) files) Sound)))))
+
+unfoldable pub firstFault : Disk → Soundness
+firstFault d = faultsIn (fault21 d) (catalogueOf d)

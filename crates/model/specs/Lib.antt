@@ -22,6 +22,7 @@ pub mod Delete
 pub mod Write
 pub mod Resize
 pub mod Rename
+pub mod Repair
 pub mod Recovery
 pub mod Format
 pub mod CarryOut

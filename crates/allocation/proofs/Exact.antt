@@ -52,7 +52,7 @@ module _ (q : ℕ → Bool) (off : ℕ → ℕ) where
           rw (t, lt-ltb (off j) c (leb-false c (off j) (or-none (leb c (off j)) (anyBelow (held (off j)) j) y .0)))
 
   -- each offset is had, and no extent is one too many
-  pub exactly-yes : (n c : ℕ) → ((o : ℕ) → o < c → anyBelow (held o) n ≡ true) → anyBelow (extra c) n ≡ false → exactly n c ≡ true
+  exactly-yes : (n c : ℕ) → ((o : ℕ) → o < c → anyBelow (held o) n ≡ true) → anyBelow (extra c) n ≡ false → exactly n c ≡ true
   exactly-yes n c had none =
       and-yes (allBelow (λ o. eqb (countBelow (held o) n) 1) c) (allBelow (λ e. not (q e) || ltb (off e) c) n)
       (allBelow-yes (λ o. eqb (countBelow (held o) n) 1) c (λ o l. eq-eqb (countBelow (held o) n) 1 (omega (arith, countBelow-anyBelow (held o) n (had o l), at-most-one c n none o))))

@@ -50,7 +50,7 @@ module _ (g : Geometry) (d : Disk) where
   unfolding startOf
   apart i j l = sumTo-step (needed g d) i j l
 
-  pub start-mono : (i j : ℕ) → i ≤ j → startOf g d i ≤ startOf g d j
+  start-mono : (i j : ℕ) → i ≤ j → startOf g d i ≤ startOf g d j
   start-mono i j l = ⊎-elim (λ (e : i ≡ j). rw e (omega arith)) (λ (s : i < j). omega (arith, apart i j s)) (eq-or-lt-of-le l)
 
   pub starts-down : (m n : ℕ) (starts : List ℕ) → Starts g d m starts → n ≤ m → Starts g d n starts

@@ -6,7 +6,6 @@ use mathlib.Core.Bool.{cond}
 use mathlib.Core.List.{List, [], _∷_, _++_}
 use lib.Dec.{eqb}
 use lib.ListN.{getD, replicate}
-use Rattle.model.specs.declared.Geometry.{Geometry}
 use Rattle.model.specs.declared.State.the-variants.{Clean, Waiting, Damaged, Unfinished}
 use Rattle.model.specs.declared.Area.the-variants.{Journal, Table, Data, Reserve}
 use Rattle.model.specs.declared.Summary.{Summary}
@@ -26,7 +25,7 @@ use Rattle.model.specs.Summary.{superblockAnswer, stateCode, located, areaAt, c
 use Rattle.model.specs.Scratch.{checkWithAnswer}
 use Rattle.model.specs.Listing.{listAnswer}
 use Rattle.model.specs.Recovery.{recoveryVerdict}
-use Rattle.model.specs.Format.{Format, formatAnswer}
+use Rattle.model.specs.Format.{formatAnswer}
 use Rattle.model.specs.CarryOut.{carryAnswer}
 use Rattle.cases.specs.Cases.{shape, called, sample}
 use Rattle.cases.specs.Literals.{padded, cleanSuperblock, sampleBytes}

@@ -188,7 +188,7 @@ length-journalOf g stages targets =
     length-tabulate (λ j. sectorWrite (journalAt g + j) (journalSector (λ k. getD stages k 0) (λ k. getD targets k 0) (length targets) j)) 0 (journalSectors (length targets))
 
 -- how many records a plan's list has
-pub plan-length : (g : Geometry) (d : Disk) (p : Plan) → length (closed (groupsOf g d p)) ≡ recordCount (length (p .dataSectors)) (length (p .targets))
+plan-length : (g : Geometry) (d : Disk) (p : Plan) → length (closed (groupsOf g d p)) ≡ recordCount (length (p .dataSectors)) (length (p .targets))
 unfolding groupsOf groupA
 plan-length g d p = simp (length-append, length-copies, length-journalOf, length-sectors) (omega arith)
 

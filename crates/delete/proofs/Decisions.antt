@@ -49,7 +49,7 @@ module _ (c : Catalogue) (d : Disk) (i o : ℕ) where
   unfolding freedSectors sectorsFrom
   length-freed = length-freed-flat (tableSectors (c .geometry))
 
-pub delete-needs : (d : Disk) (i time : ℕ) → listLength (groupsFor d (some (deletePlan (catalogueOf d) d i time))) ≡ recordCount 0 (2 + sectorsFrom (catalogueOf d) i 0) * recordSize
+delete-needs : (d : Disk) (i time : ℕ) → listLength (groupsFor d (some (deletePlan (catalogueOf d) d i time))) ≡ recordCount 0 (2 + sectorsFrom (catalogueOf d) i 0) * recordSize
 unfolding deletePlan
 delete-needs d i time =
     plan-needs d (deletePlan (catalogueOf d) d i time)

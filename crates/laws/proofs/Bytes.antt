@@ -8,7 +8,7 @@ use native.Mathlib.Nat.{add-zero, zero-add, add-assoc, eq-or-lt-of-le, add-suc, 
 use native.Mathlib.Numerals.{add-one, sub-one}
 use native.Mathlib.Omega.{arith}
 use lib.Dec.{leb, ltb, lit<, lit≤}
-use lib.ListN.{length, getD, take, drop, set, length-append, length-drop, length-set, length-replicate, replicate, replicate-append-replicate, List·getD-append, drop-of-length-le}
+use lib.ListN.{length, getD, take, drop, set, length-append, length-drop, length-set, length-replicate, replicate, List·getD-append, drop-of-length-le}
 use lib.Seq.{sets, length-sets, sets-eq, set-comm, take-suc, take-all, getD-drop, getD-take, getD-at, getD-set-same, getD-set-other, ext-getD, getD-append-add}
 use borrow.Author.Tests.{leb-true, ltb-true}
 use Rattle.model.specs.Bytes.{beAt, beBytes, bytesFrom, put, zeroSector, onesSector}
@@ -79,9 +79,6 @@ put-back l at a x = sym (put-snoc l at a x ∙ set-put l at a (at + length a) x 
 pub beBytes-more : (w v : ℕ) → 0 < w → beBytes w v ≡ beBytes (w - 1) (v / 256) ++ (v % 256 ∷ [])
 unfolding beBytes
 beBytes-more (suc w) v h = rw sub-one
-
-pub replicate-more : (n x : ℕ) → replicate (n + 1) x ≡ replicate n x ++ (x ∷ [])
-replicate-more n x = sym (replicate-append-replicate n 1 x)
 
 pub zeros-at : (n p : ℕ) → getD (replicate {A = ℕ} n 0) p 0 ≡ 0
 zeros-at zero p = refl
@@ -187,7 +184,7 @@ unfolding bytesFrom
 bytesFrom-ext s t a b zero h = refl
 bytesFrom-ext s t a b (suc n) h = ap₂ (λ l x. l ++ (x ∷ [])) (bytesFrom-ext s t a b n (λ i k. h i (omega arith))) (h n (omega arith))
 
-pub beAt-ext : (s t : List ℕ) (a b w : ℕ) → ((i : ℕ) → i < w → getD s (a + i) 0 ≡ getD t (b + i) 0) → beAt s a w ≡ beAt t b w
+beAt-ext : (s t : List ℕ) (a b w : ℕ) → ((i : ℕ) → i < w → getD s (a + i) 0 ≡ getD t (b + i) 0) → beAt s a w ≡ beAt t b w
 unfolding beAt
 beAt-ext s t a b zero h = refl
 beAt-ext s t a b (suc w) h = ap₂ (λ n x. n * 256 + x) (beAt-ext s t a b w (λ i k. h i (omega arith))) (h w (omega arith))

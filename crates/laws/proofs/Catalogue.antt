@@ -110,7 +110,7 @@ module _ (d : Disk) where
         ap (isPart i o) (table-on e l)
         ∙ by-owner (isPart i o) _ (tableFile g d e) (tableOffset g d e) (λ q. ap (λ (b : Bool). b && eqb (tableOffset g d e) o) (ne-eqb (tableFile g d e) i (λ z. omega arith))) refl
 
-    pub beyond-is : (k e : ℕ) → e < g .extents → not (ownedFrom i k (catalogueOf d .table e)) ≡ (not (eqb (tableFile g d e) i) || ltb (tableOffset g d e) k)
+    beyond-is : (k e : ℕ) → e < g .extents → not (ownedFrom i k (catalogueOf d .table e)) ≡ (not (eqb (tableFile g d e) i) || ltb (tableOffset g d e) k)
     beyond-is k e l =
         ap (λ (o : Option Owner). not (ownedFrom i k o)) (table-on e l)
         ∙ by-owner (λ o. not (ownedFrom i k o)) _ (tableFile g d e) (tableOffset g d e)

@@ -9,7 +9,7 @@ use lib.ListN.{length, getD}
 use lib.Seq.{ext-getD}
 use Rattle.model.specs.Bytes.{beAt, bytesFrom, put}
 use Rattle.model.specs.Disk.{Disk, view}
-use Rattle.laws.proofs.Bytes.{length-bytesFrom, beAt-bytesFrom, bytesFrom-bytesFrom, getD-bytesFrom, bytesFrom-put-same, bytesFrom-put-other}
+use Rattle.laws.proofs.Bytes.{length-bytesFrom, beAt-bytesFrom, getD-bytesFrom, bytesFrom-put-same, bytesFrom-put-other}
 
 pub length-view : (img : List ℕ) (k : ℕ) → length (view img k) ≡ 512
 unfolding view
@@ -18,10 +18,6 @@ length-view img k = length-bytesFrom img (512 * k) 512
 pub beAt-view : (img : List ℕ) (k o w : ℕ) → o + w ≤ 512 → beAt (view img k) o w ≡ beAt img (512 * k + o) w
 unfolding view
 beAt-view img k o w h = beAt-bytesFrom img (512 * k) 512 o w h
-
-pub bytesFrom-view : (img : List ℕ) (k o m : ℕ) → o + m ≤ 512 → bytesFrom (view img k) o m ≡ bytesFrom img (512 * k + o) m
-unfolding view
-bytesFrom-view img k o m h = bytesFrom-bytesFrom img (512 * k) 512 o m h
 
 pub getD-view : (img : List ℕ) (k i : ℕ) → i < 512 → getD (view img k) i 0 ≡ getD img (512 * k + i) 0
 unfolding view

@@ -1,5 +1,5 @@
 -- What a disk's catalogue says of the file of a name and of an occupied entry, in the terms of its sector. Assumes nothing.
-use Prim.Native.Nat.{ℕ, _+_, _-_, _*_, _≤_, _<_, _^_}
+use Prim.Native.Nat.{ℕ, _-_, _*_, _≤_, _<_, _^_}
 use mathlib.Core.Path.{_≡_, refl, sym, ap, _∙_}
 use mathlib.Core.Bool.{Bool, true, false, cond, not, _&&_, _||_}
 use mathlib.Core.List.{List}
@@ -94,7 +94,7 @@ unfolding fieldsOf entryIn
 name-length-of img i r e = ap (λ (x : Fields). x .«name_length») e ∙ length-nameIn (view img (entryAt i))
 
 -- fault 22 bounds the size
-pub sound-size : (d : Disk) → firstFault d ≡ Sound → (i : ℕ) → i < geometryIn (d superblockAt) .files → isOccupied (d (entryAt i)) ≡ true
+sound-size : (d : Disk) → firstFault d ≡ Sound → (i : ℕ) → i < geometryIn (d superblockAt) .files → isOccupied (d (entryAt i)) ≡ true
     → numberIn (d (entryAt i)) (entryField .size) ≤ roomOf d
 sound-size d s i l o = ltb-false (roomOf d) (numberIn (d (entryAt i)) (entryField .size)) (go (badName (nameIn (d (entryAt i)))) _ refl)
   where

@@ -49,7 +49,7 @@ scan-none p (suc n) i h =
 pub first-none : (p : ℕ → Bool) (n : ℕ) → ((k : ℕ) → k < n → p k ≡ false) → first p n ≡ Nowhere
 first-none p n h = scan-none p (n - 0) 0 (λ k a b. h k (omega arith))
 
-pub scan-ext : (p q : ℕ → Bool) (n i : ℕ) → ((k : ℕ) → i ≤ k → k < i + n → p k ≡ q k) → scan p n i ≡ scan q n i
+scan-ext : (p q : ℕ → Bool) (n i : ℕ) → ((k : ℕ) → i ≤ k → k < i + n → p k ≡ q k) → scan p n i ≡ scan q n i
 unfolding scan
 scan-ext p q zero i h = refl
 scan-ext p q (suc n) i h =
@@ -175,7 +175,7 @@ same-length a b h = rw (ne-eqb _ _ h)
 -- ---- lists by index
 
 -- the last of a list, or one before it
-pub snoc-at {ℓ} : {A : Type ℓ} (l : List A) (x v d : A) (i n : ℕ) → length l ≡ n → i < suc n → (i < n → getD l i d ≡ v) → (i ≡ n → x ≡ v)
+snoc-at {ℓ} : {A : Type ℓ} (l : List A) (x v d : A) (i n : ℕ) → length l ≡ n → i < suc n → (i < n → getD l i d ≡ v) → (i ≡ n → x ≡ v)
     → getD (l ++ (x ∷ [])) i d ≡ v
 snoc-at l x v d i n e h p q = go (decLt i n)
   where

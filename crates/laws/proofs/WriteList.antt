@@ -30,7 +30,7 @@ pub emit-nil : (l : List ℕ) (k : ℕ) → emit l k [] ≡ l
 unfolding emit listBytes
 emit-nil l k = put-nil l (k * recordSize)
 
-pub emit-append : (l : List ℕ) (k : ℕ) (a b : List Record) → emit l k (a ++ b) ≡ emit (emit l k a) (k + length a) b
+emit-append : (l : List ℕ) (k : ℕ) (a b : List Record) → emit l k (a ++ b) ≡ emit (emit l k a) (k + length a) b
 unfolding emit
 emit-append l k a b =
     let e : k * recordSize + length (listBytes k a) ≡ (k + length a) * recordSize = omega (arith, length-listBytes k a) in
@@ -48,7 +48,7 @@ pub emit-one : (l : List ℕ) (k : ℕ) (r : Record) → emit l k (r ∷ []) ≡
 unfolding emit listBytes
 emit-one l k r = rw append-nil
 
-pub emit-run : (l : List ℕ) (k s : ℕ) (c : List ℕ)
+emit-run : (l : List ℕ) (k s : ℕ) (c : List ℕ)
     → emit l k (sectorWrite s c ∷ [])
     ≡ put (put (put l (k * recordSize) (beBytes 8 k)) (k * recordSize + numberStart) (beBytes 8 s)) (k * recordSize + contentsStart) (bytesFrom c 0 512)
 emit-run l k s c = emit-one l k (sectorWrite s c) ∙ record-put l (k * recordSize) k s c

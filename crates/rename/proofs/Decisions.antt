@@ -1,9 +1,9 @@
 -- What a rename comes to, test by test. Assumes nothing.
 use Prim.Native.Nat.{ℕ, _≤_, _<_}
-use mathlib.Core.Path.{_≡_, refl, sym, ap, _∙_}
+use mathlib.Core.Path.{_≡_, refl, sym, ap}
 use mathlib.Core.Bool.{Bool, true, false, _||_}
 use mathlib.Core.List.{List}
-use mathlib.Core.Option.{Option, none, some}
+use mathlib.Core.Option.{Option, some}
 use native.Mathlib.Omega.{arith}
 use lib.Dec.{ltb}
 use lib.ListN.{length}
@@ -17,7 +17,7 @@ use Rattle.model.specs.Disk.{Disk, view}
 use Rattle.model.specs.Entry.{badName, badNewName}
 use Rattle.model.specs.Catalogue.{Catalogue, catalogueOf, fileNamed}
 use Rattle.model.specs.Refusals.{Conditions, verdictOf, refusal, done, judged}
-use Rattle.model.specs.WriteList.{Plan, Emitted, closed, groupsFor, listLength, Decision, decided, answerOf, listAfter}
+use Rattle.model.specs.WriteList.{Plan, Emitted, closed, groupsFor, listLength, Decision, decided}
 use Rattle.model.specs.Rename.{renameConditions, renamePlan, renamePlanned, renameDecision, renameAnswer, renameList}
 use Rattle.model.specs.Opened.{Opened}
 use Rattle.laws.proofs.Named.{named-at}

@@ -22,8 +22,8 @@ use Rattle.model.specs.Superblock.{isVolume, stateOn}
 use Rattle.model.specs.Faults.{orElse, firstFault}
 use Rattle.model.specs.Refusals.{verdictOf, andThen, isDone, done, refusal, isWhole, fitsImage, imageVerdict, stateNumber, faultVerdict, soundVerdict, judged}
 use Rattle.model.specs.Summary.{checkAnswer}
-use Rattle.laws.proofs.Search.{Hit, scan-hit, first-missed, first-none}
-use Rattle.laws.proofs.Seeking.{first-found, first-there}
+use Rattle.laws.proofs.Search.{Hit, scan-hit, first-missed}
+use Rattle.laws.proofs.Seeking.{first-found}
 use Rattle.laws.proofs.Judged.{judged-image, judged-sound}
 use Rattle.safety.specs.FirstFault.{faultTest, placesOf, NoFault, FirstFault}
 use Rattle.safety.proofs.Passes.{judged-clean}
@@ -50,9 +50,6 @@ first-lowest t n p e =
         let q : j ≡ p = at-index j p (sym (first-found t p n j (omega (arith, h .1)) f) ∙ e) in
         absurd (omega (arith, k .1))
     go Nowhere f k = f
-
-lowest-first : (t : ℕ → Bool) (n p : ℕ) → IsLowest t n p → first t n ≡ At p
-lowest-first t n p h = first-there t p n (h .below) (first-none t p (h .lowest)) (h .holds)
 
 -- ---- the faults in their order
 

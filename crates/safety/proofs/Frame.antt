@@ -71,10 +71,6 @@ module _ (g : Geometry) (p : Plan) (geo : UsableGeometry g) (ok : WellFormed g p
         ∙ ap (over (p .targets) j) (over-skip (mark g (view img) p) [] j _ ne ∙ over-none j _ ∙ over-part 1 [] j (view img j) o)
         ∙ sym (over-append (p .dataSectors) (p .targets) j (view img j))
 
-    pub done-zero : view (uncut g img p) superblockAt ≡ withJournalLength 0 (view img superblockAt)
-    unfolding final apply over
-    done-zero = ap (λ (d : Disk). d 0) (uncut-shows g img p geo ok ready)
-
 -- ---- writes of root, directory and table alone, without a journal: a step on the way to the image that a call leaves
 
 module _ (g : Geometry) (img : List ℕ) (ws : Group) (geo : UsableGeometry g) (ready : Ready g img) (metadata : All (Metadata g) ws) (whole : All Whole ws) where

@@ -15,7 +15,7 @@ ghost use Rattle.model.specs.Scratch.{scratchNumbers, soundVerdictWith, judgedW
 ghost use Rattle.model.specs.Opened.{Opened};
 
 // Lowest number first, then lowest place. Each test may rest on the earlier faults' not being there.
-pub fn first_fault(img: &[u8], g: Geometry) -> Soundness
+fn first_fault(img: &[u8], g: Geometry) -> Soundness
     requires { ⌜ Opened (now img) g ⌝ }
     ensures { λ r. ⌜ r ≡ firstFault (view (now (img .entry))) ⌝ }
 {

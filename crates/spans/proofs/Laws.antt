@@ -85,7 +85,7 @@ extent-inside img g h x l =
 
 -- ---- where an offset stands: in the extent offset / E, at byte offset % E
 
-pub offset-split : (g : Geometry) → Bounded g → (offset : ℕ) → offset ≡ 512 * (offset / extentBytes g * extentSectors g) + offset % extentBytes g
+offset-split : (g : Geometry) → Bounded g → (offset : ℕ) → offset ≡ 512 * (offset / extentBytes g * extentSectors g) + offset % extentBytes g
 offset-split g b offset =
     let d : offset / extentBytes g * extentBytes g + offset % extentBytes g ≡ offset = div-add-mod' offset (extentBytes g) in
     let q : offset / extentBytes g * (512 * extentSectors g) ≡ 512 * (offset / extentBytes g * extentSectors g) =
@@ -103,7 +103,7 @@ sector-within g b s = mod-lt s (omega (arith, b .extent-low))
 
 module _ (img : List ℕ) (g : Geometry) (h : Opened img g) (i offset x start : ℕ)
     (found : x ≡ extentOf (catalogueOf (view img)) i (offset / extentBytes g)) (at : start ≡ extentAt g x) where
-  pub piece-below : x < g .extents
+  piece-below : x < g .extents
   piece-below = omega (arith, extent-below img g h i (offset / extentBytes g))
 
   pub piece-inside : 512 * start + extentBytes g ≤ length img

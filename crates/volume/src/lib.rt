@@ -39,7 +39,7 @@ pub fn geometry_in(img: &[u8]) -> Geometry
 }
 
 // The geometry is in bounds, and the volume no longer than the image.
-pub fn fits_image(img: &[u8]) -> bool
+fn fits_image(img: &[u8]) -> bool
     requires { ⌜ 512 ≤ length (now img) ⌝ }
     ensures { λ r. ⌜ r ≡ fitsImage (length (now (img .entry))) (view (now (img .entry)) 0) ⌝ }
 {
@@ -50,7 +50,7 @@ pub fn fits_image(img: &[u8]) -> bool
     false
 }
 
-pub fn state_of(length: u64) -> State
+fn state_of(length: u64) -> State
     ensures { λ r. ⌜ r ≡ stateOf length ⌝ }
 {
     if length == 0 {

@@ -92,7 +92,7 @@ module _ (c : Catalogue) (i : ℕ) (d : Disk) (offset : ℕ) (bytes : List ℕ) 
   unfolding writePlan
   plan-kept z e h = rw (← e, h)
 
-  pub write-needs : (z : ℕ) (b : Bool) → z ≡ sizeAfter c i offset (length bytes) → b ≡ grows c i z
+  write-needs : (z : ℕ) (b : Bool) → z ≡ sizeAfter c i offset (length bytes) → b ≡ grows c i z
       → listLength (groupsFor d (some (writePlan c i d offset bytes time))) ≡ recordCount (touchedSectors offset (length bytes)) (cond b 2 1) * recordSize
   write-needs z b e h = plan-needs d (writePlan c i d offset bytes time) ∙ go b (sym h)
     where
@@ -105,11 +105,11 @@ module _ (c : Catalogue) (i : ℕ) (d : Disk) (offset : ℕ) (bytes : List ℕ) 
       go true q = rw (plan-more z e q, many)
       go false q = rw (plan-kept z e q, many)
 
-  pub planned-none : length bytes ≡ 0 → writePlanned c i d offset bytes time ≡ none
+  planned-none : length bytes ≡ 0 → writePlanned c i d offset bytes time ≡ none
   unfolding writePlanned
   planned-none h = ap (λ (b : Bool). cond b none (some (writePlan c i d offset bytes time))) (eq-eqb (length bytes) 0 h)
 
-  pub planned-some : (length bytes ≡ 0 → ⊥) → writePlanned c i d offset bytes time ≡ some (writePlan c i d offset bytes time)
+  planned-some : (length bytes ≡ 0 → ⊥) → writePlanned c i d offset bytes time ≡ some (writePlan c i d offset bytes time)
   unfolding writePlanned
   planned-some h = ap (λ (b : Bool). cond b none (some (writePlan c i d offset bytes time))) (ne-eqb (length bytes) 0 h)
 

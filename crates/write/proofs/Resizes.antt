@@ -6,8 +6,7 @@ use mathlib.Core.List.{List, []}
 use mathlib.Core.Option.{Option, some}
 use native.Mathlib.Nat.{le-div-iff-mul-le, div-mul-le-self}
 use native.Mathlib.Omega.{arith}
-use lib.ListN.{length, take, replicate, getD-replicate, length-replicate}
-use lib.Seq.{getD-take, length-take-le}
+use lib.ListN.{length}
 use borrow.Author.Tests.{lt-ltb, le-ltb}
 use Rattle.model.specs.declared.Changed.{Changed}
 use Rattle.model.specs.declared.Geometry.{Geometry}
@@ -25,11 +24,11 @@ use Rattle.model.specs.Read.{longestTransfer, sizeNamed}
 use Rattle.model.specs.Write.{grows, noRoom, writePlanned}
 use Rattle.model.specs.Resize.{zeros, shrinkPlan, resizePlanned, resizeConditions, resizeDecision, resizeAnswer, resizeList}
 use Rattle.model.specs.Opened.{Bounded, Opened}
-use Rattle.laws.proofs.Bytes.{bytesFrom-all, bytesFrom-ext, length-bytesFrom}
+use Rattle.laws.proofs.Bytes.{length-bytesFrom}
 use Rattle.commit.proofs.Records.{emitted-length}
 use Rattle.commit.proofs.Decided.{ComesTo, refused-as-short, done-as-planned}
 use Rattle.delete.proofs.Decisions.{shrink-needs}
-use Rattle.write.specs.FileWrite.{Asked, fileConditions, fileDecision}
+use Rattle.write.specs.FileWrite.{fileConditions, fileDecision}
 use Rattle.write.specs.FileResize.{sizeConditions, sizeDecision, shrinkDecision}
 use Rattle.write.proofs.Laws.{decided-same, refusedBy, own-refusal}
 

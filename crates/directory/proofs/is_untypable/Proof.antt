@@ -1,7 +1,6 @@
 -- `directory::is_untypable` meets its contract. The byte is 33 to 126 and compared with the slash, or greater, or less.
 use mathlib.Core.Path.{_≡_, refl}
 use mathlib.Core.Bool.{Bool, true, false, not}
-use borrow.Author.Needs.{needs}
 use borrow.Author.Tests.{le-leb, lt-leb}
 use Rattle.directory.proofs.is_untypable.Statement.{statement}
 use Rattle.directory.proofs.is_untypable.Tie as tie

@@ -1,5 +1,5 @@
 -- `lists::copy_sector` meets its contract. 512 bytes copied into an array of 512 are the whole array.
-use mathlib.Core.Path.{_≡_, _∙_}
+use mathlib.Core.Path.{_∙_}
 use Rattle.model.specs.Bytes.{bytesFrom}
 use Rattle.laws.proofs.Bytes.{length-bytesFrom, put-all, bytesFrom-all}
 use borrow.Author.Needs.{needs}

@@ -1,7 +1,5 @@
 -- `lists::put_from` meets its contract. Record k stands k records behind the list's start, and carries position k.
-use mathlib.Core.Path.{refl, sym, _∙_}
-use Rattle.model.specs.Bytes.{bytesFrom}
-use Rattle.model.specs.WriteList.{sectorWrite}
+use mathlib.Core.Path.{refl}
 use Rattle.laws.proofs.WriteList.{emit-one}
 use borrow.Author.Needs.{needs}
 use Rattle.lists.proofs.put_from.Statement.{statement}

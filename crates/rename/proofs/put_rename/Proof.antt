@@ -1,5 +1,4 @@
 -- `rename::put_rename` meets its contract.
-use Prim.Native.Nat.{ℕ}
 use mathlib.Core.Path.{sym}
 use native.Mathlib.Omega.{arith}
 use lib.ListN.{replicate}

@@ -1,9 +1,8 @@
 -- `rename::rename_file` meets its contract.
 use Prim.Native.Nat.{_*_}
-use mathlib.Core.Path.{sym, _∙_}
 use native.Mathlib.Omega.{arith}
 use Rattle.model.specs.Disk.{view}
-use Rattle.model.specs.Catalogue.{catalogueOf, fileNamed}
+use Rattle.model.specs.Catalogue.{catalogueOf}
 use Rattle.model.specs.WriteList.{recordSize}
 use Rattle.model.specs.Rename.{renamePlan}
 use Rattle.rename.proofs.Laws.{rename-needs}

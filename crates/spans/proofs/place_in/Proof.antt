@@ -1,7 +1,6 @@
 -- `spans::place_in` meets its contract. The span's own bytes are lent, or zeros that stand for it.
 use native.Mathlib.Omega.{arith}
 use Rattle.spans.proofs.Sources.{own-run, other-run}
-use borrow.Author.Needs.{needs}
 use Rattle.spans.proofs.place_in.Statement.{statement}
 use Rattle.spans.proofs.place_in.Tie as tie
 

@@ -1,4 +1,4 @@
-/* Tests of the C interface through include/goofs.h: all fourteen calls, every result number, every byte of every buffer. What is
+/* Tests of the C interface through include/goofs.h: all fifteen calls, every result number, every byte of every buffer. What is
  * expected is worked out from document 01 and stands here as plain numbers. The last line is 'N passed, M failed', where a test is
  * one function of the table at the end.
  *

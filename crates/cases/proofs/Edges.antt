@@ -27,7 +27,8 @@ unfolding beAt beBytes bytesFrom put onesSector zeroSector scan anyBelow allBelo
     rootIn newRootSector nameIn entryIn isOccupied hasZero badName newEntrySector updatedEntrySector tableFile tableOffset takenIn sourceAt targetAt
     entriesIn journalSector catalogueOf entryOf fault21 fault22 fault23 fault24 fault25 exact fault26 firstFault
     verdictOf isWhole fitsImage imageVerdict soundVerdict judged barrier recordBytes listBytes superblockVerdict superblockAnswer checkAnswer soundVerdictWith judgedWith checkWithAnswer
-    listConditions listedBy listVerdict listAnswer isData isMetadata goodEntry replayedSector replayed recoveryGroups recoveryVerdict differs isCopied copiedEntry copied sliceGroups sliceVerdict sliceListed sliceAnswer
+    listConditions listedBy listVerdict listAnswer isData isMetadata goodEntry replayedSector replayed recoveryGroups recoveryVerdict
+    differs isCopied copiedEntry copied sliceGroups sliceVerdict sliceListed sliceAnswer
     doubled geometryFor canFormat formatVerdict formatAnswer positionIn recordIn badRecord carryVerdict carryAnswer
 edges = record {
   table-sectors = refl;

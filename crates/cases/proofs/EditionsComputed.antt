@@ -13,8 +13,8 @@ use Rattle.model.specs.Faults.{fault21, fault22, fault23, fault24, fault25, exa
 use Rattle.model.specs.Refusals.{verdictOf, isWhole, fitsImage, imageVerdict, soundVerdict, judged}
 use Rattle.model.specs.Summary.{superblockVerdict, superblockAnswer, checkAnswer}
 use Rattle.model.specs.Format.{doubled, geometryFor, canFormat, formatVerdict, formatAnswer}
-use Rattle.model.specs.Ledger.{catalogue, firstLedger, writtenRecords, freedRecords, renamedRecords, ledgerFrom, holderOf, positionAmong, slotNamed, freeSlot, unheldExtent, fileOf, newEntry, updatedRoot}
-use Rattle.model.specs.Ledger.{step, lowest, unfitTime, unfitName, unfitNewName}
+use Rattle.model.specs.Ledger.{catalogue, firstLedger, writtenRecords, freedRecords, renamedRecords, ledgerFrom, holderOf, positionAmong, slotNamed, freeSlot, unheldExtent, fileOf}
+use Rattle.model.specs.Ledger.{newEntry, updatedRoot, step, lowest, unfitTime, unfitName, unfitNewName}
 use Rattle.cases.specs.Editions.{Editions}
 
 pub editions : Editions

@@ -8,7 +8,8 @@ use Rattle.model.specs.Repair.{isStray, strays, holdsStray, repaired, takenRese
 use Rattle.cases.specs.Repairs.{Repairs}
 
 pub repairs : Repairs
-unfolding tabulate concatenated scan anyBelow allBelow countBelow equalBytes layoutOf badName hasZero fault22 fault23 fault24 fault25 fault26 exact isStray strays holdsStray repaired takenReserve repairedSector repairPlan
+unfolding tabulate concatenated scan anyBelow allBelow countBelow equalBytes layoutOf badName hasZero fault22 fault23 fault24 fault25 fault26 exact
+    isStray strays holdsStray repaired takenReserve repairedSector repairPlan
 repairs = record {
   leaky-strays = refl;
   leaky-count = refl;

@@ -3,7 +3,7 @@
 use Prim.Native.Nat.{ℕ, _-_, _^_}
 use mathlib.Core.Path.{_≡_}
 use mathlib.Core.Bool.{cond}
-use mathlib.Core.List.{List, [], _∷_, _++_}
+use mathlib.Core.List.{List, [], _∷_}
 use lib.Dec.{eqb}
 use lib.ListN.{replicate}
 use Rattle.model.specs.declared.State.the-variants.{Clean}
@@ -17,7 +17,7 @@ use Rattle.model.specs.Entry.{newEntrySector, updatedEntrySector, renamedEntryS
 use Rattle.model.specs.Refusals.{done}
 use Rattle.model.specs.Summary.{superblockAnswer, checkAnswer}
 use Rattle.model.specs.Format.{Format, geometryFor, formatAnswer}
-use Rattle.model.specs.Ledger.{Ledger, find, create, delete, resize, write, rename, Call, answer, numberOf, Feed, whole, ledgerAfter}
+use Rattle.model.specs.Ledger.{Ledger, find, create, delete, resize, write, rename, Call, answer, numberOf, whole, ledgerAfter}
 use Rattle.cases.specs.Cases.{called}
 use Rattle.cases.specs.Literals.{padded, sampleBytes}
 

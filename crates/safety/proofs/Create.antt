@@ -164,7 +164,8 @@ module _ (L : Ledger) (img : List ℕ) (rep : Rep L img) (name : List ℕ) (id m
       entry-new =
           entry-is (L .geometry) (view out) (view out) (ready .volume .geometry) (ready .volume .geometry) i
           ∙ ap (λ (s : List ℕ). slotIn (L .geometry) s i) at-entry
-          ∙ (λ j. cond (lt-ltb i (L .geometry .files) (free .0) j && new-occupied (L .geometry .edition) name id mode time j) (some (new-entry (L .geometry .edition) name id mode time good hi hm fitting j)) none)
+          ∙ (λ j. cond (lt-ltb i (L .geometry .files) (free .0) j && new-occupied (L .geometry .edition) name id mode time j)
+          (some (new-entry (L .geometry .edition) name id mode time good hi hm fitting j)) none)
 
       table-same : (e : ℕ) → catalogueOf (view out) .table e ≡ catalogue (created L i name id mode time) .table e
       table-same e =
@@ -193,7 +194,8 @@ module _ (L : Ledger) (img : List ℕ) (rep : Rep L img) (name : List ℕ) (id m
           let l : i < L .geometry .files = free .0 in
           record {
             ready = ready;
-            new-root = ap (rootIn (L .geometry .edition)) at-root ∙ root-updated (L .geometry .edition) time (view img rootAt) (length-view img rootAt) fitting ∙ ap (updatedRoot time) (rep .says .root);
+            new-root = ap (rootIn (L .geometry .edition)) at-root
+                ∙ root-updated (L .geometry .edition) time (view img rootAt) (length-view img rootAt) fitting ∙ ap (updatedRoot time) (rep .says .root);
             mark = mark-new;
             entry = entry-new;
             entries = λ k q ne. at-other (entryAt k) (out-front (L .geometry) geo (entryAt k) (omega arith)) (λ z. omega arith) (λ z. omega arith) (λ z. ne (omega arith));

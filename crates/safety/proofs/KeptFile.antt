@@ -1,6 +1,6 @@
 -- A call that updates file i's entry, as write and resize do: what the entry's sector says before and after, and that a file that keeps
 -- name and id is admissible where its size is bounded and its extents are those that it needs. Assumes nothing.
-use Prim.Native.Nat.{ℕ, _*_, _^_, _≤_, _<_}
+use Prim.Native.Nat.{ℕ, _*_, _≤_, _<_}
 use mathlib.Core.Path.{_≡_, refl, sym, ap, ap₂, _∙_}
 use mathlib.Core.Logic.{_≢_}
 use mathlib.Core.Bool.{Bool, true, false, cond, not, _&&_, _||_}
@@ -133,5 +133,6 @@ module _ (L : Ledger) (img : List ℕ) (rep : Rep L img) (i : ℕ) (f : File) (h
       (exact-new : exact (catalogue (replaced L (L .root) i (some y))) i (extentsFor (L .geometry) (y .entry .size)) ≡ true) where
     pub admissible-kept : Admissible L (L .root) i (some y)
     admissible-kept =
-        admissible-id (L .root) refl y (ap (badName (L .geometry .edition)) name ∙ or-left-no (badName (L .geometry .edition) (f .entry .name)) (ltb (usable (L .geometry) * E) (f .entry .size)) well-named)
+        admissible-id (L .root) refl y
+        (ap (badName (L .geometry .edition)) name ∙ or-left-no (badName (L .geometry .edition) (f .entry .name)) (ltb (usable (L .geometry) * E) (f .entry .size)) well-named)
         (λ k l ne. ap (λ (n : List ℕ). hasName n (catalogue L .entries k)) name ∙ name-apart k l ne) id small others owned exact-new

@@ -67,7 +67,8 @@ accepted L old new time room t p q r =
     number-is (step (rename old new time room) L) refl ∙ (λ i. cond (t i) (refusal 8) (cond (p i) (refusal 8) (cond (q i) (refusal 9) (cond (r i) (refusal 14) done))) .number)
 
 pub renamed-away : {L₀ : Ledger} {img : List ℕ} {fs : List Feed} {rs : List Answer} (old new : List ℕ) (time room : ℕ) (file : Contents)
-    → SoundRun L₀ steady img fs rs → fileOn img old ≡ some file → badTime (geometryOn img .edition) time ≡ false → badNewName (geometryOn img .edition) new ≡ false → recordCount 0 515 * recordSize ≤ room
+    → SoundRun L₀ steady img fs rs → fileOn img old ≡ some file
+    → badTime (geometryOn img .edition) time ≡ false → badNewName (geometryOn img .edition) new ≡ false → recordCount 0 515 * recordSize ≤ room
     → Fits (rename old new time room) → numberOf (volumeAnswer (rename old new time room) img) ≡ 0
 renamed-away {L₀} {img} {fs} old new time room file r e timed good long fit =
     ap numberOf (facts (rename old new time room) .same L img rep fit) ∙ answered

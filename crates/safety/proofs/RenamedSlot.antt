@@ -1,6 +1,6 @@
 -- A slot that gets a new name: an image that shows its entry renamed and the root updated represents the ledger with the file renamed, where
 -- no other file has the name. Assumes nothing.
-use Prim.Native.Nat.{ℕ, _^_, _<_}
+use Prim.Native.Nat.{ℕ, _<_}
 use mathlib.Core.Path.{_≡_, refl, sym, ap, _∙_, subst, fun-ext}
 use mathlib.Core.Logic.{_≢_}
 use mathlib.Core.Bool.{Bool, true, false, cond, not, _&&_}

@@ -129,7 +129,8 @@ says-of L img ready root marks directory table bytes = record {
 pub catalogue-is : (L : Ledger) (img : List ℕ) → Says L img → catalogueOf (view img) ≡ catalogue L
 unfolding catalogueOf catalogue
 catalogue-is L img s =
-    λ i. record { geometry = s .geometry i; root = (ap (λ (g : Geometry). rootIn (g .edition) (view img rootAt)) (s .geometry) ∙ s .root) i; entries = fun-ext (s .directory) i; table = fun-ext (s .table) i }
+    let root = ap (λ (g : Geometry). rootIn (g .edition) (view img rootAt)) (s .geometry) ∙ s .root in
+    λ i. record { geometry = s .geometry i; root = root i; entries = fun-ext (s .directory) i; table = fun-ext (s .table) i }
 
 -- "check gives 0": the ledger's catalogue decides
 pub sound-of : (d : Disk) (c : Catalogue) → catalogueOf d ≡ c → ((i : ℕ) → i < c .geometry .files → fault21 d i ≡ false) → NoFaults c → firstFault d ≡ Sound

@@ -1,6 +1,6 @@
 -- A shrinking resize of file i to size z: the plan is well-formed, and carried out, whole or in part, it leaves an image that represents
 -- the ledger in which slot i keeps its first bytes and extents, or the ledger as it was. Assumes nothing.
-use Prim.Native.Nat.{ℕ, suc, _+_, _*_, _/_, _%_, _^_, _≤_, _<_, min}
+use Prim.Native.Nat.{ℕ, suc, _+_, _*_, _/_, _%_, _≤_, _<_, min}
 use mathlib.Core.Path.{_≡_, refl, sym, ap, ap₂, _∙_, subst, fun-ext}
 use mathlib.Core.Logic.{_≢_}
 use mathlib.Core.Bool.{Bool, true, false, cond, not, _&&_}

@@ -59,36 +59,36 @@ module _ (d : Disk) where
   abbrev idAt : ℕ → ℕ
   idAt i = numberIn (s i) (entryField .id)
 
-  pub slot-on : (i : ℕ) → i < g .files → catalogueOf d .entries i ≡ cond (isOccupied (s i)) (some (entryIn (s i))) none
+  pub slot-on : (i : ℕ) → i < g .files → catalogueOf d .entries i ≡ cond (isOccupied (s i)) (some (entryIn (g .edition) (s i))) none
   unfolding catalogueOf
-  slot-on i l = ap (λ (b : Bool). cond (b && isOccupied (s i)) (some (entryIn (s i))) none) (lt-ltb i (g .files) l)
+  slot-on i l = ap (λ (b : Bool). cond (b && isOccupied (s i)) (some (entryIn (g .edition) (s i))) none) (lt-ltb i (g .files) l)
 
   pub fault22-is : (i : ℕ) → i < g .files
-      → fault22 (catalogueOf d) i ≡ (isOccupied (s i) && (badName (nameIn (s i)) || ltb (usable g * extentBytes g) (numberIn (s i) (entryField .size))))
+      → fault22 (catalogueOf d) i ≡ (isOccupied (s i) && (badName (g .edition) (nameIn (g .edition) (s i)) || ltb (usable g * extentBytes g) (numberIn (s i) (entryField .size))))
   unfolding fault22 catalogueOf entryIn
   fault22-is i l =
-      ap (λ (o : Option Entry). holdsOf o (λ e. badName (e .name) || ltb (usable g * extentBytes g) (e .size))) (slot-on i l)
-      ∙ among-if (isOccupied (s i)) (entryIn (s i)) (λ e. badName (e .name) || ltb (usable g * extentBytes g) (e .size))
+      ap (λ (o : Option Entry). holdsOf o (λ e. badName (g .edition) (e .name) || ltb (usable g * extentBytes g) (e .size))) (slot-on i l)
+      ∙ among-if (isOccupied (s i)) (entryIn (g .edition) (s i)) (λ e. badName (g .edition) (e .name) || ltb (usable g * extentBytes g) (e .size))
 
-  pub fault23-is : (i : ℕ) → i < g .files → fault23 (catalogueOf d) i ≡ (isOccupied (s i) && anyBelow (λ j. isOccupied (s j) && equalBytes (nameIn (s j)) (nameIn (s i))) i)
+  pub fault23-is : (i : ℕ) → i < g .files → fault23 (catalogueOf d) i ≡ (isOccupied (s i) && anyBelow (λ j. isOccupied (s j) && equalBytes (nameIn (g .edition) (s j)) (nameIn (g .edition) (s i))) i)
   unfolding fault23 entryIn
   fault23-is i l =
       ap (λ (o : Option Entry). holdsOf o (λ e. anyBelow (λ j. hasName (e .name) (catalogueOf d .entries j)) i)) (slot-on i l)
-      ∙ among-if (isOccupied (s i)) (entryIn (s i)) (λ e. anyBelow (λ j. hasName (e .name) (catalogueOf d .entries j)) i)
+      ∙ among-if (isOccupied (s i)) (entryIn (g .edition) (s i)) (λ e. anyBelow (λ j. hasName (e .name) (catalogueOf d .entries j)) i)
       ∙ ap (λ (b : Bool). isOccupied (s i) && b)
-      (anyBelow-ext (λ j. hasName (nameIn (s i)) (catalogueOf d .entries j)) (λ j. isOccupied (s j) && equalBytes (nameIn (s j)) (nameIn (s i))) i
-      (λ j k. ap (hasName (nameIn (s i))) (slot-on j (omega arith)) ∙ name-if (isOccupied (s j)) (entryIn (s j)) (nameIn (s i))))
+      (anyBelow-ext (λ j. hasName (nameIn (g .edition) (s i)) (catalogueOf d .entries j)) (λ j. isOccupied (s j) && equalBytes (nameIn (g .edition) (s j)) (nameIn (g .edition) (s i))) i
+      (λ j k. ap (hasName (nameIn (g .edition) (s i))) (slot-on j (omega arith)) ∙ name-if (isOccupied (s j)) (entryIn (g .edition) (s j)) (nameIn (g .edition) (s i))))
 
   pub fault24-is : (i : ℕ) → i < g .files
       → fault24 (catalogueOf d) i
-      ≡ (isOccupied (s i) && (eqb (idAt i) 0 || eqb (idAt i) (rootIn (d rootAt) .id) || anyBelow (λ j. isOccupied (s j) && eqb (idAt j) (idAt i)) i))
+      ≡ (isOccupied (s i) && (eqb (idAt i) 0 || eqb (idAt i) (rootIn (g .edition) (d rootAt) .id) || anyBelow (λ j. isOccupied (s j) && eqb (idAt j) (idAt i)) i))
   unfolding fault24 entryIn catalogueOf
   fault24-is i l =
-      ap (λ (o : Option Entry). holdsOf o (λ e. eqb (e .id) 0 || eqb (e .id) (rootIn (d rootAt) .id) || anyBelow (λ j. hasId (e .id) (catalogueOf d .entries j)) i)) (slot-on i l)
-      ∙ among-if (isOccupied (s i)) (entryIn (s i)) (λ e. eqb (e .id) 0 || eqb (e .id) (rootIn (d rootAt) .id) || anyBelow (λ j. hasId (e .id) (catalogueOf d .entries j)) i)
-      ∙ ap (λ (b : Bool). isOccupied (s i) && (eqb (idAt i) 0 || eqb (idAt i) (rootIn (d rootAt) .id) || b))
+      ap (λ (o : Option Entry). holdsOf o (λ e. eqb (e .id) 0 || eqb (e .id) (rootIn (g .edition) (d rootAt) .id) || anyBelow (λ j. hasId (e .id) (catalogueOf d .entries j)) i)) (slot-on i l)
+      ∙ among-if (isOccupied (s i)) (entryIn (g .edition) (s i)) (λ e. eqb (e .id) 0 || eqb (e .id) (rootIn (g .edition) (d rootAt) .id) || anyBelow (λ j. hasId (e .id) (catalogueOf d .entries j)) i)
+      ∙ ap (λ (b : Bool). isOccupied (s i) && (eqb (idAt i) 0 || eqb (idAt i) (rootIn (g .edition) (d rootAt) .id) || b))
       (anyBelow-ext (λ j. hasId (idAt i) (catalogueOf d .entries j)) (λ j. isOccupied (s j) && eqb (idAt j) (idAt i)) i
-      (λ j k. ap (hasId (idAt i)) (slot-on j (omega arith)) ∙ id-if (isOccupied (s j)) (entryIn (s j)) (idAt i)))
+      (λ j k. ap (hasId (idAt i)) (slot-on j (omega arith)) ∙ id-if (isOccupied (s j)) (entryIn (g .edition) (s j)) (idAt i)))
 
   pub fault25-is : (e : ℕ) → e < g .extents
       → fault25 (catalogueOf d) e ≡ (not (eqb (tableFile g d e) freeFile) && (not (ltb (tableFile g d e) (g .files) && isOccupied (s (tableFile g d e))) || leb (usable g) e))
@@ -98,7 +98,7 @@ module _ (d : Disk) where
       (λ (w : Owner). isFree (catalogueOf d .entries (w .file)) || leb (usable g) e)) (lt-ltb e (g .extents) l)
       ∙ among-if (not (eqb (tableFile g d e) freeFile)) (record { file = tableFile g d e; offset = tableOffset g d e }) (λ (w : Owner). isFree (catalogueOf d .entries (w .file)) || leb (usable g) e)
       ∙ ap (λ (b : Bool). not (eqb (tableFile g d e) freeFile) && (b || leb (usable g) e))
-      (free-if (ltb (tableFile g d e) (g .files) && isOccupied (s (tableFile g d e))) (entryIn (s (tableFile g d e))))
+      (free-if (ltb (tableFile g d e) (g .files) && isOccupied (s (tableFile g d e))) (entryIn (g .edition) (s (tableFile g d e))))
 
   pub table-on : (e : ℕ) → e < g .extents → catalogueOf d .table e ≡ owner (tableFile g d e) (tableOffset g d e)
   unfolding catalogueOf
@@ -131,18 +131,18 @@ module _ (d : Disk) where
   unfolding fault26 catalogueOf entryIn
   fault26-is i l =
       ap (λ (o : Option Entry). holdsOf o (λ e. not (exact (catalogueOf d) i (extentsFor g (e .size))))) (slot-on i l)
-      ∙ among-if (isOccupied (s i)) (entryIn (s i)) (λ e. not (exact (catalogueOf d) i (extentsFor g (e .size))))
+      ∙ among-if (isOccupied (s i)) (entryIn (g .edition) (s i)) (λ e. not (exact (catalogueOf d) i (extentsFor g (e .size))))
 
   -- ---- the searches
 
-  pub named-on : (n : List ℕ) → fileNamed (catalogueOf d) n ≡ first (λ i. isOccupied (s i) && equalBytes (nameIn (s i)) n) (g .files)
+  pub named-on : (n : List ℕ) → fileNamed (catalogueOf d) n ≡ first (λ i. isOccupied (s i) && equalBytes (nameIn (g .edition) (s i)) n) (g .files)
   unfolding fileNamed catalogueOf entryIn
   named-on n =
-      first-ext (λ i. hasName n (catalogueOf d .entries i)) (λ i. isOccupied (s i) && equalBytes (nameIn (s i)) n) (g .files)
-      (λ i l. ap (hasName n) (slot-on i l) ∙ name-if (isOccupied (s i)) (entryIn (s i)) n)
+      first-ext (λ i. hasName n (catalogueOf d .entries i)) (λ i. isOccupied (s i) && equalBytes (nameIn (g .edition) (s i)) n) (g .files)
+      (λ i l. ap (hasName n) (slot-on i l) ∙ name-if (isOccupied (s i)) (entryIn (g .edition) (s i)) n)
 
   pub free-on : freeEntry (catalogueOf d) ≡ first (λ i. not (isOccupied (s i))) (g .files)
   unfolding freeEntry catalogueOf
   free-on =
       first-ext (λ i. isFree (catalogueOf d .entries i)) (λ i. not (isOccupied (s i))) (g .files)
-      (λ i l. ap isFree (slot-on i l) ∙ free-if (isOccupied (s i)) (entryIn (s i)))
+      (λ i l. ap isFree (slot-on i l) ∙ free-if (isOccupied (s i)) (entryIn (g .edition) (s i)))

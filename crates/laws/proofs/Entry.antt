@@ -6,19 +6,20 @@ use mathlib.Core.List.{List}
 use lib.ListN.{length}
 use borrow.Author.Tests.{lt-leb}
 use Rattle.model.specs.Bytes.{numberIn}
-use Rattle.model.specs.Entry.{entryField, longestName, nameIn, badName, badNewName}
+use Rattle.model.specs.Edition.{layoutOf}
+use Rattle.model.specs.Entry.{nameIn, badName, badNewName}
 use Rattle.laws.proofs.Booleans.{and-false, or-none}
 use Rattle.laws.proofs.Bytes.{length-bytesFrom}
 
-pub length-nameIn : (s : List ℕ) → length (nameIn s) ≡ numberIn s (entryField .nameLength)
+pub length-nameIn : (edition : ℕ) (s : List ℕ) → length (nameIn edition s) ≡ numberIn s (layoutOf edition .nameLength)
 unfolding nameIn
-length-nameIn s = length-bytesFrom s (entryField .name) (numberIn s (entryField .nameLength))
+length-nameIn edition s = length-bytesFrom s (layoutOf edition .name) (numberIn s (layoutOf edition .nameLength))
 
-pub long-name : (n : List ℕ) → longestName < length n → badName n ≡ true
+pub long-name : (edition : ℕ) (n : List ℕ) → layoutOf edition .longestName < length n → badName edition n ≡ true
 unfolding badName
-long-name n h = rw (lt-leb (length n) 476 h, and-false)
+long-name edition n h = rw (lt-leb (length n) (layoutOf edition .longestName) h, and-false)
 
 -- a name that create or rename may give is one that a file may have
-pub new-name-good : (n : List ℕ) → badNewName n ≡ false → badName n ≡ false
+pub new-name-good : (edition : ℕ) (n : List ℕ) → badNewName edition n ≡ false → badName edition n ≡ false
 unfolding badNewName
-new-name-good n h = or-none (badName n) _ h .0
+new-name-good edition n h = or-none (badName edition n) _ h .0

@@ -5,6 +5,7 @@ pub mod Search
 pub mod Seeking
 pub mod Count
 pub mod Disk
+pub mod Edition
 pub mod Entry
 pub mod Refusals
 pub mod Catalogue

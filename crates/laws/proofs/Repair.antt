@@ -86,7 +86,7 @@ module _ (d : Disk) where
       again k = eqb (tableFile g d k) f && eqb (tableOffset g d k) o
 
       named : (b r : Bool)
-          → (isFree (cond b (some (entryIn (s f))) none) || leb (extentsFor g (entryOr (cond b (some (entryIn (s f))) none) .size)) o || r)
+          → (isFree (cond b (some (entryIn (g .edition) (s f))) none) || leb (extentsFor g (entryOr (cond b (some (entryIn (g .edition) (s f))) none) .size)) o || r)
           ≡ (not b || leb (extentsFor g (beAt (s f) 2 8)) o || r)
       named true r = refl
       named false r = refl

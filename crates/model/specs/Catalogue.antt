@@ -34,8 +34,8 @@ catalogueOf d =
     let g = geometryIn (d superblockAt) in
     record {
       geometry = g;
-      root = rootIn (d rootAt);
-      entries = λ i. cond (ltb i (g .files) && isOccupied (d (entryAt i))) (some (entryIn (d (entryAt i)))) none;
+      root = rootIn (g .edition) (d rootAt);
+      entries = λ i. cond (ltb i (g .files) && isOccupied (d (entryAt i))) (some (entryIn (g .edition) (d (entryAt i)))) none;
       table = λ e.
           cond (ltb e (g .extents) && not (eqb (tableFile g d e) freeFile))
           (some (record { file = tableFile g d e; offset = tableOffset g d e })) none;

@@ -10,9 +10,11 @@ use Rattle.model.specs.Bytes.{zeroSector}
 use Rattle.model.specs.Search.{concatenated, indexOf}
 use Rattle.model.specs.Geometry.{FileNumber, rootAt, entryAt, tableAt, tableSectors}
 use Rattle.model.specs.Disk.{Disk}
+use Rattle.model.specs.Edition.{badTime}
 use Rattle.model.specs.Root.{updatedRootSector}
 use Rattle.model.specs.Table.{freedIn}
 use Rattle.model.specs.Catalogue.{Catalogue, catalogueOf, fileNamed, ownedFrom, holdsFrom}
+use Rattle.model.specs.Refusals.{Conditions, refusal}
 use Rattle.model.specs.WriteList.{Plan, Record, sectorWrite, Decision, decided, answerOf, listAfter}
 use Rattle.model.specs.Find.{nameConditions}
 
@@ -28,13 +30,17 @@ freedSectors c d i o = concatenated (freedSector c d i o) 0 (tableSectors (c .ge
 unfoldable pub deletePlan : Catalogue → Disk → FileNumber → ℕ → Plan
 deletePlan c d i time = record {
   dataSectors = [];
-  targets = sectorWrite rootAt (updatedRootSector time (d rootAt)) ∷ sectorWrite (entryAt i) zeroSector ∷ freedSectors c d i 0;
+  targets = sectorWrite rootAt (updatedRootSector (c .geometry .edition) time (d rootAt)) ∷ sectorWrite (entryAt i) zeroSector ∷ freedSectors c d i 0;
 }
+
+-- 8 bad time; 8 bad name; 9
+unfoldable pub deleteConditions : Catalogue → List ℕ → ℕ → Conditions
+deleteConditions c name time = (badTime (c .geometry .edition) time, refusal 8) ∷ nameConditions c name
 
 unfoldable pub deleteDecision : ℕ → Disk → List ℕ → ℕ → ℕ → Decision
 deleteDecision len d name time room =
     let c = catalogueOf d in
-    decided len d (nameConditions c name) (some (deletePlan c d (indexOf (fileNamed c name)) time)) room
+    decided len d (deleteConditions c name time) (some (deletePlan c d (indexOf (fileNamed c name)) time)) room
 
 unfoldable pub deleteAnswer : ℕ → Disk → List ℕ → ℕ → ℕ → Changed
 deleteAnswer len d name time room = answerOf d (deleteDecision len d name time room)

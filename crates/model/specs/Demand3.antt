@@ -28,7 +28,7 @@ pub record Says (L : Ledger) (img : List ℕ) : Type 0 where
   pub volume : isVolume (view img superblockAt) ≡ true
   pub geometry : geometryIn (view img superblockAt) ≡ L .geometry
   pub clean : stateOn (view img) ≡ Clean
-  pub root : rootIn (view img rootAt) ≡ L .root
+  pub root : rootIn (L .geometry .edition) (view img rootAt) ≡ L .root
   pub marks : (i : ℕ) → i < L .geometry .files → numberIn (view img (entryAt i)) (entryField .mark) ≡ cond (isFree (L .slots i)) 0 65535
   pub directory : (i : ℕ) → catalogueOf (view img) .entries i ≡ catalogue L .entries i
   pub table : (e : ℕ) → catalogueOf (view img) .table e ≡ catalogue L .table e

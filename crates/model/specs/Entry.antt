@@ -1,5 +1,5 @@
--- "Directory entry: 0 mark (2; 0 free, 65535 occupied), 2 size (8), 10 version (4), 14 id (8), 22 mode (4), 26 access time (4),
--- 30 change time (4), 34 name length (2), 36 name."
+-- "Directory entry: 0 mark (2; 0 free, 65535 occupied), 2 size (8), 10 version (4), 14 id (8), 22 mode (4)": alike in both editions. Its
+-- times and its name stand where the edition's layout says.
 use Prim.Native.Nat.{ℕ}
 use mathlib.Core.Bool.{Bool, _||_, not, _&&_}
 use mathlib.Core.List.{List, [], _∷_}
@@ -8,6 +8,7 @@ use lib.ListN.{length, getD}
 use Rattle.model.specs.declared.Fields.{Fields}
 use Rattle.model.specs.Bytes.{Field, field, numberIn, setTo, withStores, raised, bytesFrom, zeroSector}
 use Rattle.model.specs.Search.{anyBelow}
+use Rattle.model.specs.Edition.{layoutOf}
 
 pub record EntryLayout : Type 0 where
   pub mark : Field
@@ -15,23 +16,9 @@ pub record EntryLayout : Type 0 where
   pub version : Field
   pub id : Field
   pub mode : Field
-  pub accessTime : Field
-  pub changeTime : Field
-  pub nameLength : Field
-  pub name : ℕ
 
 abbrev pub entryField : EntryLayout
-entryField = record {
-  mark = field 0 2;
-  size = field 2 8;
-  version = field 10 4;
-  id = field 14 8;
-  mode = field 22 4;
-  accessTime = field 26 4;
-  changeTime = field 30 4;
-  nameLength = field 34 2;
-  name = 36;
-}
+entryField = record { mark = field 0 2; size = field 2 8; version = field 10 4; id = field 14 8; mode = field 22 4 }
 
 abbrev pub freeMark : ℕ
 freeMark = 0
@@ -49,19 +36,19 @@ pub record Entry : Type 0 where
   pub changeTime : ℕ
   pub name : List ℕ
 
--- "the bytes that start at 36 and end with the name"
-unfoldable pub nameIn : List ℕ → List ℕ
-nameIn s = bytesFrom s (entryField .name) (numberIn s (entryField .nameLength))
+-- "the bytes that start at 36 and end with the name", on version 2 at 44
+unfoldable pub nameIn : ℕ → List ℕ → List ℕ
+nameIn edition s = bytesFrom s (layoutOf edition .name) (numberIn s (layoutOf edition .nameLength))
 
-unfoldable pub entryIn : List ℕ → Entry
-entryIn s = record {
+unfoldable pub entryIn : ℕ → List ℕ → Entry
+entryIn edition s = record {
   size = numberIn s (entryField .size);
   version = numberIn s (entryField .version);
   id = numberIn s (entryField .id);
   mode = numberIn s (entryField .mode);
-  accessTime = numberIn s (entryField .accessTime);
-  changeTime = numberIn s (entryField .changeTime);
-  name = nameIn s;
+  accessTime = numberIn s (layoutOf edition .accessTime);
+  changeTime = numberIn s (layoutOf edition .changeTime);
+  name = nameIn edition s;
 }
 
 unfoldable pub isOccupied : List ℕ → Bool
@@ -82,40 +69,38 @@ fieldsOf e = record {
 abbrev pub noFields : Fields
 noFields = record { size = 0; version = 0; id = 0; mode = 0; «access_time» = 0; «change_time» = 0; «name_length» = 0 }
 
--- "name length not 1 to 476 or containing 0"
-abbrev pub longestName : ℕ
-longestName = 476
-
 unfoldable pub hasZero : List ℕ → Bool
 hasZero n = anyBelow (λ k. eqb (getD n k 0) 0) (length n)
 
-unfoldable pub badName : List ℕ → Bool
-badName n = not (leb 1 (length n) && leb (length n) longestName) || hasZero n
+-- "name length not 1 to 476 or containing 0"; T-08: "Fault 22 and refusal 8 use 468 on version 2"
+unfoldable pub badName : ℕ → List ℕ → Bool
+badName edition n = not (leb 1 (length n) && leb (length n) (layoutOf edition .longestName)) || hasZero n
 
 -- T-07: "Create and rename accept only bytes 33 to 126 without the slash; others get 8"; the name that a file already has keeps the former rule
 abbrev pub isTypable : ℕ → Bool
 isTypable b = leb 33 b && leb b 126 && not (eqb b 47)
 
-unfoldable pub badNewName : List ℕ → Bool
-badNewName n = badName n || anyBelow (λ k. not (isTypable (getD n k 0))) (length n)
+unfoldable pub badNewName : ℕ → List ℕ → Bool
+badNewName edition n = badName edition n || anyBelow (λ k. not (isTypable (getD n k 0))) (length n)
 
 -- create's: "size 0, version 0, given id, mode and time (both times), bytes after the name zero"
-unfoldable pub newEntrySector : List ℕ → ℕ → ℕ → ℕ → List ℕ
-newEntrySector name id mode time =
+unfoldable pub newEntrySector : ℕ → List ℕ → ℕ → ℕ → ℕ → List ℕ
+newEntrySector edition name id mode time =
     withStores zeroSector
-    (setTo (entryField .mark) occupiedMark ∷ setTo (entryField .id) id ∷ setTo (entryField .mode) mode ∷ setTo (entryField .accessTime) time
-    ∷ setTo (entryField .changeTime) time ∷ setTo (entryField .nameLength) (length name) ∷ (entryField .name, name) ∷ [])
+    (setTo (entryField .mark) occupiedMark ∷ setTo (entryField .id) id ∷ setTo (entryField .mode) mode ∷ setTo (layoutOf edition .accessTime) time
+    ∷ setTo (layoutOf edition .changeTime) time ∷ setTo (layoutOf edition .nameLength) (length name) ∷ (layoutOf edition .name, name) ∷ [])
 
 -- write's and resize's: the size given, "version up, change time set"
-unfoldable pub updatedEntrySector : ℕ → ℕ → List ℕ → List ℕ
-updatedEntrySector size time s =
+unfoldable pub updatedEntrySector : ℕ → ℕ → ℕ → List ℕ → List ℕ
+updatedEntrySector edition size time s =
     withStores s
     (setTo (entryField .size) size ∷ setTo (entryField .version) (raised (numberIn s (entryField .version)))
-    ∷ setTo (entryField .changeTime) time ∷ [])
+    ∷ setTo (layoutOf edition .changeTime) time ∷ [])
 
 -- rename's: "a new name (bytes after it zero), raises its version, sets its change time"; all else stays
-unfoldable pub renamedEntrySector : List ℕ → ℕ → List ℕ → List ℕ
-renamedEntrySector name time s =
+unfoldable pub renamedEntrySector : ℕ → List ℕ → ℕ → List ℕ → List ℕ
+renamedEntrySector edition name time s =
     withStores s
-    (setTo (entryField .version) (raised (numberIn s (entryField .version))) ∷ setTo (entryField .changeTime) time
-    ∷ setTo (entryField .nameLength) (length name) ∷ (entryField .name, bytesFrom [] 0 longestName) ∷ (entryField .name, name) ∷ [])
+    (setTo (entryField .version) (raised (numberIn s (entryField .version))) ∷ setTo (layoutOf edition .changeTime) time
+    ∷ setTo (layoutOf edition .nameLength) (length name) ∷ (layoutOf edition .name, bytesFrom [] 0 (layoutOf edition .longestName))
+    ∷ (layoutOf edition .name, name) ∷ [])

@@ -25,9 +25,9 @@ unfoldable pub fault21 : Disk → FileNumber → Bool
 fault21 d i = not (eqb (numberIn (d (entryAt i)) (entryField .mark)) freeMark || isOccupied (d (entryAt i)))
 
 module _ (c : Catalogue) where
-  -- 22 occupied, and the name length isn't 1 to 476, or a name byte is 0, or size exceeds (N - K) x E
+  -- 22 occupied, and the name length isn't 1 to 476, on version 2 to 468, or a name byte is 0, or size exceeds (N - K) x E
   unfoldable pub fault22 : FileNumber → Bool
-  fault22 i = holdsOf (c .entries i) (λ e. badName (e .name) || ltb (usable (c .geometry) * extentBytes (c .geometry)) (e .size))
+  fault22 i = holdsOf (c .entries i) (λ e. badName (c .geometry .edition) (e .name) || ltb (usable (c .geometry) * extentBytes (c .geometry)) (e .size))
 
   -- 23 same name as an occupied entry of lower index
   unfoldable pub fault23 : FileNumber → Bool

@@ -12,7 +12,7 @@ use Rattle.model.specs.Refusals.{Conditions, verdictOf, andThen, given, 
 
 -- the conditions of a call that only names a file
 unfoldable pub nameConditions : Catalogue → List ℕ → Conditions
-nameConditions c name = (badName name, refusal 8) ∷ (not (isAt (fileNamed c name)), refusal 9) ∷ []
+nameConditions c name = (badName (c .geometry .edition) name, refusal 8) ∷ (not (isAt (fileNamed c name)), refusal 9) ∷ []
 
 abbrev pub notFound : Verdict → Found
 notFound v = record { verdict = v; index = record { 0 = 0 }; fields = noFields }

@@ -3,6 +3,7 @@ pub mod Bytes
 pub mod Search
 pub mod Geometry
 pub mod Disk
+pub mod Edition
 pub mod Superblock
 pub mod Root
 pub mod Entry

@@ -26,7 +26,7 @@ sizeNamed c name = entryOf c (indexOf (fileNamed c name)) .size
 
 unfoldable pub readConditions : Catalogue → List ℕ → ℕ → ℕ → ℕ → Conditions
 readConditions c name offset asked room =
-    (badName name || ltb longestTransfer asked, refusal 8) ∷ (not (isAt (fileNamed c name)), refusal 9)
+    (badName (c .geometry .edition) name || ltb longestTransfer asked, refusal 8) ∷ (not (isAt (fileNamed c name)), refusal 9)
     ∷ (ltb (sizeNamed c name) offset, refusal 12) ∷ (ltb room (readCount (sizeNamed c name) offset asked), refusal 14) ∷ []
 
 abbrev pub notRead : Verdict → BytesRead

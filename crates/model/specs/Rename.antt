@@ -14,6 +14,7 @@ use Rattle.model.specs.Bytes.{zeroSector}
 use Rattle.model.specs.Search.{isAt, indexOf, equalBytes}
 use Rattle.model.specs.Geometry.{FileNumber, rootAt, entryAt}
 use Rattle.model.specs.Disk.{Disk}
+use Rattle.model.specs.Edition.{badTime}
 use Rattle.model.specs.Root.{updatedRootSector}
 use Rattle.model.specs.Entry.{badName, badNewName, renamedEntrySector}
 use Rattle.model.specs.Catalogue.{Catalogue, catalogueOf, fileNamed}
@@ -21,30 +22,32 @@ use Rattle.model.specs.Refusals.{Conditions, refusal}
 use Rattle.model.specs.WriteList.{Plan, Record, sectorWrite, Decision, decided, answerOf, listAfter}
 use Rattle.model.specs.Delete.{freedSectors}
 
--- 8 bad old name, bad new name; 9 no file of the old name
-unfoldable pub renameConditions : Catalogue → List ℕ → List ℕ → Conditions
-renameConditions c old new = (badName old || badNewName new, refusal 8) ∷ (not (isAt (fileNamed c old)), refusal 9) ∷ []
+-- 8 bad time; 8 bad old name, bad new name; 9 no file of the old name
+unfoldable pub renameConditions : Catalogue → List ℕ → List ℕ → ℕ → Conditions
+renameConditions c old new time =
+    (badTime (c .geometry .edition) time, refusal 8)
+    ∷ (badName (c .geometry .edition) old || badNewName (c .geometry .edition) new, refusal 8) ∷ (not (isAt (fileNamed c old)), refusal 9) ∷ []
 
 -- file i's entry with its new name
-unfoldable pub renamedRecord : Disk → FileNumber → List ℕ → ℕ → Record
-renamedRecord d i name time = sectorWrite (entryAt i) (renamedEntrySector name time (d (entryAt i)))
+unfoldable pub renamedRecord : Catalogue → Disk → FileNumber → List ℕ → ℕ → Record
+renamedRecord c d i name time = sectorWrite (entryAt i) (renamedEntrySector (c .geometry .edition) name time (d (entryAt i)))
 
 -- and, by index, the entry of file j, which has the new name: 512 zeros, and its table sectors, as in delete
 unfoldable pub replacingRecords : Catalogue → Disk → FileNumber → FileNumber → List ℕ → ℕ → List Record
 replacingRecords c d i j name time =
-    let this = renamedRecord d i name time in
+    let this = renamedRecord c d i name time in
     let that = sectorWrite (entryAt j) zeroSector in
     cond (ltb i j) (this ∷ that ∷ []) (that ∷ this ∷ []) ++ freedSectors c d j 0
 
 -- by where the new name is: nowhere, or at a file that is replaced
 abbrev pub renamingRecords : Catalogue → Disk → FileNumber → Lowest → List ℕ → ℕ → List Record
-renamingRecords c d i Nowhere name time = renamedRecord d i name time ∷ []
+renamingRecords c d i Nowhere name time = renamedRecord c d i name time ∷ []
 renamingRecords c d i (At j) name time = replacingRecords c d i j name time
 
 unfoldable pub renamePlan : Catalogue → Disk → FileNumber → Lowest → List ℕ → ℕ → Plan
 renamePlan c d i place name time = record {
   dataSectors = [];
-  targets = sectorWrite rootAt (updatedRootSector time (d rootAt)) ∷ renamingRecords c d i place name time;
+  targets = sectorWrite rootAt (updatedRootSector (c .geometry .edition) time (d rootAt)) ∷ renamingRecords c d i place name time;
 }
 
 -- to itself: no plan
@@ -54,7 +57,7 @@ renamePlanned c d old new time = cond (equalBytes old new) none (some (renamePla
 unfoldable pub renameDecision : ℕ → Disk → List ℕ → List ℕ → ℕ → ℕ → Decision
 renameDecision len d old new time room =
     let c = catalogueOf d in
-    decided len d (renameConditions c old new) (renamePlanned c d old new time) room
+    decided len d (renameConditions c old new time) (renamePlanned c d old new time) room
 
 unfoldable pub renameAnswer : ℕ → Disk → List ℕ → List ℕ → ℕ → ℕ → Changed
 renameAnswer len d old new time room = answerOf d (renameDecision len d old new time room)

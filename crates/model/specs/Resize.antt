@@ -11,6 +11,7 @@ use Rattle.model.specs.Bytes.{bytesFrom}
 use Rattle.model.specs.Search.{isAt, indexOf}
 use Rattle.model.specs.Geometry.{FileNumber, entryAt, extentsFor}
 use Rattle.model.specs.Disk.{Disk}
+use Rattle.model.specs.Edition.{badTime}
 use Rattle.model.specs.Entry.{badName, updatedEntrySector}
 use Rattle.model.specs.Catalogue.{Catalogue, catalogueOf, fileNamed, entryOf}
 use Rattle.model.specs.Refusals.{Conditions, refusal}
@@ -26,7 +27,7 @@ zeros n = bytesFrom [] 0 n
 unfoldable pub shrinkPlan : Catalogue → Disk → FileNumber → ℕ → ℕ → Plan
 shrinkPlan c d i z time = record {
   dataSectors = [];
-  targets = sectorWrite (entryAt i) (updatedEntrySector z time (d (entryAt i))) ∷ freedSectors c d i (extentsFor (c .geometry) z);
+  targets = sectorWrite (entryAt i) (updatedEntrySector (c .geometry .edition) z time (d (entryAt i))) ∷ freedSectors c d i (extentsFor (c .geometry) z);
 }
 
 -- a resize to the same size is a write of 0 bytes: "done with an empty list"
@@ -35,16 +36,17 @@ resizePlanned c d i z time =
     let size = entryOf c i .size in
     cond (ltb z size) (some (shrinkPlan c d i z time)) (writePlanned c i d size (zeros (z - size)) time)
 
--- 8 bad name, or "a resize that grows a file by more than 65,536"; 9; 13
-unfoldable pub resizeConditions : Catalogue → List ℕ → ℕ → Conditions
-resizeConditions c name z =
-    (badName name || (isAt (fileNamed c name) && ltb (sizeNamed c name + longestTransfer) z), refusal 8)
+-- 8 bad time; 8 bad name, or "a resize that grows a file by more than 65,536"; 9; 13
+unfoldable pub resizeConditions : Catalogue → List ℕ → ℕ → ℕ → Conditions
+resizeConditions c name z time =
+    (badTime (c .geometry .edition) time, refusal 8)
+    ∷ (badName (c .geometry .edition) name || (isAt (fileNamed c name) && ltb (sizeNamed c name + longestTransfer) z), refusal 8)
     ∷ (not (isAt (fileNamed c name)), refusal 9) ∷ (noRoom c (indexOf (fileNamed c name)) z, refusal 13) ∷ []
 
 unfoldable pub resizeDecision : ℕ → Disk → List ℕ → ℕ → ℕ → ℕ → Decision
 resizeDecision len d name z time room =
     let c = catalogueOf d in
-    decided len d (resizeConditions c name z) (resizePlanned c d (indexOf (fileNamed c name)) z time) room
+    decided len d (resizeConditions c name z time) (resizePlanned c d (indexOf (fileNamed c name)) z time) room
 
 unfoldable pub resizeAnswer : ℕ → Disk → List ℕ → ℕ → ℕ → ℕ → Changed
 resizeAnswer len d name z time room = answerOf d (resizeDecision len d name z time room)

@@ -1,4 +1,4 @@
--- Summary and check. "The volume summary holds the geometry and the state." "The summary gives only 0 to 3."
+-- Summary and check. "The volume summary holds the geometry and the state." T-08: "The summary carries the edition", in the geometry. "The summary gives only 0 to 3."
 use Prim.Native.Nat.{ℕ}
 use mathlib.Core.Bool.{cond, not}
 use mathlib.Core.List.{[], _∷_}
@@ -20,7 +20,7 @@ use Rattle.model.specs.Refusals.{verdictOf, refusal, imageVerdict, given
 
 -- a refusal: "all other result numbers are then 0, a state reads clean"
 abbrev pub noSummary : Verdict → Summarized
-noSummary v = record { number = v .number; summary = record { geometry = record { files = 0; extents = 0; «extent_sectors» = 0 }; state = Clean } }
+noSummary v = record { number = v .number; summary = record { geometry = record { files = 0; extents = 0; «extent_sectors» = 0; edition = 0 }; state = Clean } }
 
 abbrev pub summaryOn : Disk → Summarized
 summaryOn d = record { number = 0; summary = record { geometry = geometryIn (d superblockAt); state = stateOn d } }

@@ -1,4 +1,4 @@
--- "Superblock: 0 F (2 bytes), 2 N (2), 4 S (4), 8 magic (8), 16 version (2) = 1, 18 journal length (2)."
+-- "Superblock: 0 F (2 bytes), 2 N (2), 4 S (4), 8 magic (8), 16 version (2) = 1, 18 journal length (2)." T-08: the version is the edition, 1 or 2.
 use Prim.Native.Nat.{ℕ}
 use mathlib.Core.Bool.{Bool, cond, _&&_}
 use mathlib.Core.List.{List, [], _∷_}
@@ -10,6 +10,7 @@ use Rattle.model.specs.Bytes.{Field, field, numberIn, setTo, withStores,
 use Rattle.model.specs.Search.{equalBytes}
 use Rattle.model.specs.Geometry.{extentSectors, superblockAt}
 use Rattle.model.specs.Disk.{Disk}
+use Rattle.model.specs.Edition.{isEdition}
 
 pub record SuperblockLayout : Type 0 where
   pub files : Field
@@ -27,15 +28,16 @@ superblockField =
 abbrev pub magic : List ℕ
 magic = 47 ∷ 71 ∷ 111 ∷ 111 ∷ 47 ∷ 70 ∷ 83 ∷ 47 ∷ []
 
--- "A reader compares bytes 8 to 15 with the magic"; and the version is 1
+-- "A reader compares bytes 8 to 15 with the magic"; and the version is 1 or 2: "Any other version is refused 2"
 unfoldable pub isVolume : List ℕ → Bool
-isVolume s = equalBytes (bytesFrom s (superblockField .magic) 8) magic && eqb (numberIn s (superblockField .version)) 1
+isVolume s = equalBytes (bytesFrom s (superblockField .magic) 8) magic && isEdition (numberIn s (superblockField .version))
 
 unfoldable pub geometryIn : List ℕ → Geometry
 geometryIn s = record {
   files = numberIn s (superblockField .files);
   extents = numberIn s (superblockField .extents);
   «extent_sectors» = numberIn s (superblockField .extentSectors);
+  edition = numberIn s (superblockField .version);
 }
 
 unfoldable pub journalLength : List ℕ → ℕ
@@ -57,5 +59,5 @@ unfoldable pub newSuperblock : Geometry → ℕ → List ℕ
 newSuperblock g n =
     withStores zeroSector
     (setTo (superblockField .files) (g .files) ∷ setTo (superblockField .extents) (g .extents)
-    ∷ setTo (superblockField .extentSectors) (extentSectors g) ∷ (superblockField .magic, magic) ∷ setTo (superblockField .version) 1
+    ∷ setTo (superblockField .extentSectors) (extentSectors g) ∷ (superblockField .magic, magic) ∷ setTo (superblockField .version) (g .edition)
     ∷ setTo (superblockField .journalLength) n ∷ [])

@@ -12,6 +12,7 @@ use Rattle.model.specs.Bytes.{bytesFrom, put}
 use Rattle.model.specs.Search.{tabulate, isAt, indexOf}
 use Rattle.model.specs.Geometry.{SectorNumber, FileNumber, extentSectors, entryAt, extentAt, extentsFor}
 use Rattle.model.specs.Disk.{Disk}
+use Rattle.model.specs.Edition.{badTime}
 use Rattle.model.specs.Entry.{badName, updatedEntrySector}
 use Rattle.model.specs.Table.{tableSectorOf, takenIn}
 use Rattle.model.specs.Catalogue.{Catalogue, catalogueOf, fileNamed, freeExtent, entryOf, extentOf}
@@ -67,7 +68,7 @@ module _ (c : Catalogue) (i : FileNumber) where
       record {
         dataSectors = tabulate (dataSector d offset bytes) (offset / 512) (touchedSectors offset (length bytes));
         targets =
-            sectorWrite (entryAt i) (updatedEntrySector z time (d (entryAt i)))
+            sectorWrite (entryAt i) (updatedEntrySector (c .geometry .edition) z time (d (entryAt i)))
             ∷ cond (grows z) (sectorWrite t (takenIn x i heldExtents (d t)) ∷ []) [];
       }
 
@@ -75,17 +76,18 @@ module _ (c : Catalogue) (i : FileNumber) where
   unfoldable pub writePlanned : Disk → ℕ → List ℕ → ℕ → Option Plan
   writePlanned d offset bytes time = cond (eqb (length bytes) 0) none (some (writePlan d offset bytes time))
 
--- 8 bad name or more than 65,536 bytes, 9, 12 offset greater than size, 13
-unfoldable pub writeConditions : Catalogue → List ℕ → ℕ → ℕ → Conditions
-writeConditions c name offset n =
+-- 8 bad time; 8 bad name or more than 65,536 bytes, 9, 12 offset greater than size, 13
+unfoldable pub writeConditions : Catalogue → List ℕ → ℕ → ℕ → ℕ → Conditions
+writeConditions c name offset n time =
     let i = indexOf (fileNamed c name) in
-    (badName name || ltb longestTransfer n, refusal 8) ∷ (not (isAt (fileNamed c name)), refusal 9)
+    (badTime (c .geometry .edition) time, refusal 8)
+    ∷ (badName (c .geometry .edition) name || ltb longestTransfer n, refusal 8) ∷ (not (isAt (fileNamed c name)), refusal 9)
     ∷ (ltb (sizeNamed c name) offset, refusal 12) ∷ (noRoom c i (sizeAfter c i offset n), refusal 13) ∷ []
 
 unfoldable pub writeDecision : ℕ → Disk → List ℕ → ℕ → List ℕ → ℕ → ℕ → Decision
 writeDecision len d name offset bytes time room =
     let c = catalogueOf d in
-    decided len d (writeConditions c name offset (length bytes)) (writePlanned c (indexOf (fileNamed c name)) d offset bytes time) room
+    decided len d (writeConditions c name offset (length bytes) time) (writePlanned c (indexOf (fileNamed c name)) d offset bytes time) room
 
 unfoldable pub writeAnswer : ℕ → Disk → List ℕ → ℕ → List ℕ → ℕ → ℕ → Changed
 writeAnswer len d name offset bytes time room = answerOf d (writeDecision len d name offset bytes time room)

@@ -13,11 +13,13 @@ pub struct Extent(pub u64);
 
 pub struct FileIndex(pub u64);
 
-// F files, N extents, S sectors in each extent. The superblock gives S four bytes, so no area's start can overflow.
+// F files, N extents, S sectors in each extent, and the edition, which is the superblock's version. The superblock gives S four bytes, so
+// no area's start can overflow.
 pub struct Geometry {
     pub files: u64,
     pub extents: u64,
     pub extent_sectors: u32,
+    pub edition: u64,
 }
 
 // What the superblock's journal length says; a waiting volume's entry count goes with it.
@@ -66,8 +68,8 @@ pub struct Fields {
     pub version: u32,
     pub id: u64,
     pub mode: u32,
-    pub access_time: u32,
-    pub change_time: u32,
+    pub access_time: u64,
+    pub change_time: u64,
     pub name_length: u64,
 }
 

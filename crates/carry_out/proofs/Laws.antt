@@ -1,8 +1,8 @@
 -- Laws of carrying out: writes one after the other, and the answer by the code's tests. Assumes nothing.
 use Prim.Native.Nat.{ℕ, _+_, _*_, _/_, _%_, _<_}
 use mathlib.Core.Path.{_≡_, refl, sym, ap}
-use mathlib.Core.Bool.{Bool, true, false, cond, not, _||_, false≢true}
-use mathlib.Core.List.{List, [], _∷_, _++_}
+use mathlib.Core.Bool.{Bool, true, false, not, _||_, false≢true}
+use mathlib.Core.List.{List, [], _∷_}
 use native.Mathlib.Nat.{zero-add}
 use lib.Dec.{eqb, leb}
 use lib.ListN.{length, getD}
@@ -10,17 +10,13 @@ use borrow.Author.Tests.{eq-eqb, ne-eqb, leb-false}
 use Rattle.model.specs.Bytes.{beAt, bytesFrom, put}
 use Rattle.model.specs.Search.{anyBelow, allBelow, tabulate}
 use Rattle.model.specs.Refusals.{verdictOf, refusal, isWhole}
-use Rattle.model.specs.WriteList.{Record, barrierNumber, stored, recordSize, numberStart, contentsStart}
+use Rattle.model.specs.WriteList.{barrierNumber, stored, recordSize, numberStart, contentsStart}
 use Rattle.model.specs.CarryOut.{positionIn, recordIn, recordsIn, badContents, badRecord, carryVerdict, carryAnswer, carryImage}
 use Rattle.laws.proofs.Bytes.{getD-bytesFrom}
+use Rattle.laws.proofs.WriteList.{stored-append}
 use Rattle.laws.proofs.Search.{allBelow-ext, tabulate-more}
 
 -- ---- writes
-
-pub stored-append : (a b : List Record) (img : List ℕ) → stored (a ++ b) img ≡ stored b (stored a img)
-unfolding stored
-stored-append [] b img = refl
-stored-append (r ∷ a) b img = stored-append a b (cond (eqb (r .sector) barrierNumber) img (put img (512 * r .sector) (r .contents)))
 
 pub stored-more : (list : List ℕ) (k : ℕ) (img : List ℕ) → stored (tabulate (recordIn list) 0 (k + 1)) img ≡ stored (recordIn list k ∷ []) (stored (tabulate (recordIn list) 0 k) img)
 stored-more list k img = rw (tabulate-more (recordIn list) 0 k, zero-add k) (stored-append (tabulate (recordIn list) 0 k) (recordIn list k ∷ []) img)

@@ -3,7 +3,7 @@ use model::CarriedOut;
 ghost use mathlib.Core.Path.{_≡_};
 ghost use mathlib.Core.Bool.{false, not};
 ghost use mathlib.Core.List.{[], _∷_};
-ghost use Prim.Native.Nat.{_+_, _*_, _/_, _≤_, max};
+ghost use Prim.Native.Nat.{_+_, _*_, _/_, _≤_};
 ghost use lib.Dec.{eqb};
 ghost use lib.ListN.{length, getD};
 ghost use Rattle.model.specs.Search.{anyBelow, allBelow};
@@ -11,15 +11,6 @@ ghost use Rattle.model.specs.WriteList.{recordSize, stored};
 ghost use Rattle.model.specs.CarryOut.{recordIn, recordsIn, badRecord, carryAnswer, carryImage};
 
 // ---- the judgement
-
-fn greater(a: u8, b: u8) -> u8
-    ensures { λ r. ⌜ r ≡ max a b ⌝ }
-{
-    if a <= b {
-        return b;
-    }
-    a
-}
 
 // Whether one of the 512 bytes from `at` on is not 0: the greatest of them tells, without a test for each.
 fn has_other(list: &[u8], at: usize) -> bool
@@ -29,7 +20,7 @@ fn has_other(list: &[u8], at: usize) -> bool
     let mut most: u8 = 0;
     let mut i: usize = 0;
     while i < 512 {
-        most = greater(most, list[at + i]);
+        most = fields::greater(most, list[at + i]);
         i += 1;
     }
     most != 0

@@ -20,7 +20,8 @@ use Rattle.laws.proofs.Bytes.{bytesFrom-more, bytesFrom-ext, getD-bytesFrom}
 use Rattle.laws.proofs.Search.{length-tabulate}
 use Rattle.laws.proofs.WriteList.{listBytes-append, emitted-then}
 use Rattle.commit.specs.Commit.{stagedTargets, commitGroups, Staged}
-use Rattle.commit.proofs.Records.{contents-emitted, written, bytes-tabulate, emitted-same, tabulate-list, sector-at, sectors-more, length-copies, copy-at, copies-more, closed-front}
+use Rattle.laws.proofs.WriteList.{sector-at, length-copies}
+use Rattle.commit.proofs.Records.{contents-emitted, written, bytes-tabulate, emitted-same, tabulate-list, sectors-more, copy-at, copies-more, closed-front}
 
 -- ---- target by target
 

@@ -1,9 +1,8 @@
--- Laws of the records of a write list: what stands in the list after they were put in, copies that grow by a target, the journal,
--- and how long a plan's list is. Assumes nothing.
+-- Laws of the records of a write list: what stands in the list after they were put in, copies that grow by a target, the
+-- journal. Assumes nothing.
 use Prim.Native.Nat.{ℕ, zero, suc, _+_, _-_, _*_, _≤_, _<_, min}
 use mathlib.Core.Path.{_≡_, refl, sym, ap, ap₂, _∙_}
 use mathlib.Core.List.{List, [], _∷_, _++_, append-assoc}
-use mathlib.Core.Option.{some}
 use native.Mathlib.Nat.{zero-add, not-suc-le-zero}
 use native.Mathlib.Omega.{arith}
 use lib.ListN.{length, getD, length-append, List·getD-append}
@@ -11,15 +10,13 @@ use lib.Seq.{ext-getD, getD-append-add, getD-append-seam}
 use Rattle.model.specs.declared.Geometry.{Geometry}
 use Rattle.model.specs.Bytes.{beBytes, bytesFrom, put}
 use Rattle.model.specs.Search.{tabulate}
-use Rattle.model.specs.Geometry.{superblockAt, journalAt, reserveAt}
-use Rattle.model.specs.Disk.{Disk}
-use Rattle.model.specs.Superblock.{geometryIn}
-use Rattle.model.specs.Journal.{journalSectors, entriesIn, journalSector}
-use Rattle.model.specs.WriteList.{Record, Group, Plan, sectorWrite, barrier, recordSize, contentsStart, recordBytes, listBytes, emit, Emitted}
-use Rattle.model.specs.WriteList.{staging, copies, sectorsOf, journalOf, groupA, groupsOf, groupsFor, closedAfter, closed, listLength, recordCount}
+use Rattle.model.specs.Geometry.{reserveAt}
+use Rattle.model.specs.Journal.{entriesIn, journalSector}
+use Rattle.model.specs.WriteList.{Record, Group, sectorWrite, barrier, recordSize, contentsStart, recordBytes, listBytes, emit, Emitted}
+use Rattle.model.specs.WriteList.{staging, copies, sectorsOf, closedAfter, closed, listLength}
 use Rattle.laws.proofs.Bytes.{length-beBytes, bytesFrom-ext, bytesFrom-bytesFrom, bytesFrom-put-other, bytesFrom-put-in}
 use Rattle.laws.proofs.Search.{length-tabulate, getD-tab0, tabulate-more, tabulate-ext}
-use Rattle.laws.proofs.WriteList.{length-recordBytes, listBytes-append, length-listBytes, emitted-then}
+use Rattle.laws.proofs.WriteList.{length-recordBytes, listBytes-append, length-listBytes, emitted-then, copies-are}
 
 -- ---- of two strings one after the other
 
@@ -128,29 +125,14 @@ module _ (s s′ t t′ : ℕ → ℕ) where
 
 -- ---- sector numbers and copies of targets
 
-pub sector-at : (ts : Group) (j : ℕ) → j < length ts → getD (sectorsOf ts) j 0 ≡ getD ts j barrier .sector
-sector-at [] j h = absurd (not-suc-le-zero h)
-sector-at (t ∷ ts) zero h = refl
-sector-at (t ∷ ts) (suc j) h = sector-at ts j (omega arith)
-
 pub sectors-more : (ts : Group) (r : Record) → sectorsOf (ts ++ (r ∷ [])) ≡ sectorsOf ts ++ (r .sector ∷ [])
 sectors-more [] r = refl
 sectors-more (t ∷ ts) r = ap (λ (l : List ℕ). t .sector ∷ l) (sectors-more ts r)
-
-pub length-copies : (stages : List ℕ) (ts : Group) → length (copies stages ts) ≡ length ts
-unfolding copies
-length-copies stages ts = length-tabulate (λ k. sectorWrite (getD stages k 0) (getD ts k barrier .contents)) 0 (length ts)
 
 pub copy-at : (stages : List ℕ) (ts : Group) (k : ℕ) → k < length ts → getD (copies stages ts) k barrier .contents ≡ getD ts k barrier .contents
 unfolding copies
 copy-at stages ts k h =
     ap (λ (r : Record). r .contents) (getD-tab0 (λ k. sectorWrite (getD stages k 0) (getD ts k barrier .contents)) (length ts) k barrier h)
-
-copies-are : (g : Geometry) (ts : Group) → copies (staging g (length ts)) ts ≡ tabulate (λ k. sectorWrite (reserveAt g + k) (getD ts k barrier .contents)) 0 (length ts)
-unfolding copies staging
-copies-are g ts =
-    tabulate-ext _ _ 0 0 (length ts)
-    (λ k l. ap (λ (s : ℕ). sectorWrite s (getD ts (0 + k) barrier .contents)) (getD-tab0 (λ k. reserveAt g + k) (length ts) (0 + k) 0 (omega arith)))
 
 -- one more target, one more copy
 pub copies-more : (g : Geometry) (ts : Group) (r : Record)
@@ -177,25 +159,6 @@ closed-front a b (h ∷ gs) =
     ap (λ (x : List Record). closedAfter x gs)
     (append-assoc (a ++ b) h (barrier ∷ []) ∙ append-assoc a b (h ++ (barrier ∷ [])) ∙ ap (λ (x : List Record). a ++ x) (sym (append-assoc b h (barrier ∷ []))))
     ∙ closed-front a (b ++ h ++ (barrier ∷ [])) gs
-
-length-sectors : (ts : Group) → length (sectorsOf ts) ≡ length ts
-length-sectors [] = refl
-length-sectors (t ∷ ts) = ap suc (length-sectors ts)
-
-length-journalOf : (g : Geometry) (stages targets : List ℕ) → length (journalOf g stages targets) ≡ journalSectors (length targets)
-unfolding journalOf
-length-journalOf g stages targets =
-    length-tabulate (λ j. sectorWrite (journalAt g + j) (journalSector (λ k. getD stages k 0) (λ k. getD targets k 0) (length targets) j)) 0 (journalSectors (length targets))
-
--- how many records a plan's list has
-plan-length : (g : Geometry) (d : Disk) (p : Plan) → length (closed (groupsOf g d p)) ≡ recordCount (length (p .dataSectors)) (length (p .targets))
-unfolding groupsOf groupA
-plan-length g d p = simp (length-append, length-copies, length-journalOf, length-sectors) (omega arith)
-
--- how many bytes it takes, by which refusal 14 is decided
-pub plan-needs : (d : Disk) (p : Plan) → listLength (groupsFor d (some p)) ≡ recordCount (length (p .dataSectors)) (length (p .targets)) * recordSize
-unfolding groupsFor
-plan-needs d p = ap (λ n. n * recordSize) (plan-length (geometryIn (d superblockAt)) d p)
 
 -- the next position says the same
 pub emitted-length : {l m : List ℕ} {j : ℕ} (gs : List Group) → Emitted l 0 (closed gs) m j → j * recordSize ≡ listLength gs

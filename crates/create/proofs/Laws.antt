@@ -27,7 +27,7 @@ use Rattle.laws.proofs.Booleans.{or-none}
 use Rattle.laws.proofs.Search.{Hit, scan-hit}
 use Rattle.laws.proofs.Entry.{new-name-good}
 use Rattle.laws.proofs.Named.{short-name}
-use Rattle.commit.proofs.Records.{plan-needs}
+use Rattle.laws.proofs.WriteList.{plan-needs}
 use Rattle.commit.proofs.Decided.{refused-by-own, refused-as-short, done-as-planned}
 
 -- ---- what the searches and conditions say

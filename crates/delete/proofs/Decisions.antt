@@ -22,7 +22,7 @@ use Rattle.model.specs.WriteList.{Record, Plan, Emitted, closed, recordSize, re
 use Rattle.model.specs.Find.{nameConditions}
 use Rattle.model.specs.Delete.{freedSector, freedSectors, deletePlan, deleteDecision, deleteAnswer, deleteList}
 use Rattle.model.specs.Resize.{shrinkPlan}
-use Rattle.commit.proofs.Records.{plan-needs}
+use Rattle.laws.proofs.WriteList.{plan-needs}
 use Rattle.commit.proofs.Decided.{refused-by-own, refused-as-short, done-as-planned}
 use Rattle.delete.proofs.Laws.{shrink-targets, shrink-alone}
 

@@ -2,7 +2,8 @@
 use model::Sector;
 ghost use mathlib.Core.Path.{_≡_};
 ghost use mathlib.Core.List.{[]};
-ghost use Prim.Native.Nat.{ℕ, _+_, _*_, _≤_, _<_, _^_, min};
+ghost use Prim.Native.Nat.{ℕ, _+_, _*_, _≤_, _<_, _^_, min, max};
+ghost use lib.Dec.{eqb};
 ghost use lib.ListN.{length, getD};
 ghost use Rattle.model.specs.Bytes.{beAt, beBytes, bytesFrom, put};
 ghost use Rattle.model.specs.Disk.{view};
@@ -118,12 +119,56 @@ pub fn starts_with(part: &[u8], text: &[u8]) -> bool
     true
 }
 
-// Whether both are the same bytes.
+// The lesser and the greater of two numbers.
+pub fn least(a: u64, b: u64) -> u64
+    ensures { λ r. ⌜ r ≡ min a b ⌝ }
+{
+    if a <= b {
+        return a;
+    }
+    b
+}
+
+pub fn most(a: u64, b: u64) -> u64
+    ensures { λ r. ⌜ r ≡ max a b ⌝ }
+{
+    if a <= b {
+        return b;
+    }
+    a
+}
+
+// 0 of equal bytes, else 1.
+fn unlike(a: u8, b: u8) -> u8
+    ensures { λ r. ⌜ eqb r 0 ≡ eqb a b ⌝ }
+{
+    if a == b {
+        return 0;
+    }
+    1
+}
+
+pub fn greater(a: u8, b: u8) -> u8
+    ensures { λ r. ⌜ r ≡ max a b ⌝ }
+{
+    if a <= b {
+        return b;
+    }
+    a
+}
+
+// Whether both are the same bytes: sectors mostly are, so that the bytes are compared without a test for each.
 pub fn is_same(a: &[u8], b: &[u8]) -> bool
     ensures { λ r. ⌜ r ≡ equalBytes (now (a .entry)) (now (b .entry)) ⌝ }
 {
     if a.len() == b.len() {
-        return starts_with(a, b);
+        let mut most: u8 = 0;
+        let mut i: usize = 0;
+        while i < b.len() {
+            most = greater(most, unlike(a[i], b[i]));
+            i += 1;
+        }
+        return most == 0;
     }
     false
 }

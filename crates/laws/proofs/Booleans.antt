@@ -1,9 +1,12 @@
 -- Laws of Booleans and of tests of numbers. Assumes nothing.
-use Prim.Native.Nat.{ℕ, _≤_, _<_}
+use Prim.Native.Nat.{ℕ, _≤_, _<_, max}
 use mathlib.Core.Path.{_≡_, refl, sym, ap, _∙_}
 use mathlib.Core.Bool.{Bool, true, false, not, _&&_, _||_, true≢false, false≢true}
-use lib.Dec.{leb, ltb}
-use borrow.Author.Tests.{le-leb, lt-leb, lt-ltb, leb-true, ltb-true, ltb-false}
+use native.Mathlib.Omega.{arith}
+use lib.Dec.{eqb, leb, ltb}
+use borrow.Author.Tests.{eq-eqb, ne-eqb, eqb-true, eqb-false, le-leb, lt-leb, lt-ltb, leb-true, ltb-true, ltb-false}
+-- the definitions' own proofs need it too
+pub use Rattle.model.proofs.Areas.{and-true}
 
 pub and-left : (a b : Bool) → (a && b) ≡ true → a ≡ true
 and-left true b e = refl
@@ -12,9 +15,6 @@ and-left false b e = e
 pub and-right : (a b : Bool) → (a && b) ≡ true → b ≡ true
 and-right true b e = e
 and-right false b e = absurd (false≢true e)
-
-pub and-true : (a b : Bool) → (a && b) ≡ true → (a ≡ true) × (b ≡ true)
-and-true a b e = (and-left a b e, and-right a b e)
 
 pub and-yes : (a b : Bool) → a ≡ true → b ≡ true → (a && b) ≡ true
 and-yes a b e f = rw (e, f)
@@ -56,3 +56,16 @@ range-no a b j h = go (leb a j) (ltb j b) refl refl
 pub or-none : (a b : Bool) → (a || b) ≡ false → (a ≡ false) × (b ≡ false)
 or-none true b e = absurd (true≢false e)
 or-none false b e = (refl, e)
+
+-- the greater is 0 if both are
+pub max-zero : (m u : ℕ) → eqb (max m u) 0 ≡ (eqb u 0 && eqb m 0)
+max-zero m u = go (eqb u 0) refl (eqb m 0) refl
+  where
+    go : (a : Bool) → eqb u 0 ≡ a → (b : Bool) → eqb m 0 ≡ b → eqb (max m u) 0 ≡ (a && b)
+    go true p true q = eq-eqb (max m u) 0 (omega (arith, eqb-true u 0 p, eqb-true m 0 q))
+    go true p false q =
+        let n : (m ≡ 0) → ⊥ = eqb-false m 0 q in
+        ne-eqb (max m u) 0 (λ e. omega arith)
+    go false p b q =
+        let n : (u ≡ 0) → ⊥ = eqb-false u 0 p in
+        ne-eqb (max m u) 0 (λ e. omega arith)

@@ -1,13 +1,23 @@
--- Laws of write lists: a record's bytes, and emissions that follow one another. Assumes nothing.
-use Prim.Native.Nat.{ℕ, suc, _+_, _*_, _≤_}
+-- Laws of write lists: a record's bytes, emissions that follow one another, writes one after the other, and how long a plan's list is. Assumes
+-- nothing.
+use Prim.Native.Nat.{ℕ, zero, suc, _+_, _*_, _≤_, _<_}
 use mathlib.Core.Path.{_≡_, refl, ap, sym, _∙_}
 use mathlib.Core.List.{List, [], _∷_, _++_, append-assoc, append-nil}
-use native.Mathlib.Nat.{add-zero}
+use mathlib.Core.Option.{some}
+use native.Mathlib.Nat.{add-zero, not-suc-le-zero}
 use native.Mathlib.Omega.{arith}
-use lib.ListN.{length, length-append}
+use lib.ListN.{length, getD, length-append, length-map}
+use Rattle.model.specs.declared.Geometry.{Geometry}
 use Rattle.model.specs.Bytes.{beBytes, bytesFrom, put}
-use Rattle.model.specs.WriteList.{Record, sectorWrite, recordSize, numberStart, contentsStart, recordBytes, listBytes, emit, Emitted}
+use Rattle.model.specs.Search.{tabulate}
+use Rattle.model.specs.Geometry.{superblockAt, journalAt, reserveAt}
+use Rattle.model.specs.Disk.{Disk}
+use Rattle.model.specs.Superblock.{geometryIn}
+use Rattle.model.specs.Journal.{journalSectors, journalSector}
+use Rattle.model.specs.WriteList.{Record, Group, Plan, sectorWrite, barrier, recordSize, numberStart, contentsStart, recordBytes, listBytes, emit, Emitted, stored}
+use Rattle.model.specs.WriteList.{staging, copies, sectorsOf, journalOf, groupA, groupsOf, groupsFor, listLength, recordCount}
 use Rattle.laws.proofs.Bytes.{length-beBytes, length-bytesFrom, length-put, bytesFrom-all, put-append, put-nil, put-in}
+use Rattle.laws.proofs.Search.{length-tabulate, getD-tab0, tabulate-ext}
 
 pub length-recordBytes : (p : ℕ) (r : Record) → length (recordBytes p r) ≡ recordSize
 unfolding recordBytes
@@ -72,3 +82,46 @@ emitted-then {l} {m} {m′} {k} {j} {j′} {a} {b} p q =
     let h = p .holds in
     let n = p .next in
     record { holds = q .holds ∙ rw (h, n) (sym (emit-append l k a b)); next = simp length-append (omega arith) }
+
+-- ---- writes on an image
+
+pub stored-append : (a b : List Record) (img : List ℕ) → stored (a ++ b) img ≡ stored b (stored a img)
+unfolding stored
+stored-append [] b img = refl
+stored-append (r ∷ a) b img = stored-append a b _
+
+-- ---- a plan's records
+
+pub sector-at : (ts : Group) (k : ℕ) → k < length ts → getD (sectorsOf ts) k 0 ≡ getD ts k barrier .sector
+sector-at [] k h = absurd (not-suc-le-zero h)
+sector-at (t ∷ ts) zero h = refl
+sector-at (t ∷ ts) (suc k) h = sector-at ts k (omega arith)
+
+pub copies-are : (g : Geometry) (ts : Group) → copies (staging g (length ts)) ts ≡ tabulate (λ k. sectorWrite (reserveAt g + k) (getD ts k barrier .contents)) 0 (length ts)
+unfolding copies staging
+copies-are g ts =
+    tabulate-ext _ _ 0 0 (length ts)
+    (λ k l. ap (λ (s : ℕ). sectorWrite s (getD ts (0 + k) barrier .contents)) (getD-tab0 (λ k. reserveAt g + k) (length ts) (0 + k) 0 (omega arith)))
+
+pub length-copies : (stages : List ℕ) (ts : Group) → length (copies stages ts) ≡ length ts
+unfolding copies
+length-copies stages ts = length-tabulate (λ k. sectorWrite (getD stages k 0) (getD ts k barrier .contents)) 0 (length ts)
+
+length-journalOf : (g : Geometry) (stages targets : List ℕ) → length (journalOf g stages targets) ≡ journalSectors (length targets)
+unfolding journalOf
+length-journalOf g stages targets =
+    length-tabulate (λ j. sectorWrite (journalAt g + j) (journalSector (λ k. getD stages k 0) (λ k. getD targets k 0) (length targets) j)) 0 (journalSectors (length targets))
+
+-- how many records group A has; how many bytes a plan's list takes, by which refusal 14 is decided
+length-groupA : (g : Geometry) (p : Plan)
+    → length (groupA g (staging g (length (p .targets))) p) ≡ length (p .dataSectors) + length (p .targets) + journalSectors (length (p .targets))
+unfolding groupA
+length-groupA g p = simp (length-append, length-copies, length-journalOf, length-map) (omega arith)
+
+pub length-groups : (g : Geometry) (d : Disk) (p : Plan) → listLength (groupsOf g d p) ≡ recordCount (length (p .dataSectors)) (length (p .targets)) * recordSize
+unfolding groupsOf
+length-groups g d p = simp (length-append) (omega (arith, length-groupA g p))
+
+pub plan-needs : (d : Disk) (p : Plan) → listLength (groupsFor d (some p)) ≡ recordCount (length (p .dataSectors)) (length (p .targets)) * recordSize
+unfolding groupsFor
+plan-needs d p = length-groups (geometryIn (d superblockAt)) d p

@@ -10,7 +10,7 @@ use Rattle.model.specs.declared.Geometry.{Geometry}
 use Rattle.model.specs.Geometry.{extentSectors, mostTargets, reserveExtents, mostFiles, inBounds}
 use Rattle.model.specs.Opened.{Bounded}
 
-and-true : (a b : Bool) → (a && b) ≡ true → (a ≡ true) × (b ≡ true)
+pub and-true : (a b : Bool) → (a && b) ≡ true → (a ≡ true) × (b ≡ true)
 and-true true b h = (refl, h)
 and-true false b h = absurd (false≢true h)
 

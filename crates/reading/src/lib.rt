@@ -8,7 +8,7 @@ use model::Listed;
 use model::Lowest;
 use model::Verdict;
 ghost use mathlib.Core.Path.{_≡_};
-ghost use Prim.Native.Nat.{_+_, _*_, _≤_, _<_, _^_, min};
+ghost use Prim.Native.Nat.{_+_, _*_, _≤_, _<_, _^_};
 ghost use lib.ListN.{length};
 ghost use Rattle.model.specs.Bytes.{numberIn, put};
 ghost use Rattle.model.specs.Geometry.{entryAt};
@@ -118,15 +118,6 @@ pub fn list_in(img: &[u8], index: u64, out: &mut [u8]) -> Listed
     not_listed(volume::refusal(8))
 }
 
-fn least(a: u64, b: u64) -> u64
-    ensures { λ r. ⌜ r ≡ min a b ⌝ }
-{
-    if a <= b {
-        return a;
-    }
-    b
-}
-
 // Reads of file i, whose size is given: refusals 12 and 14, or the bytes.
 fn read_file(
     img: &[u8],
@@ -145,7 +136,7 @@ fn read_file(
     if size < offset {
         return not_read(volume::refusal(12));
     }
-    let count = least(asked, size - offset);
+    let count = fields::least(asked, size - offset);
     if count as usize <= out.len() {
         spans::read_span(img, g, i, offset, out, 0, count as usize);
         let verdict = volume::refusal(0);

@@ -17,7 +17,7 @@ use Rattle.model.specs.Catalogue.{catalogueOf}
 use Rattle.model.specs.WriteList.{Record, recordSize, recordCount, sectorWrite, groupsFor, listLength}
 use Rattle.model.specs.Delete.{freedSectors}
 use Rattle.model.specs.Rename.{renamedRecord, replacingRecords, renamingRecords, renamePlan}
-use Rattle.commit.proofs.Records.{plan-needs}
+use Rattle.laws.proofs.WriteList.{plan-needs}
 use Rattle.delete.proofs.Decisions.{length-freed}
 use Rattle.rename.specs.Renaming.{renamingCount}
 

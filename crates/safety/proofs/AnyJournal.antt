@@ -34,7 +34,8 @@ use Rattle.safety.proofs.Superblock.{length-withJournalLength, journalL
 use Rattle.safety.proofs.Superblock.{when-done, when-none, byRoom, answers}
 use Rattle.safety.proofs.Landing.{Begun, Ended, both-end, cut-begun}
 use Rattle.model.proofs.Areas.{bounds}
-use Rattle.safety.proofs.Plan.{metadata-lt, metadata-no, metadata-directory, metadata-table}
+use Rattle.laws.proofs.Areas.{metadata-below}
+use Rattle.safety.proofs.Plan.{metadata-no, metadata-directory, metadata-table}
 use Rattle.safety.proofs.Changing.{earlier-done, later-done}
 use Rattle.safety.proofs.Bridge.{Carriable, toSector, isBarrier, carries-out, all-closed, all-fit, cut-bytes, NoBarrier, ListCarries}
 use Rattle.safety.proofs.Replayed.{replayed-by, target-metadata, target-once, replayed-at, replayed-miss, waiting-recovers, length-recovery, zero-stays, source-same, target-same}
@@ -116,7 +117,7 @@ module _ (img : List ℕ) (n room : ℕ) (st : stateOn (view img) ≡ Waiting n)
       record { within = omega arith; number = λ e. omega (arith, b .0, b .1); sector = l }
 
   pub C-in : All (InImage (length img)) C
-  C-in = replayed-by g d n (InImage (length img)) (λ k l. in-image _ _ (metadata-lt g _ (target-metadata g d n good k l)) (length-view img _))
+  C-in = replayed-by g d n (InImage (length img)) (λ k l. in-image _ _ (metadata-below g _ (target-metadata g d n good k l)) (length-view img _))
 
   pub last-in : InImage (length img) last
   last-in = in-image 0 _ (omega arith) (length-withJournalLength 0 (view img superblockAt) ∙ length-view img superblockAt)
@@ -247,7 +248,7 @@ module _ (img : List ℕ) (n room : ℕ) (st : stateOn (view img) ≡ Waiting n)
       let long : length (closed (C ∷ (last ∷ []) ∷ [])) * recordSize ≡ (n + 3) * recordSize = length-recovery g d n good in
       let c : All P (C ++ (last ∷ [])) =
       all-append P C (last ∷ [])
-      (replayed-by g d n P (λ k l. let t = metadata-lt g _ (target-metadata g d n good k l) in low _ t (in-image _ _ t (length-view img _)))) (low last (omega arith) last-in, tt) in
+      (replayed-by g d n P (λ k l. let t = metadata-below g _ (target-metadata g d n good k l) in low _ t (in-image _ _ t (length-view img _)))) (low last (omega arith) last-in, tt) in
       subst (ListCarries img) (sym (when-done (length img) (view img) _ (begun-recovers img first-begun) room accepted))
       (record {
         whole = carries-out img (closed (C ∷ (last ∷ []) ∷ [])) (volume .whole) (all-closed P (isBarrier refl) (C ∷ (last ∷ []) ∷ []) c) (omega (arith, few));

@@ -16,6 +16,7 @@ use Rattle.model.specs.Search.{tabulate, concatenated}
 use Rattle.model.specs.Disk.{Disk, view}
 use Rattle.model.specs.WriteList.{Record, sectorWrite, barrierNumber, barrier, stored, Group, closedAfter, closed}
 use Rattle.model.specs.Cut.{kept, landedOf}
+use Rattle.laws.proofs.WriteList.{stored-append}
 use Rattle.laws.proofs.Booleans.{or-none}
 use Rattle.laws.proofs.Bytes.{length-put}
 use Rattle.laws.proofs.Disk.{view-same, view-other}
@@ -236,11 +237,6 @@ length-stored (r ∷ rs) img = length-stored rs _ ∙ go (eqb (r .sector) barrie
     go : (b : Bool) → length (cond b img (put img (512 * r .sector) (r .contents))) ≡ length img
     go true = refl
     go false = length-put img (512 * r .sector) (r .contents)
-
-pub stored-append : (a b : List Record) (img : List ℕ) → stored (a ++ b) img ≡ stored b (stored a img)
-unfolding stored
-stored-append [] b img = refl
-stored-append (r ∷ a) b img = stored-append a b _
 
 -- groups one after the other, without their barriers
 abbrev pub joined : List Group → Group

@@ -17,18 +17,20 @@ use Rattle.model.specs.WriteList.{Record, sectorWrite, barrier, barrierNumber, 
 use Rattle.model.specs.Superblock.{journalLength, withJournalLength, stateOf, stateOn}
 use Rattle.model.specs.Journal.{journalSectors, journalSector}
 use Rattle.model.specs.Refusals.{isDone}
-use Rattle.model.specs.Recovery.{recoveryVerdict, recoveryListed, differs, isCopied, copiedEntry, copied, entryWrite, someDiffer, Recovery, entire, slice, verdictBy, listedBy, isLast}
+use Rattle.model.specs.Recovery.{differs, isCopied, copiedEntry, copied, entryWrite, someDiffer, Recovery, entire, slice, verdictBy, listedBy, isLast}
 use Rattle.model.specs.Cut.{Cut, kept, landedOf, landed, markedBy, startMark}
 use Rattle.laws.proofs.Disk.{length-view, same-view}
 use Rattle.laws.proofs.Search.{none-at}
 use Rattle.safety.proofs.Searches.{same-true}
 use Rattle.safety.proofs.Apply.{over, apply, hits, apply-nil, apply-append, apply-miss, All, all-append, all-tab0, all-at, all-by, all-concatenated, all-kept, all-miss, miss-all, over-same}
-use Rattle.safety.proofs.Apply.{kept-miss, kept-one, joined, stored-append, stored-closed, length-stored, InImage, stored-view}
+use Rattle.laws.proofs.WriteList.{stored-append}
+use Rattle.safety.proofs.Apply.{kept-miss, kept-one, joined, stored-closed, length-stored, InImage, stored-view}
 use Rattle.safety.proofs.Landing.{Begun, Ended, both-end, cut-begun, part}
 use Rattle.safety.proofs.Journal.{length-entriesIn}
 use Rattle.safety.proofs.Superblock.{length-withJournalLength, journalLength-with, state-clean, Volume, volume-with, volume-long, Recovers, when-done, when-some, when-none, recovers-clean}
 use Rattle.safety.proofs.Superblock.{Slices, slices-clean, slice-done, slice-some, slice-none}
-use Rattle.safety.proofs.Plan.{UsableGeometry, WellFormed, Metadata, UsableSector, Whole, metadata-lt, volume-is, A, A-is, copyWrites, journalWrites, copyContents, journalContents}
+use Rattle.laws.proofs.Areas.{metadata-below}
+use Rattle.safety.proofs.Plan.{UsableGeometry, WellFormed, Metadata, UsableSector, Whole, volume-is, A, A-is, copyWrites, journalWrites, copyContents, journalContents}
 use Rattle.safety.proofs.Plan.{journal-few, A-zero, mark, clear, committed, final, Pending, recovers-pending, entry-writes, pending-volume, pending-waits, slices-pending}
 
 -- an image on which a plan is carried out: its superblock says clean
@@ -108,7 +110,7 @@ module _ (g : Geometry) (img0 : List ℕ) (p : Plan) (geo : UsableGeometry g) (o
       (λ j h. in-image _ (omega arith) (length-journalContents g p j))))
 
   C-in-image : All (InImage n) C
-  C-in-image = all-in-image (Metadata g) (λ w h. let l : w .sector < dataAt g = metadata-lt g (w .sector) h in omega arith) C (ok .metadata) (ok .wholeTargets)
+  C-in-image = all-in-image (Metadata g) (λ w h. let l : w .sector < dataAt g = metadata-below g (w .sector) h in omega arith) C (ok .metadata) (ok .wholeTargets)
 
   pub groups-in-image : All (InImage n) (joined (groups g img0 p))
   unfolding groupsOf

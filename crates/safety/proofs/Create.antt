@@ -30,7 +30,8 @@ use Rattle.safety.proofs.Searches.{place-found, place-none, or-left-no,
 use Rattle.safety.proofs.Apply.{over-here, over-skip, over-none}
 use Rattle.safety.proofs.Plan.{UsableGeometry, WellFormed, metadata-directory}
 use Rattle.safety.proofs.Commit.{Ready, uncut, ready-uncut}
-use Rattle.safety.proofs.Frame.{Outside, Shows, done-shows, length-groups}
+use Rattle.laws.proofs.WriteList.{length-groups}
+use Rattle.safety.proofs.Frame.{Outside, Shows, done-shows}
 use Rattle.safety.proofs.Bounds.{copies-fit, count-waits, no-extent}
 use Rattle.safety.proofs.Rep.{Rep, rep-geometry}
 use Rattle.safety.proofs.Changing.{Passed, Carries, effect-changing, Decides, same-changing}

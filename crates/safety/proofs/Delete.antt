@@ -27,7 +27,8 @@ use Rattle.safety.proofs.Searches.{place-found}
 use Rattle.safety.proofs.Apply.{over, over-here, over-skip, over-none, All}
 use Rattle.safety.proofs.Plan.{UsableGeometry, WellFormed, metadata-directory}
 use Rattle.safety.proofs.Commit.{Ready, uncut, ready-uncut}
-use Rattle.safety.proofs.Frame.{Shows, done-shows, length-groups}
+use Rattle.laws.proofs.WriteList.{length-groups}
+use Rattle.safety.proofs.Frame.{Shows, done-shows}
 use Rattle.safety.proofs.Bounds.{copies-fit, count-waits}
 use Rattle.safety.proofs.Rep.{Rep, rep-geometry}
 use Rattle.safety.proofs.Changing.{Passed, Carries, effect-changing, Decides, same-changing}

@@ -10,16 +10,15 @@ use lib.ListN.{length, drop, length-append}
 use Rattle.model.specs.declared.Geometry.{Geometry}
 use Rattle.model.specs.Geometry.{superblockAt, journalAt, dataAt, reserveAt, volumeSectors}
 use Rattle.model.specs.Disk.{Disk, view}
-use Rattle.model.specs.WriteList.{Record, sectorWrite, barrierNumber, barrier, stored, Plan, Group, groupsOf, closedAfter, closed, listLength, recordSize, recordCount}
-use Rattle.model.specs.Superblock.{journalLength, withJournalLength, stateOf}
-use Rattle.model.specs.Journal.{journalSectors}
+use Rattle.model.specs.WriteList.{Record, barrierNumber, barrier, stored, Plan, Group, closedAfter, closed}
+use Rattle.model.specs.Superblock.{journalLength, stateOf}
 use Rattle.model.specs.Recovery.{isMetadata}
 use Rattle.model.specs.Cut.{kept}
-use Rattle.laws.proofs.Search.{length-tabulate}
 use Rattle.safety.proofs.Apply.{over, apply, hits, over-append, over-miss, over-skip, over-none, kept-miss, kept-nil, hits-append, stored-view}
 use Rattle.safety.proofs.Apply.{All, all-map, all-miss, InImage, length-stored}
 use Rattle.safety.proofs.Superblock.{Volume, volume-long}
-use Rattle.safety.proofs.Plan.{UsableGeometry, WellFormed, Metadata, Whole, metadata-no, metadata-lt, A, A-is}
+use Rattle.laws.proofs.Areas.{metadata-below}
+use Rattle.safety.proofs.Plan.{UsableGeometry, WellFormed, Metadata, Whole, metadata-no, A, A-is}
 use Rattle.safety.proofs.Plan.{copyWrites, journalWrites, journal-miss, copies-miss, mark, clear, committed, final}
 use Rattle.safety.proofs.Commit.{Ready, partOf, part-in-image, uncut, uncut-shows}
 
@@ -77,7 +76,7 @@ module _ (g : Geometry) (img : List ℕ) (ws : Group) (geo : UsableGeometry g) (
   all-in-image : (vs : Group) → All (Metadata g) vs → All Whole vs → All (InImage (length img)) vs
   all-in-image [] h q = tt
   all-in-image (w ∷ vs) h q =
-      let l : w .sector < dataAt g = metadata-lt g (w .sector) (h .0) in
+      let l : w .sector < dataAt g = metadata-below g (w .sector) (h .0) in
       let r : 512 * volumeSectors g ≤ length img = volume-long g (length img) (view img superblockAt) (ready .volume) in
       let s : volumeSectors g < barrierNumber = geo .small in
       (record { within = omega arith; number = λ e. omega arith; sector = q .0 }, all-in-image vs (h .1) (q .1))
@@ -115,18 +114,3 @@ pub closed-cons : (x : Group) (gs : List Group) → length (closed (x ∷ gs)) �
 closed-cons x gs =
     let f : length ([] ++ x ++ (barrier ∷ [])) ≡ length x + 1 = simp length-append (omega arith) in
     length-after ([] ++ x ++ (barrier ∷ [])) gs ∙ ap (λ n. n + length (closed gs)) f
-
-pub length-A : (g : Geometry) (p : Plan) → length (A g p) ≡ length (p .dataSectors) + length (p .targets) + journalSectors (length (p .targets))
-length-A g p = ap length (A-is g p) ∙ simp (length-append, length-tabulate)
-
-pub length-groups : (g : Geometry) (d : Disk) (p : Plan) → listLength (groupsOf g d p) ≡ recordCount (length (p .dataSectors)) (length (p .targets)) * recordSize
-unfolding groupsOf
-length-groups g d p =
-    let n = length (p .targets) in
-    let b = sectorWrite superblockAt (withJournalLength n (d superblockAt)) ∷ [] in
-    let z = sectorWrite superblockAt (withJournalLength 0 (d superblockAt)) ∷ [] in
-    let e1 = closed-cons (A g p) (b ∷ p .targets ∷ z ∷ []) in
-    let e2 = closed-cons b (p .targets ∷ z ∷ []) in
-    let e3 = closed-cons (p .targets) (z ∷ []) in
-    let a = length-A g p in
-    ap (λ k. k * recordSize) (e1 ∙ (let q : length (A g p) + 1 + length (closed (b ∷ p .targets ∷ z ∷ [])) ≡ recordCount (length (p .dataSectors)) n = omega arith in q))

@@ -1,13 +1,12 @@
 -- What commits need of a geometry and of a plan, where a plan's records go, and that recovery reads a waiting plan back from the
 -- journal. Assumes nothing.
-use Prim.Native.Nat.{ℕ, zero, suc, _+_, _*_, _-_, _/_, _%_, _^_, _≤_, _<_}
+use Prim.Native.Nat.{ℕ, _+_, _*_, _-_, _/_, _%_, _^_, _≤_, _<_}
 use mathlib.Core.Path.{_≡_, refl, sym, ap, ap₂, _∙_}
 use mathlib.Core.Logic.{_≢_}
 use mathlib.Core.Bool.{true, false, cond, _&&_, _||_, not, true≢false}
 use mathlib.Core.List.{List, [], _∷_, _++_}
 use native.Mathlib.Omega.{arith}
-use native.Mathlib.Decide.{decLt}
-use native.Mathlib.Nat.{add-mul, zero-add, sub-zero, not-suc-le-zero}
+use native.Mathlib.Nat.{add-mul, zero-add, sub-zero}
 use lib.Dec.{eqb, leb, ltb}
 use lib.ListN.{length, getD, length-map}
 use borrow.Author.Tests.{ne-eqb}
@@ -20,9 +19,11 @@ use Rattle.model.specs.Disk.{Disk}
 use Rattle.model.specs.WriteList.{barrierNumber, sectorsOf, Record, sectorWrite, barrier, Plan, Group, staging, copies, journalOf, groupA}
 use Rattle.model.specs.Superblock.{journalLength, withJournalLength, stateOf, stateOn}
 use Rattle.model.specs.Journal.{sourceAt, targetAt, journalSectors, journalSector}
-use Rattle.model.specs.Recovery.{isData, isMetadata, goodEntry, replayedSector, replayed, badJournal, replayGroups, entryWrite, differs, copied, slicedGroups}
+use Rattle.model.specs.Recovery.{isData, isMetadata, goodEntry, replayedSector, replayed, badJournal, replayGroups, entryWrite, differs, copied}
 use Rattle.laws.proofs.Booleans.{range-yes, range-no, and-yes, or-left, or-right}
-use Rattle.laws.proofs.Search.{allBelow-yes, anyBelow-no, getD-tab0, tabulate-ext, concatenated-ext}
+use Rattle.laws.proofs.Areas.{metadata-below}
+use Rattle.laws.proofs.WriteList.{sector-at, copies-are}
+use Rattle.laws.proofs.Search.{allBelow-yes, anyBelow-no, getD-tab0, concatenated-ext}
 use Rattle.safety.proofs.Apply.{over, apply, hits, over-append, over-miss, over-skip, over-none, All, all-map, all-at, hits-append, all-miss, tabulate-miss, tabulate-at, Own}
 use Rattle.safety.proofs.Journal.{packed-source, packed-target, Rising, rising-lt, picked, concatenated-picked, made, made-picked}
 use Rattle.safety.proofs.Superblock.{journalLength-with, with-with, state-waiting, Volume, volume-with, recovers-by, Recovers, slices-by, Slices}
@@ -40,13 +41,6 @@ metadata-table g j h k = or-right (leb 1 j && ltb j (journalAt g)) _ (range-yes 
 pub metadata-no : (g : Geometry) (j : ℕ) → (1 ≤ j → j < journalAt g → ⊥) → (tableAt g ≤ j → j < dataAt g → ⊥) → isMetadata g j ≡ false
 unfolding isMetadata
 metadata-no g j h k = ap₂ (λ a b. a || b) (range-no 1 (journalAt g) j h) (range-no (tableAt g) (dataAt g) j k)
-
-pub metadata-lt : (g : Geometry) (t : ℕ) → isMetadata g t ≡ true → t < dataAt g
-metadata-lt g t h = go (decLt t (dataAt g))
-  where
-    go : Dec (t < dataAt g) → t < dataAt g
-    go (yes l) = l
-    go (no q) = absurd (true≢false (sym h ∙ metadata-no g t (λ a b. q (omega arith)) (λ a b. q b)))
 
 -- ---- what commits need of a geometry and of a plan
 
@@ -87,12 +81,6 @@ volume-is g geo =
 
 -- ---- the groups
 
--- the sector numbers of records
-sector-at : (ws : Group) (k : ℕ) → k < length ws → getD (sectorsOf ws) k 0 ≡ (getD ws k barrier) .sector
-sector-at [] k h = absurd (not-suc-le-zero h)
-sector-at (w ∷ ws) zero h = refl
-sector-at (w ∷ ws) (suc k) h = sector-at ws k (omega arith)
-
 module _ (g : Geometry) (p : Plan) where
   abbrev pub A : Group
   A = groupA g (staging g (length (p .targets))) p
@@ -115,11 +103,9 @@ module _ (g : Geometry) (p : Plan) where
   journalWrites = tabulate (λ j. sectorWrite (journalAt g + j) (journalContents j)) 0 (journalSectors (length (p .targets)))
 
 module _ (g : Geometry) (p : Plan) where
-  copies-are : copies (staging g (length (p .targets))) (p .targets) ≡ copyWrites g p
-  unfolding copies copyContents
-  copies-are =
-      tabulate-ext (λ k. sectorWrite (getD (staging g (length (p .targets))) k 0) (copyContents g p k)) (λ k. sectorWrite (reserveAt g + k) (copyContents g p k)) 0 0
-      (length (p .targets)) (λ k h. rw zero-add (ap (λ s. sectorWrite s (copyContents g p k)) (stage-at g p k h)))
+  copies-as : copies (staging g (length (p .targets))) (p .targets) ≡ copyWrites g p
+  unfolding copyContents
+  copies-as = copies-are g (p .targets)
 
   journal-is : journalOf g (staging g (length (p .targets))) (sectorsOf (p .targets)) ≡ journalWrites g p
   unfolding journalOf journalContents
@@ -129,7 +115,7 @@ module _ (g : Geometry) (p : Plan) where
 
   pub A-is : A g p ≡ p .dataSectors ++ copyWrites g p ++ journalWrites g p
   unfolding groupA
-  A-is = ap₂ (λ (c j : Group). p .dataSectors ++ c ++ j) copies-are journal-is
+  A-is = ap₂ (λ (c j : Group). p .dataSectors ++ c ++ j) copies-as journal-is
 
   pub over-A : (j : ℕ) (x : List ℕ) → over (A g p) j x ≡ over (journalWrites g p) j (over (copyWrites g p) j (over (p .dataSectors) j x))
   over-A j x =
@@ -253,7 +239,7 @@ module _ (g : Geometry) (p : Plan) (geo : UsableGeometry g) (ok : WellFormed g p
       target-is : (k : ℕ) → k < length (p .targets) → targetAt g d k ≡ (getD (p .targets) k barrier) .sector
       unfolding targetAt journalContents
       target-is k h =
-          let t : (getD (p .targets) k barrier) .sector < dataAt g = metadata-lt g _ (all-at (Metadata g) (p .targets) k barrier (ok .metadata) h) in
+          let t : (getD (p .targets) k barrier) .sector < dataAt g = metadata-below g _ (all-at (Metadata g) (p .targets) k barrier (ok .metadata) h) in
           let e : getD (sectorsOf (p .targets)) k 0 ≡ (getD (p .targets) k barrier) .sector = sector-at (p .targets) k h in
           let b : getD (sectorsOf (p .targets)) k 0 < 256 ^ 8 = omega (arith, geo .small) in
           ap (λ x. beAt x (16 * (k % 32) + 8) 8) (pending-journal (k / 32) (omega arith))
@@ -281,7 +267,7 @@ module _ (g : Geometry) (p : Plan) (geo : UsableGeometry g) (ok : WellFormed g p
       replayed-is =
           concatenated-ext (replayedSector g d (length (p .targets))) (picked (p .targets)) 0 (dataAt g) (λ t a b. entry-is t)
           ∙ concatenated-picked (dataAt g) 0 (p .targets) (ok .rising)
-          (all-map (Metadata g) (λ x. x .sector < 0 + dataAt g) (λ x h. let l : x .sector < dataAt g = metadata-lt g (x .sector) h in omega arith) (p .targets) (ok .metadata))
+          (all-map (Metadata g) (λ x. x .sector < 0 + dataAt g) (λ x h. let l : x .sector < dataAt g = metadata-below g (x .sector) h in omega arith) (p .targets) (ok .metadata))
 
       good : (k : ℕ) → k < length (p .targets) → goodEntry g d k ≡ true
       unfolding goodEntry isData

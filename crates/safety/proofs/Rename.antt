@@ -33,7 +33,8 @@ use Rattle.safety.proofs.Apply.{over, over-append, over-skip, over-here
 use Rattle.safety.proofs.Order.{Reordered, swapped, behind, again, to-end, over-reordered, rising-own}
 use Rattle.safety.proofs.Plan.{UsableGeometry, WellFormed, metadata-directory}
 use Rattle.safety.proofs.Commit.{Ready, uncut, ready-uncut}
-use Rattle.safety.proofs.Frame.{Shows, done-shows, stored-shows, stored-ready, length-groups}
+use Rattle.laws.proofs.WriteList.{length-groups}
+use Rattle.safety.proofs.Frame.{Shows, done-shows, stored-shows, stored-ready}
 use Rattle.safety.proofs.Bounds.{copies-fit, count-waits}
 use Rattle.safety.proofs.Rep.{Rep, rep-geometry}
 use Rattle.safety.proofs.Changing.{Passed, Carries, Carried, effect-changing, Decides, same-changing}

@@ -29,7 +29,8 @@ use Rattle.laws.proofs.Seeking.{first-there, anyBelow-first}
 use Rattle.safety.proofs.Searches.{place-found, not-yes}
 use Rattle.safety.proofs.Apply.{over, hits, over-append, over-here, over-miss, over-none, All, all-concatenated, all-map, all-miss}
 use Rattle.safety.proofs.Superblock.{Volume, Recovers, recovers-by}
-use Rattle.safety.proofs.Plan.{metadata-lt, metadata-no}
+use Rattle.laws.proofs.Areas.{metadata-below}
+use Rattle.safety.proofs.Plan.{metadata-no}
 use Rattle.safety.proofs.Frame.{closed-cons}
 use Rattle.laws.proofs.Count.{countBelow-none, countBelow-new, length-concatenated}
 
@@ -100,7 +101,7 @@ module _ (g : Geometry) (d : Disk) (n : ℕ) where
     pub replayed-at : (k : ℕ) (x : List ℕ) → k < n → over (replayed g d n) (targetAt g d k) x ≡ d (sourceAt g d k)
     unfolding replayed replayedSector
     replayed-at k x l =
-        concatenated-over (replayedSector g d n) replayed-own (dataAt g) (targetAt g d k) x (metadata-lt g _ (target-metadata k l))
+        concatenated-over (replayedSector g d n) replayed-own (dataAt g) (targetAt g d k) x (metadata-below g _ (target-metadata k l))
         ∙ ap (λ (p : Lowest). over (cond (isAt p) (sectorWrite (targetAt g d k) (d (sourceAt g d (indexOf p))) ∷ []) []) (targetAt g d k) x) (target-found k l)
         ∙ over-here (sectorWrite (targetAt g d k) (d (sourceAt g d k))) [] x ∙ over-none (targetAt g d k) (d (sourceAt g d k))
 
@@ -120,7 +121,7 @@ module _ (g : Geometry) (d : Disk) (n : ℕ) where
     count-targets zero l = countBelow-none (λ t. false) (dataAt g) (anyBelow-no (λ t. false) (dataAt g) (λ k h. refl))
     count-targets (suc m) l =
         countBelow-new (λ t. anyBelow (λ j. eqb (targetAt g d j) t) m) (λ t. anyBelow (λ j. eqb (targetAt g d j) t) (suc m)) (targetAt g d m) (dataAt g)
-        (metadata-lt g _ (target-metadata m l)) (target-once m l) (or-left _ _ (eq-eqb (targetAt g d m) (targetAt g d m) refl))
+        (metadata-below g _ (target-metadata m l)) (target-once m l) (or-left _ _ (eq-eqb (targetAt g d m) (targetAt g d m) refl))
         (λ t ne. ap (λ (b : Bool). b || anyBelow (λ j. eqb (targetAt g d j) t) m) (ne-eqb (targetAt g d m) t (λ e. ne (sym e))))
         ∙ ap suc (count-targets m (omega arith))
 

@@ -29,7 +29,8 @@ use Rattle.laws.proofs.Search.{allBelow-yes, allBelow-at, tabulate-ext, countBe
 use Rattle.safety.proofs.Apply.{over, over-here, over-skip, over-none, All}
 use Rattle.safety.proofs.Plan.{UsableGeometry, WellFormed, A, metadata-directory}
 use Rattle.safety.proofs.Commit.{Ready, partOf, uncut, ready-uncut}
-use Rattle.safety.proofs.Frame.{Shows, done-shows, length-groups}
+use Rattle.laws.proofs.WriteList.{length-groups}
+use Rattle.safety.proofs.Frame.{Shows, done-shows}
 use Rattle.safety.proofs.Bounds.{copies-fit, count-waits}
 use Rattle.safety.proofs.Rep.{Rep, rep-geometry, cat-is, catalogue-geometry}
 use Rattle.safety.proofs.Preserved.{bytes-keep-at, part-keeps}

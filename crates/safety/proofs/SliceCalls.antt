@@ -1,26 +1,25 @@
 -- HOW MANY SLICES A RECOVERY TAKES, of any good journal: a slice that copies b entries leaves b fewer that differ, and the one behind them
 -- ends it. Assumes nothing.
-use Prim.Native.Nat.{ℕ, zero, suc, _+_, _*_, _-_, _/_, _≤_, _<_, min}
+use Prim.Native.Nat.{ℕ, zero, suc, _+_, _*_, _-_, _≤_, _<_, min}
 use mathlib.Core.Path.{_≡_, refl, sym, ap, ap₂, _∙_, subst}
-use mathlib.Core.Logic.{_≢_, ⊎-elim}
-use mathlib.Core.Bool.{Bool, true, false, cond, not, _&&_, true≢false, false≢true}
-use mathlib.Core.List.{List, [], _∷_, _++_, append-nil}
+use mathlib.Core.Logic.{_≢_}
+use mathlib.Core.Bool.{Bool, true, false, cond, not, _&&_}
+use mathlib.Core.List.{List, [], _∷_, append-nil}
 use native.Mathlib.Omega.{arith}
 use native.Mathlib.Decide.{decLt}
 use native.Mathlib.Numerals.{add-one}
-use native.Mathlib.Nat.{eq-or-lt-of-le, not-suc-le-zero, zero-add, zero-mul, suc-mul, mul-le-mul-right, div-mul-le-self}
+use native.Mathlib.Nat.{zero-add, zero-mul, suc-mul, mul-le-mul-right, div-mul-le-self}
 use lib.Dec.{eqb, ltb}
 use lib.ListN.{length}
 use borrow.Author.Tests.{eqb-true, eqb-false, eq-eqb, le-ltb, ltb-true, ltb-false}
 use Rattle.model.specs.declared.Geometry.{Geometry}
-use Rattle.model.specs.declared.Verdict.{Verdict}
 use Rattle.model.specs.declared.State.the-variants.{Clean, Waiting}
 use Rattle.model.specs.Search.{anyBelow, countBelow, concatenated, equalBytes}
-use Rattle.model.specs.Geometry.{superblockAt, dataAt}
+use Rattle.model.specs.Geometry.{superblockAt}
 use Rattle.model.specs.Disk.{Disk, view}
-use Rattle.model.specs.Superblock.{geometryIn, stateOn, stateOf, journalLength, withJournalLength}
+use Rattle.model.specs.Superblock.{stateOn, stateOf, journalLength, withJournalLength}
 use Rattle.model.specs.Journal.{sourceAt, targetAt}
-use Rattle.model.specs.Refusals.{verdictOf, isDone, done, refusal, imageVerdict, stateNumber}
+use Rattle.model.specs.Refusals.{verdictOf, isDone, imageVerdict, stateNumber}
 use Rattle.model.specs.WriteList.{Record, Group, recordSize, superblockGroup, sectorWrite, stored, closed}
 use Rattle.model.specs.Recovery.{goodEntry, replayed, badJournal, entryWrite, differs, isCopied, copiedEntry, copied, slicedWrites}
 use Rattle.model.specs.Recovery.{sliceVerdict, sliceListed, sliceAnswer}
@@ -37,9 +36,9 @@ use Rattle.safety.proofs.Superblock.{journalLength-with, state-clean, V
 use Rattle.safety.proofs.Landing.{Begun, part}
 use Rattle.safety.proofs.Changing.{earlier-done, later-done}
 use Rattle.safety.proofs.Bounds.{rounded-up}
-use Rattle.safety.proofs.Plan.{metadata-lt}
-use Rattle.safety.proofs.Replayed.{target-metadata, target-once, replayed-at, zero-stays, source-same, target-same, contents-same, good-again, replayed-same}
-use Rattle.safety.proofs.AnyJournal.{no-4-6-8, from-good, waiting-answers, volume, good, few, in-image, C-in, last-in, ended, first-begun}
+use Rattle.laws.proofs.Areas.{metadata-below}
+use Rattle.safety.proofs.Replayed.{target-metadata, target-once, replayed-at, zero-stays, target-same, contents-same, good-again, replayed-same}
+use Rattle.safety.proofs.AnyJournal.{no-4-6-8, from-good, waiting-answers, volume, few, in-image, C-in, last-in, ended, first-begun}
 
 abbrev bit : Bool → ℕ
 bit b = cond b 1 0
@@ -256,7 +255,7 @@ module _ (img : List ℕ) (n b : ℕ) (rooms : ℕ → ℕ) (st : stateOn (view 
         unfolding copied
         in-copied =
             copied-all g (view out) n e-good b (InImage (length img)) n
-            (λ k l. in-image img n room st ok _ _ (metadata-lt g _ (target-metadata g (view out) n e-good k l)) (length-view out _))
+            (λ k l. in-image img n room st ok _ _ (metadata-below g _ (target-metadata g (view out) n e-good k l)) (length-view out _))
 
         shows-next : view next ≡ apply ws (view out)
         shows-next = ap view next-copied ∙ stored-view ws out (length img) (w .long) in-copied

@@ -27,7 +27,7 @@ use Rattle.safety.proofs.OwnWords.{named-is, unheld-is, file-is, entry-
 use Rattle.safety.proofs.Searches.{place-found, or-right-no}
 use Rattle.safety.proofs.Plan.{WellFormed, A}
 use Rattle.safety.proofs.Commit.{partOf, uncut}
-use Rattle.safety.proofs.Frame.{length-groups}
+use Rattle.laws.proofs.WriteList.{length-groups}
 use Rattle.safety.proofs.Rep.{Rep}
 use Rattle.safety.proofs.Changing.{Passed, Carries, Carried, effect-changing, Decides, same-changing}
 use Rattle.safety.proofs.Read.{file-there, size-is}

@@ -7,7 +7,7 @@ use model::Sector;
 ghost use mathlib.Core.Path.{_≡_};
 ghost use mathlib.Core.Bool.{cond};
 ghost use mathlib.Core.List.{[], _∷_};
-ghost use Prim.Native.Nat.{_+_, _*_, _-_, _≤_, _<_, _^_, min, max};
+ghost use Prim.Native.Nat.{_+_, _*_, _-_, _≤_, _<_, _^_};
 ghost use lib.Dec.{ltb};
 ghost use lib.ListN.{length};
 ghost use Rattle.model.specs.Bytes.{bytesFrom, put};
@@ -19,24 +19,6 @@ ghost use Rattle.model.specs.WriteList.{sectorWrite, recordSize, Emitted};
 ghost use Rattle.model.specs.Write.{spliced, dataSector};
 ghost use Rattle.model.specs.Opened.{Opened};
 ghost use Rattle.spans.specs.Touched.{Touched, Lent, Source, spanOf};
-
-fn least(a: u64, b: u64) -> u64
-    ensures { λ r. ⌜ r ≡ min a b ⌝ }
-{
-    if a <= b {
-        return a;
-    }
-    b
-}
-
-fn most(a: u64, b: u64) -> u64
-    ensures { λ r. ⌜ r ≡ max a b ⌝ }
-{
-    if a <= b {
-        return b;
-    }
-    a
-}
 
 // ---- reading
 
@@ -59,7 +41,7 @@ fn read_piece(
     let e = 512 * (g.extent_sectors as u64);
     let start = g.extent_at(table::extent_of(img, g, i, offset / e));
     let within = offset % e;
-    let m = least(e - within, n as u64) as usize;
+    let m = fields::least(e - within, n as u64) as usize;
     fields::copy_bytes(img, (512 * start.0 + within) as usize, out, at, m);
     m
 }
@@ -119,8 +101,8 @@ fn put_data_sector(
     ensures { λ r. ⌜ Emitted (now (list .entry)) k (sectorWrite (place .0) (spliced offset (spanOf (now (bytes .entry)) len) s (view (now (img .entry)) (place .0))) ∷ []) (now (list .exit)) r ⌝ }
 {
     let base = 512 * s;
-    let from = most(offset, base);
-    let to = least(offset + len, base + 512);
+    let from = fields::most(offset, base);
+    let to = fields::least(offset + len, base + 512);
     let at = place_in(bytes, len, from - offset, to - from);
     if to - from == 512 {
         return lists::put_from(list, k, place, bytes, at);
@@ -211,7 +193,7 @@ fn put_in_extent(
 {
     let size = g.extent_sectors as u64;
     let within = s % size;
-    let m = least(size - within, n);
+    let m = fields::least(size - within, n);
     let start = g.extent_at(extent_for(img, g, i, held, next, s / size));
     put_piece(
         list,

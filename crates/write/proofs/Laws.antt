@@ -29,7 +29,8 @@ use Rattle.laws.proofs.Booleans.{or-right}
 use Rattle.laws.proofs.Judged.{judged-sound}
 use Rattle.laws.proofs.Named.{named-at, named-entry, size-fits}
 use Rattle.table.proofs.Laws.{free-extent-is}
-use Rattle.commit.proofs.Records.{plan-needs, emitted-length}
+use Rattle.laws.proofs.WriteList.{plan-needs}
+use Rattle.commit.proofs.Records.{emitted-length}
 use Rattle.commit.proofs.Decided.{ComesTo, refused-by-own, refused-as-short, done-as-planned, done-with-nothing}
 use Rattle.write.specs.FileWrite.{Asked, fileConditions, fileDecision, roomDecision}
 

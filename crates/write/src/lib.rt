@@ -7,7 +7,7 @@ use model::Lowest;
 ghost use mathlib.Core.Path.{_≡_};
 ghost use mathlib.Core.Bool.{cond};
 ghost use mathlib.Core.Option.{some};
-ghost use Prim.Native.Nat.{_+_, _*_, _≤_, _<_, _^_, max};
+ghost use Prim.Native.Nat.{_+_, _*_, _≤_, _<_, _^_};
 ghost use lib.ListN.{length};
 ghost use Rattle.model.specs.Disk.{view};
 ghost use Rattle.model.specs.Table.{tableSectorOf, takenIn};
@@ -28,15 +28,6 @@ pub struct Growth {
     pub more: bool,
     pub found: bool,
     pub next: Extent,
-}
-
-fn most(a: u64, b: u64) -> u64
-    ensures { λ r. ⌜ r ≡ max a b ⌝ }
-{
-    if a <= b {
-        return b;
-    }
-    a
 }
 
 // The table sector of extent x, in which x is given to file i as its extent of that offset.
@@ -194,7 +185,7 @@ fn write_file(
     if size < offset {
         return commit::refused(volume::refusal(12));
     }
-    let z = most(size, offset + len);
+    let z = fields::most(size, offset + len);
     let w = need_for(img, g, i, size, z);
     if w.more {
         if w.found {

@@ -1,13 +1,13 @@
 -- `carry_out::has_other` meets its contract. The loop's invariant: the greatest byte is 0 exactly if every byte passed is.
-use Prim.Native.Nat.{ℕ, _+_, _-_, _≤_, max}
+use Prim.Native.Nat.{ℕ, _+_, _-_, _≤_}
 use mathlib.Core.Path.{_≡_, refl, sym, ap, _∙_}
-use mathlib.Core.Bool.{Bool, true, false, not, _&&_}
+use mathlib.Core.Bool.{Bool, not, _&&_}
 use mathlib.Core.List.{List}
 use native.Mathlib.Omega.{arith}
 use lib.Dec.{eqb}
 use lib.ListN.{getD}
-use borrow.Author.Tests.{eq-eqb, ne-eqb, eqb-true, eqb-false}
 use Rattle.model.specs.Search.{allBelow}
+use Rattle.laws.proofs.Booleans.{max-zero}
 use Rattle.laws.proofs.Search.{allBelow-more}
 use borrow.Author.Needs.{needs}
 use Rattle.carry_out.proofs.has_other.Statement.{statement}
@@ -15,15 +15,6 @@ use Rattle.carry_out.proofs.has_other.Tie as tie
 
 abbrev zeroAt : List ℕ → ℕ → ℕ → Bool
 zeroAt list at b = eqb (getD list (at + b) 0) 0
-
--- the greater is 0 if both are
-max-zero : (v x : ℕ) → eqb (max v x) 0 ≡ (eqb x 0 && eqb v 0)
-max-zero v x = go (eqb x 0) refl (eqb v 0) refl
-  where
-    go : (a : Bool) → eqb x 0 ≡ a → (b : Bool) → eqb v 0 ≡ b → eqb (max v x) 0 ≡ (a && b)
-    go true p true q = eq-eqb (max v x) 0 (omega (arith, eqb-true x 0 p, eqb-true v 0 q))
-    go true p false q = let n : (v ≡ 0) → ⊥ = eqb-false v 0 q in ne-eqb (max v x) 0 (λ e. n (omega arith))
-    go false p b q = let n : (x ≡ 0) → ⊥ = eqb-false x 0 p in ne-eqb (max v x) 0 (λ e. n (omega arith))
 
 abbrev Inv-loop : tie.InvT-loop
 Inv-loop list at most₀ i₀ most i = (i ≤ 512) × (eqb most 0 ≡ allBelow (zeroAt list at) i)

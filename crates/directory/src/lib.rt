@@ -14,7 +14,7 @@ ghost use Rattle.model.specs.Search.{first, anyBelow, equalBytes};
 ghost use Rattle.model.specs.Geometry.{usable, extentBytes, rootAt, entryAt};
 ghost use Rattle.model.specs.Disk.{view};
 ghost use Rattle.model.specs.Root.{rootField, updatedRootSector};
-ghost use Rattle.model.specs.Edition.{layoutOf};
+ghost use Rattle.model.specs.Edition.{layoutOf, badTime};
 ghost use Rattle.model.specs.Entry.{entryField, entryIn, fieldsOf, isOccupied, nameIn, badName, isTypable, badNewName, updatedEntrySector, renamedEntrySector};
 ghost use Rattle.model.specs.Catalogue.{catalogueOf, hasId, fileNamed, freeEntry};
 ghost use Rattle.model.specs.Faults.{fault21, fault22};
@@ -137,6 +137,16 @@ pub fn bad_name(edition: u64, name: &[u8]) -> bool
         return true;
     }
     true
+}
+
+// What every call refuses that takes the name of a file and a time.
+pub fn bad_name_or_time(edition: u64, name: &[u8], time: u64) -> bool
+    ensures { λ r. ⌜ r ≡ (badTime edition time || badName edition (now (name .entry))) ⌝ }
+{
+    if layout::edition::bad_time(edition, time) {
+        return true;
+    }
+    bad_name(edition, name)
 }
 
 // A byte that nobody can type, or the slash.

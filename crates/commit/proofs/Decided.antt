@@ -34,6 +34,11 @@ pub same-refusal : (a b : Bool) (v rest : Verdict) → cond a v (cond b v rest) 
 same-refusal true b v rest = refl
 same-refusal false b v rest = refl
 
+pub same-refusals : (a b c : Bool) (v rest : Verdict) → cond a v (cond (b || c) v rest) ≡ cond (a || b) v (cond c v rest)
+same-refusals true b c v rest = refl
+same-refusals false true c v rest = refl
+same-refusals false false c v rest = refl
+
 -- a name that it lets pass
 pub named-short : (edition : ℕ) (name : List ℕ) (time : ℕ) → (badTime edition time || badName edition name) ≡ false → length name ≤ layoutOf edition .longestName
 named-short edition name time h = short-name edition name (or-none (badTime edition time) (badName edition name) h .1)

@@ -2,19 +2,46 @@
 -- short, done. Each law gives the two clauses of the call's promise. Assumes nothing.
 use Prim.Native.Nat.{ℕ, _≤_, _<_}
 use mathlib.Core.Path.{_≡_, refl, sym}
-use mathlib.Core.Bool.{true, false}
+use mathlib.Core.Bool.{Bool, true, false, cond, _||_}
 use mathlib.Core.List.{List}
 use mathlib.Core.Option.{Option, none}
 use native.Mathlib.Omega.{arith}
 use lib.Dec.{eqb}
 use lib.ListN.{length}
 use borrow.Author.Tests.{eq-eqb, ne-eqb, lt-ltb, le-ltb}
+use Rattle.model.specs.declared.Geometry.{Geometry}
 use Rattle.model.specs.declared.Verdict.{Verdict}
 use Rattle.model.specs.declared.Changed.{Changed}
-use Rattle.model.specs.Disk.{Disk}
+use Rattle.model.specs.Geometry.{superblockAt}
+use Rattle.model.specs.Disk.{Disk, view}
+use Rattle.model.specs.Superblock.{geometryIn}
+use Rattle.model.specs.Edition.{layoutOf, badTime}
+use Rattle.model.specs.Entry.{badName}
+use Rattle.model.specs.Catalogue.{catalogueOf}
 use Rattle.model.specs.Refusals.{Conditions, verdictOf, refusal, done, judged}
 use Rattle.model.specs.WriteList.{Plan, Emitted, groupsFor, closed, listLength, Decision, decided, answerOf, listAfter}
+use Rattle.laws.proofs.Booleans.{or-none}
+use Rattle.laws.proofs.Named.{short-name}
 use Rattle.laws.proofs.WriteList.{emit-nil, emitted-none}
+
+-- the edition by which the code reads is the catalogue's
+pub edition-is : (img : List ℕ) (g : Geometry) → g ≡ geometryIn (view img superblockAt) → catalogueOf (view img) .geometry .edition ≡ g .edition
+unfolding catalogueOf
+edition-is img g is = rw is
+
+-- a bad time and the other bad arguments are one test of the code's
+pub same-refusal : (a b : Bool) (v rest : Verdict) → cond a v (cond b v rest) ≡ cond (a || b) v rest
+same-refusal true b v rest = refl
+same-refusal false b v rest = refl
+
+pub same-refusals : (a b c : Bool) (v rest : Verdict) → cond a v (cond (b || c) v rest) ≡ cond (a || b) v (cond c v rest)
+same-refusals true b c v rest = refl
+same-refusals false true c v rest = refl
+same-refusals false false c v rest = refl
+
+-- a name that it lets pass
+pub named-short : (edition : ℕ) (name : List ℕ) (time : ℕ) → (badTime edition time || badName edition name) ≡ false → length name ≤ layoutOf edition .longestName
+named-short edition name time h = short-name edition name (or-none (badTime edition time) (badName edition name) h .1)
 
 -- the answer and the list that a decision comes to
 abbrev pub ComesTo : Disk → Decision → List ℕ → Changed → List ℕ → Type 0

@@ -13,7 +13,8 @@ ghost use lib.Dec.{eqb};
 ghost use lib.ListN.{length};
 ghost use Rattle.model.specs.Search.{anyBelow, isAt, indexOf};
 ghost use Rattle.model.specs.Disk.{view};
-ghost use Rattle.model.specs.Entry.{badNewName, longestName};
+ghost use Rattle.model.specs.Edition.{layoutOf, badTime};
+ghost use Rattle.model.specs.Entry.{badNewName};
 ghost use Rattle.model.specs.Catalogue.{catalogueOf, fileNamed, hasId};
 ghost use Rattle.model.specs.Refusals.{verdictOf, judged};
 ghost use Rattle.model.specs.WriteList.{sectorWrite, recordSize, closed, groupsOf, Emitted};
@@ -43,10 +44,13 @@ fn index_of(p: Lowest) -> usize
     }
 }
 
-fn bad_argument(name: &[u8], id: u64) -> bool
-    ensures { λ r. ⌜ r ≡ (badNewName (now (name .entry)) || eqb id 0) ⌝ }
+fn bad_argument(edition: u64, name: &[u8], id: u64, time: u64) -> bool
+    ensures { λ r. ⌜ r ≡ (badTime edition time || (badNewName edition (now (name .entry)) || eqb id 0)) ⌝ }
 {
-    if directory::bad_new_name(name) {
+    if layout::edition::bad_time(edition, time) {
+        return true;
+    }
+    if directory::bad_new_name(edition, name) {
         return true;
     }
     id == 0
@@ -55,7 +59,7 @@ fn bad_argument(name: &[u8], id: u64) -> bool
 // The name is there, or the id is an occupied entry's or the root's.
 fn is_taken(img: &[u8], g: Geometry, name: &[u8], id: u64) -> bool
     requires { ⌜ Opened (now img) g ⌝ }
-    requires { ⌜ length (now name) ≤ longestName ⌝ }
+    requires { ⌜ length (now name) ≤ layoutOf (g .edition) .longestName ⌝ }
     ensures { λ r. ⌜ r ≡ (isAt (fileNamed (catalogueOf (view (now (img .entry)))) (now (name .entry))) || anyBelow (λ i. hasId id (catalogueOf (view (now (img .entry))) .entries i)) (catalogueOf (view (now (img .entry))) .geometry .files) || eqb id (catalogueOf (view (now (img .entry))) .root .id)) ⌝ }
 {
     let p = directory::file_named(img, g, name);
@@ -68,11 +72,11 @@ fn is_taken(img: &[u8], g: Geometry, name: &[u8], id: u64) -> bool
     id == directory::root_id(img)
 }
 
-fn own_verdict(img: &[u8], g: Geometry, name: &[u8], id: u64) -> Verdict
+fn own_verdict(img: &[u8], g: Geometry, name: &[u8], id: u64, time: u64) -> Verdict
     requires { ⌜ Opened (now img) g ⌝ }
-    ensures { λ r. ⌜ r ≡ verdictOf (createConditions (catalogueOf (view (now (img .entry)))) (now (name .entry)) id) ⌝ }
+    ensures { λ r. ⌜ r ≡ verdictOf (createConditions (catalogueOf (view (now (img .entry)))) (now (name .entry)) id time) ⌝ }
 {
-    if bad_argument(name, id) {
+    if bad_argument(g.edition, name, id, time) {
         return volume::refusal(8);
     }
     if is_taken(img, g, name, id) {
@@ -115,15 +119,15 @@ fn put_create(
     name: &[u8],
     id: u64,
     mode: u32,
-    time: u32,
+    time: u64,
 ) -> usize
     requires { ⌜ createCount * recordSize ≤ length (now list) ⌝ }
     requires { ⌜ Opened (now img) g ⌝ }
-    requires { ⌜ length (now name) ≤ longestName ⌝ }
+    requires { ⌜ length (now name) ≤ layoutOf (g .edition) .longestName ⌝ }
     ensures { λ r. ⌜ Emitted (now (list .entry)) 0 (closed (groupsOf g (view (now (img .entry))) (createPlan (catalogueOf (view (now (img .entry)))) (view (now (img .entry))) (now (name .entry)) id mode time))) (now (list .exit)) r ⌝ }
 {
-    let a = directory::updated_root(img, time);
-    let b = layout::entry::new(name, id, mode, time);
+    let a = directory::updated_root(img, g.edition, time);
+    let b = layout::entry::new(g.edition, name, id, mode, time);
     let i = index_of(directory::free_entry(img, g));
     let t = FileIndex(i as u64).sector();
     put_pair(list, img, g, Sector(1), a, t, b)
@@ -131,13 +135,13 @@ fn put_create(
 
 // ---- the call
 
-pub fn create_in(img: &[u8], list: &mut [u8], name: &[u8], id: u64, mode: u32, time: u32) -> Changed
+pub fn create_in(img: &[u8], list: &mut [u8], name: &[u8], id: u64, mode: u32, time: u64) -> Changed
     requires { ⌜ judged (length (now img)) (view (now img)) .number ≡ 0 ⌝ }
     ensures { λ r. ⌜ r ≡ createAnswer (length (now (img .entry))) (view (now (img .entry))) (now (name .entry)) id mode time (length (now (list .entry))) ⌝ }
     ensures { λ _. ⌜ now (list .exit) ≡ createList (length (now (img .entry))) (view (now (img .entry))) (now (name .entry)) id mode time (now (list .entry)) ⌝ }
 {
     let g = volume::geometry_in(img);
-    let v = own_verdict(img, g, name, id);
+    let v = own_verdict(img, g, name, id, time);
     if v.number == 0 {
         if LIST_SIZE <= list.len() {
             put_create(list, img, g, name, id, mode, time);

@@ -1,7 +1,7 @@
 -- How long the lists of a delete and of a shrink are, and what a delete comes to, test by test. Assumes nothing.
 use Prim.Native.Nat.{ℕ, zero, suc, _+_, _*_, _≤_, _<_}
 use mathlib.Core.Path.{_≡_, refl, sym, ap, ap₂, _∙_}
-use mathlib.Core.Bool.{Bool, true, false, cond}
+use mathlib.Core.Bool.{Bool, true, false, cond, not, _||_}
 use mathlib.Core.List.{List, [], _∷_}
 use mathlib.Core.Option.{some}
 use native.Mathlib.Nat.{zero-add}
@@ -11,19 +11,21 @@ use Rattle.model.specs.declared.Changed.{Changed}
 use Rattle.model.specs.declared.Geometry.{Geometry}
 use Rattle.model.specs.declared.Lowest.{Lowest}
 use Rattle.model.specs.declared.Lowest.the-variants.{At, Nowhere}
-use Rattle.model.specs.Search.{concatenated, countBelow, indexOf}
+use Rattle.model.specs.Search.{concatenated, countBelow, isAt, indexOf}
 use Rattle.model.specs.Geometry.{superblockAt, tableSectors, extentsFor}
 use Rattle.model.specs.Disk.{Disk, view}
 use Rattle.model.specs.Superblock.{geometryIn}
+use Rattle.model.specs.Edition.{badTime}
 use Rattle.model.specs.Entry.{badName}
 use Rattle.model.specs.Catalogue.{Catalogue, catalogueOf, fileNamed, holdsFrom, sectorsFrom}
 use Rattle.model.specs.Refusals.{Conditions, verdictOf, refusal, done, judged}
 use Rattle.model.specs.WriteList.{Record, Plan, Emitted, closed, recordSize, recordCount, groupsFor, listLength}
 use Rattle.model.specs.Find.{nameConditions}
-use Rattle.model.specs.Delete.{freedSector, freedSectors, deletePlan, deleteDecision, deleteAnswer, deleteList}
+use Rattle.model.specs.Delete.{freedSector, freedSectors, deletePlan, deleteConditions, deleteDecision, deleteAnswer, deleteList}
 use Rattle.model.specs.Resize.{shrinkPlan}
+use Rattle.laws.proofs.Named.{editionOn}
 use Rattle.laws.proofs.WriteList.{plan-needs}
-use Rattle.commit.proofs.Decided.{refused-by-own, refused-as-short, done-as-planned}
+use Rattle.commit.proofs.Decided.{same-refusal, refused-by-own, refused-as-short, done-as-planned}
 use Rattle.delete.proofs.Laws.{shrink-targets, shrink-alone}
 
 -- ---- how many table sectors are freed, how many bytes a list takes
@@ -76,31 +78,35 @@ module _ (img list name : List ℕ) (time : ℕ) (ok : judged (length img) (view
   c = catalogueOf (view img)
 
   abbrev cs : Conditions
-  cs = nameConditions c name
+  cs = deleteConditions c name time
 
   abbrev plan : Plan
   plan = deletePlan c (view img) (indexOf (fileNamed c name)) time
 
-  bad : badName name ≡ true → refusal 8 ≡ verdictOf cs
-  unfolding verdictOf nameConditions
-  bad h = rw h
+  abbrev isBad : Bool
+  isBad = badTime (editionOn (view img)) time || badName (editionOn (view img)) name
 
-  missing : badName name ≡ false → fileNamed c name ≡ Nowhere → refusal 9 ≡ verdictOf cs
-  unfolding verdictOf nameConditions
-  missing h n = rw (h, n)
+  own-tests : verdictOf cs ≡ cond isBad (refusal 8) (cond (not (isAt (fileNamed c name))) (refusal 9) done)
+  unfolding verdictOf deleteConditions nameConditions catalogueOf
+  own-tests = same-refusal (badTime (editionOn (view img)) time) (badName (editionOn (view img)) name) (refusal 8) (cond (not (isAt (fileNamed c name))) (refusal 9) done)
 
-  pub delete-bad : badName name ≡ true → Comes img list name time (record { verdict = refusal 8; length = 0 }) list
+  bad : isBad ≡ true → refusal 8 ≡ verdictOf cs
+  bad h = sym (own-tests ∙ rw h)
+
+  missing : isBad ≡ false → fileNamed c name ≡ Nowhere → refusal 9 ≡ verdictOf cs
+  missing h n = sym (own-tests ∙ rw (h, n))
+
+  pub delete-bad : isBad ≡ true → Comes img list name time (record { verdict = refusal 8; length = 0 }) list
   unfolding deleteAnswer deleteList deleteDecision
   delete-bad h = refused-by-own (length img) (view img) cs (some plan) list ok (refusal 8) (bad h) (λ (e : _≡_ {A = ℕ} 8 0). omega arith)
 
-  pub delete-missing : badName name ≡ false → fileNamed c name ≡ Nowhere → Comes img list name time (record { verdict = refusal 9; length = 0 }) list
+  pub delete-missing : isBad ≡ false → fileNamed c name ≡ Nowhere → Comes img list name time (record { verdict = refusal 9; length = 0 }) list
   unfolding deleteAnswer deleteList deleteDecision
   delete-missing h n = refused-by-own (length img) (view img) cs (some plan) list ok (refusal 9) (missing h n) (λ (e : _≡_ {A = ℕ} 9 0). omega arith)
 
-  module _ (i : ℕ) (good : badName name ≡ false) (found : fileNamed c name ≡ At i) where
+  module _ (i : ℕ) (good : isBad ≡ false) (found : fileNamed c name ≡ At i) where
     own : done ≡ verdictOf cs
-    unfolding verdictOf nameConditions
-    own = rw (good, found)
+    own = sym (own-tests ∙ rw (good, found))
 
     plan-is : plan ≡ deletePlan c (view img) i time
     plan-is = ap (λ (x : Lowest). deletePlan c (view img) (indexOf x) time) found

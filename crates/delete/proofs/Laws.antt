@@ -76,21 +76,22 @@ freed-miss d i o t h = rw h
 -- a shrink's: entry i, then the table sectors that hold an extent past the new size
 pub shrink-targets : (d : Disk) (g : Geometry) → g ≡ geometryIn (d superblockAt) → (i z time : ℕ)
     → shrinkPlan (catalogueOf d) d i z time .targets
-    ≡ sectorWrite (entryAt i) (updatedEntrySector z time (d (entryAt i))) ∷ freedSectors (catalogueOf d) d i (extentsFor g z)
+    ≡ sectorWrite (entryAt i) (updatedEntrySector (g .edition) z time (d (entryAt i))) ∷ freedSectors (catalogueOf d) d i (extentsFor g z)
 unfolding shrinkPlan catalogueOf
 shrink-targets d g is i z time =
-    ap (λ (x : Geometry). sectorWrite (entryAt i) (updatedEntrySector z time (d (entryAt i))) ∷ freedSectors (catalogueOf d) d i (extentsFor x z)) (sym is)
+    ap (λ (x : Geometry). sectorWrite (entryAt i) (updatedEntrySector (x .edition) z time (d (entryAt i))) ∷ freedSectors (catalogueOf d) d i (extentsFor x z)) (sym is)
 
 pub shrink-alone : (d : Disk) (i z time : ℕ) → shrinkPlan (catalogueOf d) d i z time .dataSectors ≡ []
 unfolding shrinkPlan
 shrink-alone d i z time = refl
 
 -- a delete's: the root, entry i, then the table sectors that hold any extent of it
-pub delete-targets : (d : Disk) (i time : ℕ)
+pub delete-targets : (d : Disk) (g : Geometry) → g ≡ geometryIn (d superblockAt) → (i time : ℕ)
     → deletePlan (catalogueOf d) d i time .targets
-    ≡ sectorWrite rootAt (updatedRootSector time (d rootAt)) ∷ sectorWrite (entryAt i) zeroSector ∷ freedSectors (catalogueOf d) d i 0
-unfolding deletePlan
-delete-targets d i time = refl
+    ≡ sectorWrite rootAt (updatedRootSector (g .edition) time (d rootAt)) ∷ sectorWrite (entryAt i) zeroSector ∷ freedSectors (catalogueOf d) d i 0
+unfolding deletePlan catalogueOf
+delete-targets d g is i time =
+    ap (λ (x : Geometry). sectorWrite rootAt (updatedRootSector (x .edition) time (d rootAt)) ∷ sectorWrite (entryAt i) zeroSector ∷ freedSectors (catalogueOf d) d i 0) (sym is)
 
 pub delete-alone : (d : Disk) (i time : ℕ) → deletePlan (catalogueOf d) d i time .dataSectors ≡ []
 unfolding deletePlan

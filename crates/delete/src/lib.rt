@@ -95,14 +95,14 @@ pub fn shrink_count(img: &[u8], g: Geometry, i: FileIndex, size: u64) -> usize
 }
 
 // Shrinks file i to the size given: the whole list, which has room for it. The answer is how many records it has.
-pub fn shrink(img: &[u8], g: Geometry, i: FileIndex, size: u64, time: u32, list: &mut [u8]) -> usize
+pub fn shrink(img: &[u8], g: Geometry, i: FileIndex, size: u64, time: u64, list: &mut [u8]) -> usize
     requires { ⌜ Opened (now img) g ⌝ }
     requires { ⌜ i .0 < g .files ⌝ }
     requires { ⌜ recordCount 0 (1 + sectorsFrom (catalogueOf (view (now img))) (i .0) (extentsFor g size)) * recordSize ≤ length (now list) ⌝ }
     ensures { λ r. ⌜ Emitted (now (list .entry)) 0 (closed (groupsFor (view (now (img .entry))) (some (shrinkPlan (catalogueOf (view (now (img .entry)))) (view (now (img .entry))) (i .0) size time)))) (now (list .exit)) r ⌝ }
 {
     let mut numbers = [0u64; 1024];
-    let s = directory::updated_entry(img, i, size, time);
+    let s = directory::updated_entry(img, g.edition, i, size, time);
     let k = commit::put_copy(list, 0, g, &mut numbers, 0, i.sector(), s);
     let first = table::extents_for(g, size);
     let n = put_freed(list, k, &mut numbers, img, g, i, first);
@@ -112,14 +112,14 @@ pub fn shrink(img: &[u8], g: Geometry, i: FileIndex, size: u64, time: u32, list:
 // ---- deleting
 
 // The whole list that deletes file i; the list has room for it.
-fn put_delete(img: &[u8], g: Geometry, i: FileIndex, time: u32, list: &mut [u8]) -> usize
+fn put_delete(img: &[u8], g: Geometry, i: FileIndex, time: u64, list: &mut [u8]) -> usize
     requires { ⌜ Opened (now img) g ⌝ }
     requires { ⌜ i .0 < g .files ⌝ }
     requires { ⌜ recordCount 0 (2 + sectorsFrom (catalogueOf (view (now img))) (i .0) 0) * recordSize ≤ length (now list) ⌝ }
     ensures { λ r. ⌜ Emitted (now (list .entry)) 0 (closed (groupsFor (view (now (img .entry))) (some (deletePlan (catalogueOf (view (now (img .entry)))) (view (now (img .entry))) (i .0) time)))) (now (list .exit)) r ⌝ }
 {
     let mut numbers = [0u64; 1024];
-    let root = directory::updated_root(img, time);
+    let root = directory::updated_root(img, g.edition, time);
     let k = commit::put_copy(list, 0, g, &mut numbers, 0, Sector(1), root);
     let entry = [0u8; 512];
     let j = commit::put_copy(list, k, g, &mut numbers, k, i.sector(), entry);
@@ -137,15 +137,15 @@ fn delete_count(img: &[u8], g: Geometry, i: FileIndex) -> usize
     records_for(2 + table::sectors_from(img, g, i, 0))
 }
 
-pub fn delete_in(img: &[u8], name: &[u8], time: u32, list: &mut [u8]) -> Changed
+pub fn delete_in(img: &[u8], name: &[u8], time: u64, list: &mut [u8]) -> Changed
     requires { ⌜ judged (length (now img)) (view (now img)) .number ≡ 0 ⌝ }
     ensures { λ r. ⌜ r ≡ deleteAnswer (length (now (img .entry))) (view (now (img .entry))) (now (name .entry)) time (length (now (list .entry))) ⌝ }
     ensures { λ _. ⌜ now (list .exit) ≡ deleteList (length (now (img .entry))) (view (now (img .entry))) (now (name .entry)) time (now (list .entry)) ⌝ }
 {
-    if directory::bad_name(name) {
+    let g = volume::geometry_in(img);
+    if directory::bad_name_or_time(g.edition, name, time) {
         return commit::refused(volume::refusal(8));
     }
-    let g = volume::geometry_in(img);
     if let Lowest::At(i) = directory::file_named(img, g, name) {
         let index = FileIndex(i as u64);
         let needed = lists::RECORD_SIZE * delete_count(img, g, index);

@@ -20,13 +20,13 @@ pub id-on : (d : Disk) (n : ℕ)
 unfolding catalogueOf entryIn
 id-on d n =
     anyBelow-ext (λ i. hasId n (catalogueOf d .entries i)) (λ i. isOccupied (d (entryAt i)) && eqb (numberIn (d (entryAt i)) (entryField .id)) n) (geometryIn (d 0) .files)
-    (λ i l. ap (hasId n) (slot-on d i l) ∙ id-if (isOccupied (d (entryAt i))) (entryIn (d (entryAt i))) n)
+    (λ i l. ap (hasId n) (slot-on d i l) ∙ id-if (isOccupied (d (entryAt i))) (entryIn (geometryIn (d 0) .edition) (d (entryAt i))) n)
 
 -- an entry that is occupied, and its name is bad or its size exceeds `most`
-abbrev pub isBad : Disk → ℕ → ℕ → Bool
-isBad d most i = isOccupied (d (entryAt i)) && (badName (nameIn (d (entryAt i))) || ltb most (numberIn (d (entryAt i)) (entryField .size)))
+abbrev pub isBad : Disk → ℕ → ℕ → ℕ → Bool
+isBad d edition most i = isOccupied (d (entryAt i)) && (badName edition (nameIn edition (d (entryAt i))) || ltb most (numberIn (d (entryAt i)) (entryField .size)))
 
 pub fault22-on : (d : Disk)
     → first (fault22 (catalogueOf d)) (geometryIn (d 0) .files)
-    ≡ first (isBad d (usable (geometryIn (d 0)) * extentBytes (geometryIn (d 0)))) (geometryIn (d 0) .files)
-fault22-on d = first-ext (fault22 (catalogueOf d)) (isBad d (usable (geometryIn (d 0)) * extentBytes (geometryIn (d 0)))) (geometryIn (d 0) .files) (fault22-is d)
+    ≡ first (isBad d (geometryIn (d 0) .edition) (usable (geometryIn (d 0)) * extentBytes (geometryIn (d 0)))) (geometryIn (d 0) .files)
+fault22-on d = first-ext (fault22 (catalogueOf d)) (isBad d (geometryIn (d 0) .edition) (usable (geometryIn (d 0)) * extentBytes (geometryIn (d 0)))) (geometryIn (d 0) .files) (fault22-is d)

@@ -14,7 +14,8 @@ ghost use Rattle.model.specs.Search.{first, anyBelow, equalBytes};
 ghost use Rattle.model.specs.Geometry.{usable, extentBytes, rootAt, entryAt};
 ghost use Rattle.model.specs.Disk.{view};
 ghost use Rattle.model.specs.Root.{rootField, updatedRootSector};
-ghost use Rattle.model.specs.Entry.{entryField, entryIn, fieldsOf, longestName, isOccupied, nameIn, badName, isTypable, badNewName, updatedEntrySector, renamedEntrySector};
+ghost use Rattle.model.specs.Edition.{layoutOf, badTime};
+ghost use Rattle.model.specs.Entry.{entryField, entryIn, fieldsOf, isOccupied, nameIn, badName, isTypable, badNewName, updatedEntrySector, renamedEntrySector};
 ghost use Rattle.model.specs.Catalogue.{catalogueOf, hasId, fileNamed, freeEntry};
 ghost use Rattle.model.specs.Faults.{fault21, fault22};
 ghost use Rattle.model.specs.Opened.{Bounded, Opened};
@@ -29,11 +30,11 @@ pub fn is_occupied(img: &[u8], i: FileIndex) -> bool
 }
 
 // What an occupied entry says.
-pub fn fields_at(img: &[u8], i: FileIndex) -> Fields
+pub fn fields_at(img: &[u8], edition: u64, i: FileIndex) -> Fields
     requires { ⌜ 512 * entryAt (i .0) + 512 ≤ length (now img) ⌝ }
-    ensures { λ r. ⌜ r ≡ fieldsOf (entryIn (view (now (img .entry)) (entryAt (i .0)))) ⌝ }
+    ensures { λ r. ⌜ r ≡ fieldsOf (entryIn edition (view (now (img .entry)) (entryAt (i .0)))) ⌝ }
 {
-    layout::entry::fields_in(fields::sector_part(img, i.sector()))
+    layout::entry::fields_in(fields::sector_part(img, i.sector()), edition)
 }
 
 pub fn size_at(img: &[u8], i: FileIndex) -> u64
@@ -51,24 +52,24 @@ pub fn id_at(img: &[u8], i: FileIndex) -> u64
 }
 
 // The name's bytes, where they end in the sector.
-pub fn name_at(img: &[u8], i: FileIndex) -> &[u8]
+pub fn name_at(img: &[u8], edition: u64, i: FileIndex) -> &[u8]
     requires { ⌜ 512 * entryAt (i .0) + 512 ≤ length (now img) ⌝ }
-    requires { ⌜ numberIn (view (now img) (entryAt (i .0))) (entryField .nameLength) ≤ longestName ⌝ }
-    ensures { λ r. ⌜ now r ≡ nameIn (view (now (img .entry)) (entryAt (i .0))) ⌝ }
+    requires { ⌜ numberIn (view (now img) (entryAt (i .0))) (layoutOf edition .nameLength) ≤ layoutOf edition .longestName ⌝ }
+    ensures { λ r. ⌜ now r ≡ nameIn edition (view (now (img .entry)) (entryAt (i .0))) ⌝ }
 {
-    layout::entry::name(fields::sector_part(img, i.sector()))
+    layout::entry::name(fields::sector_part(img, i.sector()), edition)
 }
 
 // Whether entry i is occupied and has the name. The lengths are compared first: the comparison sees no byte past the name.
-pub fn has_name(img: &[u8], i: FileIndex, name: &[u8]) -> bool
+pub fn has_name(img: &[u8], edition: u64, i: FileIndex, name: &[u8]) -> bool
     requires { ⌜ 512 * entryAt (i .0) + 512 ≤ length (now img) ⌝ }
-    requires { ⌜ length (now name) ≤ longestName ⌝ }
-    ensures { λ r. ⌜ r ≡ (isOccupied (view (now (img .entry)) (entryAt (i .0))) && equalBytes (nameIn (view (now (img .entry)) (entryAt (i .0)))) (now (name .entry))) ⌝ }
+    requires { ⌜ length (now name) ≤ layoutOf edition .longestName ⌝ }
+    ensures { λ r. ⌜ r ≡ (isOccupied (view (now (img .entry)) (entryAt (i .0))) && equalBytes (nameIn edition (view (now (img .entry)) (entryAt (i .0)))) (now (name .entry))) ⌝ }
 {
     if is_occupied(img, i) {
         let s = fields::sector_part(img, i.sector());
-        if layout::entry::name_length(s) == name.len() {
-            return fields::starts_with(layout::entry::name_part(s), name);
+        if layout::entry::name_length(s, edition) == name.len() {
+            return fields::starts_with(layout::entry::name_part(s, edition), name);
         }
         return false;
     }
@@ -98,44 +99,54 @@ pub fn root_id(img: &[u8]) -> u64
 // ---- sectors that a change rewrites: the bytes that document 01 doesn't name stay
 
 // The root's sector with the version up and the change time set.
-pub fn updated_root(img: &[u8], time: u32) -> [u8; 512]
+pub fn updated_root(img: &[u8], edition: u64, time: u64) -> [u8; 512]
     requires { ⌜ 512 * rootAt + 512 ≤ length (now img) ⌝ }
-    ensures { λ r. ⌜ r ≡ updatedRootSector time (view (now (img .entry)) rootAt) ⌝ }
+    ensures { λ r. ⌜ r ≡ updatedRootSector edition time (view (now (img .entry)) rootAt) ⌝ }
 {
-    layout::root::updated(fields::sector_part(img, Sector(1)), time)
+    layout::root::updated(fields::sector_part(img, Sector(1)), edition, time)
 }
 
 // Entry i's sector with the size given, the version up and the change time set.
-pub fn updated_entry(img: &[u8], i: FileIndex, size: u64, time: u32) -> [u8; 512]
+pub fn updated_entry(img: &[u8], edition: u64, i: FileIndex, size: u64, time: u64) -> [u8; 512]
     requires { ⌜ 512 * entryAt (i .0) + 512 ≤ length (now img) ⌝ }
-    ensures { λ r. ⌜ r ≡ updatedEntrySector size time (view (now (img .entry)) (entryAt (i .0))) ⌝ }
+    ensures { λ r. ⌜ r ≡ updatedEntrySector edition size time (view (now (img .entry)) (entryAt (i .0))) ⌝ }
 {
-    layout::entry::updated(fields::sector_part(img, i.sector()), size, time)
+    layout::entry::updated(fields::sector_part(img, i.sector()), edition, size, time)
 }
 
 // Entry i's sector with the new name, the version up and the change time set.
-pub fn renamed_entry(img: &[u8], i: FileIndex, name: &[u8], time: u32) -> [u8; 512]
+pub fn renamed_entry(img: &[u8], edition: u64, i: FileIndex, name: &[u8], time: u64) -> [u8; 512]
     requires { ⌜ 512 * entryAt (i .0) + 512 ≤ length (now img) ⌝ }
-    requires { ⌜ length (now name) ≤ longestName ⌝ }
-    ensures { λ r. ⌜ r ≡ renamedEntrySector (now (name .entry)) time (view (now (img .entry)) (entryAt (i .0))) ⌝ }
+    requires { ⌜ length (now name) ≤ layoutOf edition .longestName ⌝ }
+    ensures { λ r. ⌜ r ≡ renamedEntrySector edition (now (name .entry)) time (view (now (img .entry)) (entryAt (i .0))) ⌝ }
 {
-    layout::entry::renamed(fields::sector_part(img, i.sector()), name, time)
+    layout::entry::renamed(fields::sector_part(img, i.sector()), edition, name, time)
 }
 
 // ---- names
 
-// The length isn't 1 to 476, or a byte is 0.
-pub fn bad_name(name: &[u8]) -> bool
-    ensures { λ r. ⌜ r ≡ badName (now (name .entry)) ⌝ }
+// The length isn't 1 to the edition's longest, or a byte is 0.
+pub fn bad_name(edition: u64, name: &[u8]) -> bool
+    ensures { λ r. ⌜ r ≡ badName edition (now (name .entry)) ⌝ }
 {
     let n = name.len();
     if 1 <= n {
-        if n <= layout::entry::LONGEST_NAME {
+        if n <= layout::edition::longest_name(edition) {
             return fields::has_zero(name);
         }
         return true;
     }
     true
+}
+
+// What every call refuses that takes the name of a file and a time.
+pub fn bad_name_or_time(edition: u64, name: &[u8], time: u64) -> bool
+    ensures { λ r. ⌜ r ≡ (badTime edition time || badName edition (now (name .entry))) ⌝ }
+{
+    if layout::edition::bad_time(edition, time) {
+        return true;
+    }
+    bad_name(edition, name)
 }
 
 // A byte that nobody can type, or the slash.
@@ -166,10 +177,10 @@ fn has_untypable(name: &[u8]) -> bool
 }
 
 // The rule for a name that create or rename gives.
-pub fn bad_new_name(name: &[u8]) -> bool
-    ensures { λ r. ⌜ r ≡ badNewName (now (name .entry)) ⌝ }
+pub fn bad_new_name(edition: u64, name: &[u8]) -> bool
+    ensures { λ r. ⌜ r ≡ badNewName edition (now (name .entry)) ⌝ }
 {
-    if bad_name(name) {
+    if bad_name(edition, name) {
         return true;
     }
     has_untypable(name)
@@ -180,13 +191,13 @@ pub fn bad_new_name(name: &[u8]) -> bool
 // The file of that name.
 pub fn file_named(img: &[u8], g: Geometry, name: &[u8]) -> Lowest
     requires { ⌜ Opened (now img) g ⌝ }
-    requires { ⌜ length (now name) ≤ longestName ⌝ }
+    requires { ⌜ length (now name) ≤ layoutOf (g .edition) .longestName ⌝ }
     ensures { λ r. ⌜ r ≡ fileNamed (catalogueOf (view (now (img .entry)))) (now (name .entry)) ⌝ }
 {
     let f = g.files as usize;
     let mut i: usize = 0;
     while i < f {
-        if has_name(img, FileIndex(i as u64), name) {
+        if has_name(img, g.edition, FileIndex(i as u64), name) {
             return Lowest::At(i);
         }
         i += 1;
@@ -259,13 +270,13 @@ pub fn fault21(img: &[u8], g: Geometry) -> Lowest
 // ---- fault 22
 
 // The name in entry i is bad.
-fn bad_name_at(img: &[u8], i: FileIndex) -> bool
+fn bad_name_at(img: &[u8], edition: u64, i: FileIndex) -> bool
     requires { ⌜ 512 * entryAt (i .0) + 512 ≤ length (now img) ⌝ }
-    ensures { λ r. ⌜ r ≡ badName (nameIn (view (now (img .entry)) (entryAt (i .0)))) ⌝ }
+    ensures { λ r. ⌜ r ≡ badName edition (nameIn edition (view (now (img .entry)) (entryAt (i .0)))) ⌝ }
 {
     let s = fields::sector_part(img, i.sector());
-    if layout::entry::name_length(s) <= layout::entry::LONGEST_NAME {
-        return bad_name(layout::entry::name(s));
+    if layout::entry::name_length(s, edition) <= layout::edition::longest_name(edition) {
+        return bad_name(edition, layout::entry::name(s, edition));
     }
     true
 }
@@ -279,12 +290,12 @@ fn most_bytes(g: Geometry) -> u64
 }
 
 // Entry i is occupied, and its name is bad or its size exceeds `most`.
-fn bad_entry(img: &[u8], most: u64, i: FileIndex) -> bool
+fn bad_entry(img: &[u8], edition: u64, most: u64, i: FileIndex) -> bool
     requires { ⌜ 512 * entryAt (i .0) + 512 ≤ length (now img) ⌝ }
-    ensures { λ r. ⌜ r ≡ (isOccupied (view (now (img .entry)) (entryAt (i .0))) && (badName (nameIn (view (now (img .entry)) (entryAt (i .0)))) || ltb most (numberIn (view (now (img .entry)) (entryAt (i .0))) (entryField .size)))) ⌝ }
+    ensures { λ r. ⌜ r ≡ (isOccupied (view (now (img .entry)) (entryAt (i .0))) && (badName edition (nameIn edition (view (now (img .entry)) (entryAt (i .0)))) || ltb most (numberIn (view (now (img .entry)) (entryAt (i .0))) (entryField .size)))) ⌝ }
 {
     if is_occupied(img, i) {
-        if bad_name_at(img, i) {
+        if bad_name_at(img, edition, i) {
             return true;
         }
         return most < size_at(img, i);
@@ -300,7 +311,7 @@ pub fn fault22(img: &[u8], g: Geometry) -> Lowest
     let f = g.files as usize;
     let mut i: usize = 0;
     while i < f {
-        if bad_entry(img, most, FileIndex(i as u64)) {
+        if bad_entry(img, g.edition, most, FileIndex(i as u64)) {
             return Lowest::At(i);
         }
         i += 1;

@@ -18,7 +18,9 @@ use Rattle.model.specs.Search.{first, allBelow, equalBytes}
 use Rattle.model.specs.Geometry.{entryAt}
 use Rattle.model.specs.Disk.{Disk}
 use Rattle.model.specs.Superblock.{geometryIn}
-use Rattle.model.specs.Entry.{entryField, isOccupied, nameIn, badName}
+use Rattle.model.specs.Edition.{layoutOf}
+use Rattle.model.specs.Root.{rootIn}
+use Rattle.model.specs.Entry.{isOccupied, nameIn, badName}
 use Rattle.model.specs.Catalogue.{catalogueOf}
 use Rattle.model.specs.Faults.{fault22, fault23, fault24}
 use Rattle.laws.proofs.Booleans.{and-left, and-right, and-yes}
@@ -48,7 +50,7 @@ pub bucket-below : (h n : ℕ) → h < 4294967296 → 0 < n → h * n / 42949672
 bucket-below h n l p = div-lt-iff-lt-mul {k = 4294967296} (lit< tt) .1 (omega (arith, mul-lt-mul-of-pos-right l p))
 
 same-hash : (key : Key) (a b : List ℕ) → sameKey key a b ≡ true → keyHash key a ≡ keyHash key b
-same-hash Name a b e = rw (same-eq (nameIn a) (nameIn b) e)
+same-hash (Name edition) a b e = rw (same-eq (nameIn edition a) (nameIn edition b) e)
 same-hash Id a b e = ap (mixed 0) (eqb-true _ _ e)
 
 module _ (key : Key) (d : Disk) (n i : ℕ) where
@@ -77,24 +79,30 @@ module _ (d : Disk) where
   abbrev files : ℕ
   files = geometryIn (d 0) .files
 
-  pub names-faulty : first (fault23 (catalogueOf d)) files ≡ first (isFaulty Name d) files
+  abbrev edition : ℕ
+  edition = geometryIn (d 0) .edition
+
+  abbrev name : Key
+  name = Name edition
+
+  pub names-faulty : first (fault23 (catalogueOf d)) files ≡ first (isFaulty name d) files
   unfolding isFaulty isRepeated
-  names-faulty = first-ext (fault23 (catalogueOf d)) (isFaulty Name d) files (λ i l. fault23-is d i l)
+  names-faulty = first-ext (fault23 (catalogueOf d)) (isFaulty name d) files (λ i l. fault23-is d i l)
 
   pub ids-faulty : first (fault24 (catalogueOf d)) files ≡ first (isFaulty Id d) files
-  unfolding isFaulty isRepeated
+  unfolding isFaulty isRepeated rootIn
   ids-faulty = first-ext (fault24 (catalogueOf d)) (isFaulty Id d) files (λ i l. fault24-is d i l)
 
   -- where fault 22 is nowhere, every name ends in its sector
-  pub names-fit : first (fault22 (catalogueOf d)) files ≡ Nowhere → KeysFit Name d files
-  names-fit e j l o = go (decLt 476 (numberIn s (entryField .nameLength)))
+  pub names-fit : first (fault22 (catalogueOf d)) files ≡ Nowhere → KeysFit name d files
+  names-fit e j l o = go (decLt (layoutOf edition .longestName) (numberIn s (layoutOf edition .nameLength)))
     where
       s : List ℕ
       s = d (entryAt j)
 
-      go : Dec (476 < numberIn s (entryField .nameLength)) → leb (numberIn s (entryField .nameLength)) 476 ≡ true
+      go : Dec (layoutOf edition .longestName < numberIn s (layoutOf edition .nameLength)) → leb (numberIn s (layoutOf edition .nameLength)) (layoutOf edition .longestName) ≡ true
       go (yes h) =
-          let long : badName (nameIn s) ≡ true = long-name (nameIn s) (rw (length-nameIn s) h) in
+          let long : badName edition (nameIn edition s) ≡ true = long-name edition (nameIn edition s) (rw (length-nameIn edition s) h) in
           let f : fault22 (catalogueOf d) j ≡ true = fault22-is d j l ∙ rw (o, long) in
           absurd (true≢false (sym f ∙ first-missed (fault22 (catalogueOf d)) files e j l))
-      go (no h) = le-leb (numberIn s (entryField .nameLength)) 476 (omega arith)
+      go (no h) = le-leb (numberIn s (layoutOf edition .nameLength)) (layoutOf edition .longestName) (omega arith)

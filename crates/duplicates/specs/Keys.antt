@@ -9,19 +9,20 @@ use Rattle.model.specs.Bytes.{beAt, numberIn}
 use Rattle.model.specs.Search.{anyBelow, equalBytes}
 use Rattle.model.specs.Geometry.{rootAt, entryAt}
 use Rattle.model.specs.Disk.{Disk}
-use Rattle.model.specs.Root.{rootIn}
-use Rattle.model.specs.Entry.{entryField, longestName, isOccupied, nameIn}
+use Rattle.model.specs.Edition.{layoutOf}
+use Rattle.model.specs.Root.{rootField}
+use Rattle.model.specs.Entry.{entryField, isOccupied, nameIn}
 use Rattle.duplicates.specs.declared.Key.{Key}
 use Rattle.duplicates.specs.declared.Key.the-variants.{Name, Id}
 
 -- two entries' sectors have the same key
 abbrev pub sameKey : Key → List ℕ → List ℕ → Bool
-sameKey Name a b = equalBytes (nameIn a) (nameIn b)
+sameKey (Name edition) a b = equalBytes (nameIn edition a) (nameIn edition b)
 sameKey Id a b = eqb (numberIn a (entryField .id)) (numberIn b (entryField .id))
 
 -- the key ends in its sector
 abbrev pub keyFits : Key → List ℕ → Bool
-keyFits Name s = leb (numberIn s (entryField .nameLength)) longestName
+keyFits (Name edition) s = leb (numberIn s (layoutOf edition .nameLength)) (layoutOf edition .longestName)
 keyFits Id s = true
 
 abbrev pub KeysFit : Key → Disk → ℕ → Type 0
@@ -29,8 +30,8 @@ KeysFit key d n = (j : ℕ) → j < n → isOccupied (d (entryAt j)) ≡ true �
 
 -- "id is 0, the root's"; no name is reserved
 abbrev pub isReserved : Key → Disk → ℕ → Bool
-isReserved Name d i = false
-isReserved Id d i = eqb (numberIn (d (entryAt i)) (entryField .id)) 0 || eqb (numberIn (d (entryAt i)) (entryField .id)) (rootIn (d rootAt) .id)
+isReserved (Name edition) d i = false
+isReserved Id d i = eqb (numberIn (d (entryAt i)) (entryField .id)) 0 || eqb (numberIn (d (entryAt i)) (entryField .id)) (numberIn (d rootAt) (rootField .id))
 
 module _ (key : Key) (d : Disk) (i : ℕ) where
   -- entry j is occupied and has entry i's key; some entry below i; the fault, 23 of names and 24 of ids
@@ -57,7 +58,7 @@ unfoldable pub nameHash : List ℕ → ℕ
 nameHash s = mixed (wordsHash s (length s / 8)) (beAt s (8 * (length s / 8)) (length s % 8))
 
 abbrev pub keyHash : Key → List ℕ → ℕ
-keyHash Name s = nameHash (nameIn s)
+keyHash (Name edition) s = nameHash (nameIn edition s)
 keyHash Id s = mixed 0 (numberIn s (entryField .id))
 
 -- which of n buckets

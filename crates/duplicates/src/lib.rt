@@ -16,9 +16,9 @@ ghost use Rattle.model.specs.Opened.{Opened};
 ghost use Rattle.duplicates.specs.Keys.{shares, keyFits, KeysFit, isReserved, isRepeated, isFaulty, mixed, nameHash, keyHash, bucketOf};
 ghost use Rattle.duplicates.specs.Chains.{Chained, Entered};
 
-// What no two occupied entries may share.
+// What no two occupied entries may share. A name stands where the edition has it.
 enum Key {
-    Name,
+    Name(u64),
     Id,
 }
 
@@ -53,7 +53,7 @@ fn key_hash(img: &[u8], key: Key, i: FileIndex) -> u32
     ensures { λ r. ⌜ r ≡ keyHash key (view (now (img .entry)) (entryAt (i .0))) ⌝ }
 {
     match key {
-        Key::Name => name_hash(directory::name_at(img, i)),
+        Key::Name(edition) => name_hash(directory::name_at(img, edition, i)),
         Key::Id => mixed(0, directory::id_at(img, i)),
     }
 }
@@ -79,7 +79,9 @@ fn shares(img: &[u8], key: Key, i: FileIndex, j: FileIndex) -> bool
     ensures { λ r. ⌜ r ≡ shares key (view (now (img .entry))) (i .0) (j .0) ⌝ }
 {
     match key {
-        Key::Name => directory::has_name(img, j, directory::name_at(img, i)),
+        Key::Name(edition) => {
+            directory::has_name(img, edition, j, directory::name_at(img, edition, i))
+        }
         Key::Id => directory::has_id_at(img, j, directory::id_at(img, i)),
     }
 }
@@ -101,7 +103,7 @@ fn is_reserved(img: &[u8], key: Key, i: FileIndex) -> bool
     ensures { λ r. ⌜ r ≡ isReserved key (view (now (img .entry))) (i .0) ⌝ }
 {
     match key {
-        Key::Name => false,
+        Key::Name(_) => false,
         Key::Id => is_reserved_id(img, i),
     }
 }
@@ -233,7 +235,7 @@ pub fn fault23(img: &[u8], g: Geometry) -> Lowest
     requires { ⌜ first (fault22 (catalogueOf (view (now img)))) (g .files) ≡ Lowest.Nowhere ⌝ }
     ensures { λ r. ⌜ r ≡ first (fault23 (catalogueOf (view (now (img .entry))))) (g .files) ⌝ }
 {
-    first_faulty(img, g, Key::Name)
+    first_faulty(img, g, Key::Name(g.edition))
 }
 
 pub fn fault24(img: &[u8], g: Geometry) -> Lowest
@@ -272,7 +274,7 @@ pub fn fault23_with(img: &[u8], g: Geometry, scratch: &mut [u32]) -> Lowest
     requires { ⌜ g .files ≤ length (now scratch) ⌝ }
     ensures { λ r. ⌜ r ≡ first (fault23 (catalogueOf (view (now (img .entry))))) (g .files) ⌝ }
 {
-    first_faulty_with(img, g, Key::Name, scratch)
+    first_faulty_with(img, g, Key::Name(g.edition), scratch)
 }
 
 pub fn fault24_with(img: &[u8], g: Geometry, scratch: &mut [u32]) -> Lowest

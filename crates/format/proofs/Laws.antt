@@ -15,8 +15,9 @@ use Rattle.model.specs.Bytes.{put}
 use Rattle.model.specs.WriteList.{recordSize, recordBytes}
 use Rattle.model.specs.Opened.{Bounded}
 use Rattle.model.proofs.Areas.{bounds}
-use Rattle.laws.proofs.Booleans.{and-right}
-use Rattle.model.specs.Format.{Format, doubled, geometryFor, canFormat, formatCount, formatRecord, formatVerdict, formatAnswer, formatOutput}
+use Rattle.laws.proofs.Booleans.{and-left, and-right}
+use Rattle.model.specs.Edition.{isEdition, badTime}
+use Rattle.model.specs.Format.{Format, doubled, geometryFor, formattedGeometry, canFormat, formatCount, formatRecord, formatVerdict, formatAnswer, formatOutput}
 
 -- ---- S is 2 ^ (7 + i) after i doublings
 
@@ -56,15 +57,17 @@ and-one true = refl
 and-one false = refl
 
 -- the code's first test; and what follows from the three
-abbrev pub isFormattable : ℕ → Geometry → Bool
-isFormattable sectors g = leb (546 + g .files) sectors && inBounds g
+abbrev pub isFormattable : ℕ → ℕ → Geometry → Bool
+isFormattable sectors time g = leb (546 + g .files) sectors && inBounds g && isEdition (g .edition) && not (badTime (g .edition) time)
 
-pub bounded : (sectors : ℕ) (g : Geometry) → isFormattable sectors g ≡ true → extentSectors g ≤ 4294967295 → Bounded g
-bounded sectors g e s = bounds g (and-right (leb (546 + g .files) sectors) (inBounds g) e) s
+pub bounded : (sectors time : ℕ) (g : Geometry) → isFormattable sectors time g ≡ true → extentSectors g ≤ 4294967295 → Bounded g
+bounded sectors time g e s =
+    let fits = leb (546 + g .files) sectors in
+    bounds g (and-right fits (inBounds g) (and-left (fits && inBounds g) (isEdition (g .edition)) (and-left (fits && inBounds g && isEdition (g .edition)) _ e))) s
 
-module _ (a : Format) (p : ℕ) (out : List ℕ) (g : Geometry) (is : g ≡ geometryFor (a .sectors) (a .files)) where
+module _ (a : Format) (p : ℕ) (out : List ℕ) (g : Geometry) (is : g ≡ formattedGeometry a) where
   by-tests : formatVerdict a p (length out)
-      ≡ verdictOf ((not (isFormattable (a .sectors) g), refusal 8) ∷ (leb (formatCount g) p, refusal 9) ∷ (ltb (length out) recordSize, refusal 14) ∷ [])
+      ≡ verdictOf ((not (isFormattable (a .sectors) (a .time) g), refusal 8) ∷ (leb (formatCount g) p, refusal 9) ∷ (ltb (length out) recordSize, refusal 14) ∷ [])
   unfolding formatVerdict canFormat geometryFor
   by-tests = rw is
 
@@ -73,11 +76,11 @@ module _ (a : Format) (p : ℕ) (out : List ℕ) (g : Geometry) (is : g ≡ geom
   unfolding formatAnswer formatOutput
   refused-as n z e = (rw (e, z), rw (e, z))
 
-  pub refused-8 : isFormattable (a .sectors) g ≡ false → (record { number = 8; length = 0 } ≡ formatAnswer a p (length out)) × (out ≡ formatOutput a p out)
+  pub refused-8 : isFormattable (a .sectors) (a .time) g ≡ false → (record { number = 8; length = 0 } ≡ formatAnswer a p (length out)) × (out ≡ formatOutput a p out)
   unfolding verdictOf
   refused-8 e = refused-as 8 refl (by-tests ∙ rw e)
 
-  module _ (can : isFormattable (a .sectors) g ≡ true) where
+  module _ (can : isFormattable (a .sectors) (a .time) g ≡ true) where
     pub refused-9 : formatCount g ≤ p → (record { number = 9; length = 0 } ≡ formatAnswer a p (length out)) × (out ≡ formatOutput a p out)
     unfolding verdictOf
     refused-9 h = refused-as 9 refl (by-tests ∙ rw (can, le-leb _ _ h))

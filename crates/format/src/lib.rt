@@ -4,12 +4,13 @@ use model::Formatted;
 use model::Geometry;
 use model::Sector;
 ghost use mathlib.Core.Path.{_≡_};
-ghost use mathlib.Core.Bool.{_&&_};
+ghost use mathlib.Core.Bool.{not, _&&_};
 ghost use Prim.Native.Nat.{_+_, _-_, _≤_, _<_};
 ghost use lib.Dec.{leb};
 ghost use lib.ListN.{length};
 ghost use Rattle.model.specs.Bytes.{put, onesSector};
 ghost use Rattle.model.specs.Geometry.{tableAt, inBounds};
+ghost use Rattle.model.specs.Edition.{isEdition, badTime};
 ghost use Rattle.model.specs.WriteList.{sectorWrite, barrier, recordSize, recordBytes};
 ghost use Rattle.model.specs.Format.{Format, doubled, geometryFor, formatCount, formatRecord, formatAnswer, formatOutput};
 ghost use Rattle.model.specs.Opened.{Bounded};
@@ -48,8 +49,8 @@ fn extent_sectors_for(room: u64) -> u32
 }
 
 // The geometry that a sector count gives. It may break the bounds: N passes 65,535 where the doubling ends too early.
-fn geometry_for(sectors: u64, files: u64) -> Geometry
-    ensures { λ r. ⌜ r ≡ geometryFor sectors files ⌝ }
+fn geometry_for(sectors: u64, files: u64, edition: u64) -> Geometry
+    ensures { λ r. ⌜ r ≡ geometryFor sectors files edition ⌝ }
 {
     let room = data_room(sectors, files);
     let s = extent_sectors_for(room);
@@ -57,15 +58,29 @@ fn geometry_for(sectors: u64, files: u64) -> Geometry
         files,
         extents: room / (s as u64),
         extent_sectors: s,
+        edition,
     }
 }
 
 // The files are in bounds, and there is a geometry. The bounds are tested first, so that the sum cannot overflow.
-fn can_format(sectors: u64, g: Geometry) -> bool
+fn has_room(sectors: u64, g: Geometry) -> bool
     ensures { λ r. ⌜ r ≡ (leb (546 + g .files) sectors && inBounds g) ⌝ }
 {
     if g.in_bounds() {
         return 546 + g.files <= sectors;
+    }
+    false
+}
+
+// There is such an edition, and its fields hold the time.
+fn can_format(sectors: u64, g: Geometry, time: u64) -> bool
+    ensures { λ r. ⌜ r ≡ (leb (546 + g .files) sectors && inBounds g && isEdition (g .edition) && not (badTime (g .edition) time)) ⌝ }
+{
+    if has_room(sectors, g) {
+        if layout::edition::is_edition(g.edition) {
+            return !layout::edition::bad_time(g.edition, time);
+        }
+        return false;
     }
     false
 }
@@ -115,7 +130,7 @@ fn put_barrier(out: &mut [u8], p: u64)
 }
 
 // The record of a position, with this position, at the output's front.
-fn put_record(g: Geometry, id: u64, mode: u32, time: u32, p: u64, out: &mut [u8])
+fn put_record(g: Geometry, id: u64, mode: u32, time: u64, p: u64, out: &mut [u8])
     requires { ⌜ Bounded g ⌝ }
     requires { ⌜ p < formatCount g ⌝ }
     requires { ⌜ recordSize ≤ length (now out) ⌝ }
@@ -128,7 +143,7 @@ fn put_record(g: Geometry, id: u64, mode: u32, time: u32, p: u64, out: &mut [u8]
         return put_barrier(out, p);
     }
     if p == 2 {
-        return put_sector(out, p, Sector(1), layout::root::new(id, mode, time));
+        return put_sector(out, p, Sector(1), layout::root::new(g.edition, id, mode, time));
     }
     if p < 3 + g.files {
         return put_sector(out, p, FileIndex(p - 3).sector(), layout::zero_sector());
@@ -159,17 +174,18 @@ fn refused(number: u64) -> Formatted
 pub fn format_record(
     sectors: u64,
     files: u64,
+    edition: u64,
     id: u64,
     mode: u32,
-    time: u32,
+    time: u64,
     position: u64,
     out: &mut [u8],
 ) -> Formatted
-    ensures { λ r. ⌜ r ≡ formatAnswer (record { sectors = sectors; files = files; id = id; mode = mode; time = time }) position (length (now (out .entry))) ⌝ }
-    ensures { λ _. ⌜ now (out .exit) ≡ formatOutput (record { sectors = sectors; files = files; id = id; mode = mode; time = time }) position (now (out .entry)) ⌝ }
+    ensures { λ r. ⌜ r ≡ formatAnswer (record { sectors = sectors; files = files; edition = edition; id = id; mode = mode; time = time }) position (length (now (out .entry))) ⌝ }
+    ensures { λ _. ⌜ now (out .exit) ≡ formatOutput (record { sectors = sectors; files = files; edition = edition; id = id; mode = mode; time = time }) position (now (out .entry)) ⌝ }
 {
-    let g = geometry_for(sectors, files);
-    if can_format(sectors, g) {
+    let g = geometry_for(sectors, files, edition);
+    if can_format(sectors, g, time) {
         if position < record_count(g) {
             if lists::RECORD_SIZE <= out.len() {
                 put_record(g, id, mode, time, position, out);

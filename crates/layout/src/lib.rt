@@ -1,4 +1,5 @@
 // The sector formats of document 01: each field's place stands once, and what reads a format and what writes it stand together.
+pub mod edition;
 pub mod entry;
 pub mod journal;
 pub mod root;
@@ -11,7 +12,7 @@ ghost use lib.ListN.{length};
 ghost use Rattle.model.specs.Bytes.{beAt, beBytes, put, raised, zeroSector};
 
 // Where a number stands in a sector: its first byte and its width in bytes.
-struct Field {
+pub struct Field {
     pub offset: usize,
     pub width: usize,
 }

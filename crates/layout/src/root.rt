@@ -20,16 +20,6 @@ const MODE: Field = Field {
     width: 4,
 };
 
-const ACCESS_TIME: Field = Field {
-    offset: 16,
-    width: 4,
-};
-
-const CHANGE_TIME: Field = Field {
-    offset: 20,
-    width: 4,
-};
-
 pub fn id(s: &[u8]) -> u64
     requires { ⌜ length (now s) ≡ 512 ⌝ }
     ensures { λ r. ⌜ r ≡ numberIn (now (s .entry)) (rootField .id) ⌝ }
@@ -38,25 +28,30 @@ pub fn id(s: &[u8]) -> u64
 }
 
 // The sector with the version up and the change time set.
-pub fn updated(s: &[u8], time: u32) -> [u8; 512]
+pub fn updated(s: &[u8], edition: u64, time: u64) -> [u8; 512]
     requires { ⌜ length (now s) ≡ 512 ⌝ }
-    ensures { λ r. ⌜ r ≡ updatedRootSector time (now (s .entry)) ⌝ }
+    ensures { λ r. ⌜ r ≡ updatedRootSector edition time (now (s .entry)) ⌝ }
 {
+    let e = super::edition::of(edition);
+    let change = e.root_change_time;
     let mut a = super::owned(s);
     let version = super::raised_version(super::number_in(s, VERSION));
     super::set_to(&mut a, VERSION, version);
-    super::set_to(&mut a, CHANGE_TIME, time as u64);
+    super::set_to(&mut a, change, time);
     a
 }
 
 // Format's: the version is 0, as are the unused bytes.
-pub fn new(id: u64, mode: u32, time: u32) -> [u8; 512]
-    ensures { λ r. ⌜ r ≡ newRootSector id mode time ⌝ }
+pub fn new(edition: u64, id: u64, mode: u32, time: u64) -> [u8; 512]
+    ensures { λ r. ⌜ r ≡ newRootSector edition id mode time ⌝ }
 {
+    let e = super::edition::of(edition);
+    let access = e.root_access_time;
+    let change = e.root_change_time;
     let mut a = super::zero_sector();
     super::set_to(&mut a, ID, id);
     super::set_to(&mut a, MODE, mode as u64);
-    super::set_to(&mut a, ACCESS_TIME, time as u64);
-    super::set_to(&mut a, CHANGE_TIME, time as u64);
+    super::set_to(&mut a, access, time);
+    super::set_to(&mut a, change, time);
     a
 }

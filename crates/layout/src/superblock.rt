@@ -38,13 +38,13 @@ const JOURNAL_LENGTH: Field = Field {
 
 // ---- what reads it
 
-// It has the magic and the version.
+// It has the magic, and the version is an edition's.
 pub fn is_volume(s: &[u8]) -> bool
     requires { ⌜ length (now s) ≡ 512 ⌝ }
     ensures { λ r. ⌜ r ≡ isVolume (now (s .entry)) ⌝ }
 {
     if fields::starts_with(&s[MAGIC..MAGIC_END], b"/Goo/FS/") {
-        return super::number_in(s, VERSION) == 1;
+        return super::edition::is_edition(super::number_in(s, VERSION));
     }
     false
 }
@@ -56,10 +56,12 @@ pub fn geometry(s: &[u8]) -> Geometry
     let files = super::number_in(s, FILES);
     let extents = super::number_in(s, EXTENTS);
     let extent_sectors = super::number_in(s, EXTENT_SECTORS) as u32;
+    let edition = super::number_in(s, VERSION);
     Geometry {
         files,
         extents,
         extent_sectors,
+        edition,
     }
 }
 
@@ -89,7 +91,7 @@ pub fn new(g: Geometry, n: u64) -> [u8; 512]
     super::set_to(&mut a, EXTENTS, g.extents);
     super::set_to(&mut a, EXTENT_SECTORS, g.extent_sectors as u64);
     fields::copy_bytes(b"/Goo/FS/", 0, &mut a, MAGIC, 8);
-    super::set_to(&mut a, VERSION, 1);
+    super::set_to(&mut a, VERSION, g.edition);
     super::set_to(&mut a, JOURNAL_LENGTH, n);
     a
 }

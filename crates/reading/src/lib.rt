@@ -14,7 +14,8 @@ ghost use Rattle.model.specs.Bytes.{numberIn, put};
 ghost use Rattle.model.specs.Geometry.{entryAt};
 ghost use Rattle.model.specs.Disk.{view};
 ghost use Rattle.model.specs.Search.{indexOf};
-ghost use Rattle.model.specs.Entry.{entryField, longestName, nameIn, noFields};
+ghost use Rattle.model.specs.Edition.{layoutOf};
+ghost use Rattle.model.specs.Entry.{nameIn, noFields};
 ghost use Rattle.model.specs.Table.{freeFile};
 ghost use Rattle.model.specs.Catalogue.{catalogueOf, fileNamed, fileBytes};
 ghost use Rattle.model.specs.Refusals.{verdictOf, given, judged};
@@ -69,13 +70,13 @@ pub fn find_in(img: &[u8], name: &[u8]) -> Found
     requires { ⌜ judged (length (now img)) (view (now img)) .number ≡ 0 ⌝ }
     ensures { λ r. ⌜ r ≡ foundBy (verdictOf (nameConditions (catalogueOf (view (now (img .entry)))) (now (name .entry)))) (catalogueOf (view (now (img .entry)))) (now (name .entry)) ⌝ }
 {
-    if directory::bad_name(name) {
+    let g = volume::geometry_in(img);
+    if directory::bad_name(g.edition, name) {
         return not_found(volume::refusal(8));
     }
-    let g = volume::geometry_in(img);
     if let Lowest::At(i) = directory::file_named(img, g, name) {
         let index = FileIndex(i as u64);
-        let fields = directory::fields_at(img, index);
+        let fields = directory::fields_at(img, g.edition, index);
         let verdict = volume::refusal(0);
         return Found {
             verdict,
@@ -87,12 +88,12 @@ pub fn find_in(img: &[u8], name: &[u8]) -> Found
 }
 
 // Copies entry i's name to the front of the output, which has room for it.
-fn copy_name(img: &[u8], i: FileIndex, out: &mut [u8], n: usize)
+fn copy_name(img: &[u8], edition: u64, i: FileIndex, out: &mut [u8], n: usize)
     requires { ⌜ 512 * entryAt (i .0) + 512 ≤ length (now img) ⌝ }
-    requires { ⌜ (n ≡ numberIn (view (now img) (entryAt (i .0))) (entryField .nameLength)) × (n ≤ longestName) × (n ≤ length (now out)) ⌝ }
-    ensures { λ _. ⌜ now (out .exit) ≡ put (now (out .entry)) 0 (nameIn (view (now (img .entry)) (entryAt (i .0)))) ⌝ }
+    requires { ⌜ (n ≡ numberIn (view (now img) (entryAt (i .0))) (layoutOf edition .nameLength)) × (n ≤ layoutOf edition .longestName) × (n ≤ length (now out)) ⌝ }
+    ensures { λ _. ⌜ now (out .exit) ≡ put (now (out .entry)) 0 (nameIn edition (view (now (img .entry)) (entryAt (i .0)))) ⌝ }
 {
-    fields::copy_bytes(directory::name_at(img, i), 0, out, 0, n);
+    fields::copy_bytes(directory::name_at(img, edition, i), 0, out, 0, n);
 }
 
 pub fn list_in(img: &[u8], index: u64, out: &mut [u8]) -> Listed
@@ -104,10 +105,10 @@ pub fn list_in(img: &[u8], index: u64, out: &mut [u8]) -> Listed
     if index < g.files {
         let i = FileIndex(index);
         if directory::is_occupied(img, i) {
-            let fields = directory::fields_at(img, i);
+            let fields = directory::fields_at(img, g.edition, i);
             let n = fields.name_length as usize;
             if n <= out.len() {
-                copy_name(img, i, out, n);
+                copy_name(img, g.edition, i, out, n);
                 let verdict = volume::refusal(0);
                 return Listed { verdict, fields };
             }
@@ -150,13 +151,13 @@ pub fn read_in(img: &[u8], name: &[u8], offset: u64, asked: u64, out: &mut [u8])
     ensures { λ r. ⌜ r ≡ readBy (verdictOf (readConditions (catalogueOf (view (now (img .entry)))) (now (name .entry)) offset asked (length (now (out .entry))))) (catalogueOf (view (now (img .entry)))) (now (name .entry)) offset asked ⌝ }
     ensures { λ r. ⌜ now (out .exit) ≡ put (now (out .entry)) 0 (fileBytes (catalogueOf (view (now (img .entry)))) (view (now (img .entry))) (indexOf (fileNamed (catalogueOf (view (now (img .entry)))) (now (name .entry)))) offset (r .count)) ⌝ }
 {
-    if directory::bad_name(name) {
+    let g = volume::geometry_in(img);
+    if directory::bad_name(g.edition, name) {
         return not_read(volume::refusal(8));
     }
     if 65536 < asked {
         return not_read(volume::refusal(8));
     }
-    let g = volume::geometry_in(img);
     if let Lowest::At(i) = directory::file_named(img, g, name) {
         let index = FileIndex(i as u64);
         let size = directory::size_at(img, index);

@@ -23,7 +23,7 @@ pub fn is_whole(len: usize) -> bool
     false
 }
 
-// The superblock has the magic and the version.
+// The superblock has the magic, and its version is an edition.
 pub fn is_volume(img: &[u8]) -> bool
     requires { ⌜ 512 ≤ length (now img) ⌝ }
     ensures { λ r. ⌜ r ≡ isVolume (view (now (img .entry)) 0) ⌝ }
@@ -109,6 +109,7 @@ fn no_summary(v: Verdict) -> Summarized
                 files: 0,
                 extents: 0,
                 extent_sectors: 0,
+                edition: 0,
             },
             state: State::Clean,
         },

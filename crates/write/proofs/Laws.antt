@@ -1,7 +1,7 @@
 -- What a write needs and how it is decided, from the tests that the code makes. Assumes nothing.
 use Prim.Native.Nat.{ℕ, _*_, _-_, _≤_, _<_, _/_}
 use mathlib.Core.Path.{_≡_, refl, sym, ap, ap₂, _∙_}
-use mathlib.Core.Bool.{Bool, true, false, cond, not, _&&_}
+use mathlib.Core.Bool.{Bool, true, false, cond, not, _&&_, _||_}
 use mathlib.Core.List.{List, [], _∷_}
 use mathlib.Core.Option.{Option, none, some}
 use native.Mathlib.Omega.{arith}
@@ -12,10 +12,12 @@ use Rattle.model.specs.declared.Changed.{Changed}
 use Rattle.model.specs.declared.Geometry.{Geometry}
 use Rattle.model.specs.declared.Lowest.{Lowest}
 use Rattle.model.specs.declared.Lowest.the-variants.{At}
+use Rattle.model.specs.declared.Verdict.{Verdict}
 use Rattle.model.specs.Search.{scan, tabulate, isAt, indexOf}
 use Rattle.model.specs.Geometry.{entryAt, extentsFor, usable}
 use Rattle.model.specs.Disk.{Disk, view}
 use Rattle.model.specs.Bytes.{numberIn}
+use Rattle.model.specs.Edition.{badTime}
 use Rattle.model.specs.Entry.{entryField, Entry, entryIn, badName, updatedEntrySector}
 use Rattle.model.specs.Table.{tableFile, tableSectorOf, takenIn, freeFile}
 use Rattle.model.specs.Catalogue.{Catalogue, catalogueOf, fileNamed, freeExtent, entryOf}
@@ -25,13 +27,12 @@ use Rattle.model.specs.Read.{longestTransfer, sizeNamed}
 use Rattle.model.specs.Write.{touchedSectors, heldExtents, grows, noRoom, sizeAfter, dataSector, writePlan, writePlanned, writeConditions, writeDecision, writeAnswer, writeList}
 use Rattle.model.specs.Opened.{Opened}
 use Rattle.laws.proofs.Search.{Hit, scan-hit, length-tabulate}
-use Rattle.laws.proofs.Booleans.{or-right}
 use Rattle.laws.proofs.Judged.{judged-sound}
-use Rattle.laws.proofs.Named.{named-at, named-entry, size-fits}
+use Rattle.laws.proofs.Named.{editionOn, named-at, named-entry, size-fits}
 use Rattle.table.proofs.Laws.{free-extent-is}
 use Rattle.laws.proofs.WriteList.{plan-needs}
 use Rattle.commit.proofs.Records.{emitted-length}
-use Rattle.commit.proofs.Decided.{ComesTo, refused-by-own, refused-as-short, done-as-planned, done-with-nothing}
+use Rattle.commit.proofs.Decided.{same-refusals, ComesTo, refused-by-own, refused-as-short, done-as-planned, done-with-nothing}
 use Rattle.write.specs.FileWrite.{Asked, fileConditions, fileDecision, roomDecision}
 
 -- ---- what a new size needs
@@ -77,7 +78,7 @@ module _ (c : Catalogue) (i : ℕ) (d : Disk) (offset : ℕ) (bytes : List ℕ) 
   sectorsOut = tabulate (dataSector c i d offset bytes) (offset / 512) (touchedSectors offset (length bytes))
 
   abbrev pub entryOut : ℕ → Record
-  entryOut z = sectorWrite (entryAt i) (updatedEntrySector z time (d (entryAt i)))
+  entryOut z = sectorWrite (entryAt i) (updatedEntrySector (c .geometry .edition) z time (d (entryAt i)))
 
   abbrev pub tableOut : ℕ → Record
   tableOut x = sectorWrite (tableSectorOf (c .geometry) x) (takenIn x i (heldExtents c i) (d (tableSectorOf (c .geometry) x)))
@@ -120,6 +121,10 @@ module _ (c : Catalogue) (i : ℕ) (d : Disk) (offset : ℕ) (bytes : List ℕ) 
 pub decided-same : (len : ℕ) (d : Disk) (cs ds : Conditions) (plan : Option Plan) (room : ℕ) → verdictOf cs ≡ verdictOf ds → decided len d cs plan room ≡ decided len d ds plan room
 unfolding decided
 decided-same len d cs ds plan room e = rw e
+
+either-way : (b : Bool) (v : Verdict) → cond b v v ≡ v
+either-way true v = refl
+either-way false v = refl
 
 abbrev pub refusedBy : ℕ → Changed
 refusedBy k = record { verdict = refusal k; length = 0 }
@@ -200,7 +205,7 @@ module _ (img : List ℕ) (ok : judged (length img) (view img) .number ≡ 0) (l
 
   module _ (name : List ℕ) (offset : ℕ) (bytes : List ℕ) (time : ℕ) where
     abbrev conditions : Conditions
-    conditions = writeConditions (catalogueOf (view img)) name offset (length bytes)
+    conditions = writeConditions (catalogueOf (view img)) name offset (length bytes) time
 
     abbrev planned : Option Plan
     planned = writePlanned (catalogueOf (view img)) (indexOf (fileNamed (catalogueOf (view img)) name)) (view img) offset bytes time
@@ -209,18 +214,35 @@ module _ (img : List ℕ) (ok : judged (length img) (view img) .number ≡ 0) (l
     Written answer after =
         (answer ≡ writeAnswer (length img) (view img) name offset bytes time (length list)) × (after ≡ writeList (length img) (view img) name offset bytes time list)
 
-    pub write-bad-name : badName name ≡ true → Written (refusedBy 8) list
-    unfolding writeAnswer writeList writeDecision writeConditions verdictOf
-    write-bad-name h = own-refusal conditions planned 8 (λ (e : _≡_ {A = ℕ} 8 0). omega arith) (rw h)
+    -- the code's tests
+    abbrev isBad : Bool
+    isBad = badTime (editionOn (view img)) time || badName (editionOn (view img)) name
+
+    abbrev restBy : Verdict
+    restBy =
+        let cat = catalogueOf (view img) in
+        let i = indexOf (fileNamed cat name) in
+        cond (not (isAt (fileNamed cat name))) (refusal 9)
+        (cond (ltb (sizeNamed cat name) offset) (refusal 12) (cond (noRoom cat i (sizeAfter cat i offset (length bytes))) (refusal 13) done))
+
+    write-tests : verdictOf conditions ≡ cond isBad (refusal 8) (cond (ltb longestTransfer (length bytes)) (refusal 8) restBy)
+    unfolding verdictOf writeConditions catalogueOf
+    write-tests = same-refusals (badTime (editionOn (view img)) time) (badName (editionOn (view img)) name) (ltb longestTransfer (length bytes)) (refusal 8) restBy
+
+    pub write-bad : isBad ≡ true → Written (refusedBy 8) list
+    unfolding writeAnswer writeList writeDecision
+    write-bad h = own-refusal conditions planned 8 (λ (e : _≡_ {A = ℕ} 8 0). omega arith) (write-tests ∙ rw h)
 
     pub write-long : longestTransfer < length bytes → Written (refusedBy 8) list
-    unfolding writeAnswer writeList writeDecision writeConditions verdictOf
-    write-long h = own-refusal conditions planned 8 (λ (e : _≡_ {A = ℕ} 8 0). omega arith) (rw (or-right (badName name) _ (lt-ltb longestTransfer (length bytes) h)))
+    unfolding writeAnswer writeList writeDecision
+    write-long h =
+        own-refusal conditions planned 8 (λ (e : _≡_ {A = ℕ} 8 0). omega arith)
+        (write-tests ∙ ap (λ (b : Bool). cond isBad (refusal 8) (cond b (refusal 8) restBy)) (lt-ltb longestTransfer (length bytes) h) ∙ either-way isBad (refusal 8))
 
-    module _ (good : badName name ≡ false) (most : length bytes ≤ longestTransfer) where
+    module _ (good : isBad ≡ false) (most : length bytes ≤ longestTransfer) where
       pub write-missing : isAt (fileNamed (catalogueOf (view img)) name) ≡ false → Written (refusedBy 9) list
-      unfolding writeAnswer writeList writeDecision writeConditions verdictOf
-      write-missing h = own-refusal conditions planned 9 (λ (e : _≡_ {A = ℕ} 9 0). omega arith) (rw (good, le-ltb longestTransfer (length bytes) most, h))
+      unfolding writeAnswer writeList writeDecision
+      write-missing h = own-refusal conditions planned 9 (λ (e : _≡_ {A = ℕ} 9 0). omega arith) (write-tests ∙ rw (good, le-ltb longestTransfer (length bytes) most, h))
 
       sized : (i : ℕ) → At i ≡ fileNamed (catalogueOf (view img)) name → sizeNamed (catalogueOf (view img)) name ≡ entryOf (catalogueOf (view img)) i .size
       unfolding sizeNamed
@@ -228,11 +250,11 @@ module _ (img : List ℕ) (ok : judged (length img) (view img) .number ≡ 0) (l
 
       pub write-found : {answer : Changed} {after : List ℕ} (i : ℕ) → At i ≡ fileNamed (catalogueOf (view img)) name
           → ComesTo (view img) (fileDecision (length img) (view img) i offset bytes time (length list)) list answer after → Written answer after
-      unfolding writeAnswer writeList writeDecision fileDecision writeConditions fileConditions verdictOf
+      unfolding writeAnswer writeList writeDecision fileDecision fileConditions verdictOf
       write-found i e r =
           rw (
             decided-same (length img) (view img) conditions (fileConditions (catalogueOf (view img)) i offset (length bytes)) planned (length list)
-                (rw (good, le-ltb longestTransfer (length bytes) most, ← e, sized i e)),
+                (write-tests ∙ rw (good, le-ltb longestTransfer (length bytes) most, ← e, sized i e)),
             ← e,
           )
           r

@@ -1,6 +1,6 @@
 -- The list of a write: its data sectors, the copies one by one and the commit are the groups of its plan. Assumes nothing.
 use Prim.Native.Nat.{ℕ, _+_, _*_, _-_, _≤_, _<_}
-use mathlib.Core.Path.{_≡_, refl, ap, ap₂, _∙_}
+use mathlib.Core.Path.{_≡_, refl, sym, ap, ap₂, _∙_}
 use mathlib.Core.Bool.{true, false}
 use mathlib.Core.List.{List, [], _∷_}
 use mathlib.Core.Option.{some}
@@ -17,6 +17,7 @@ use Rattle.model.specs.WriteList.{sectorWrite, recordSize, groupsFor, closed, E
 use Rattle.model.specs.Write.{heldExtents, grows, sizeAfter, writePlan}
 use Rattle.model.specs.Opened.{Opened}
 use Rattle.commit.specs.Commit.{commitGroups}
+use Rattle.commit.proofs.Decided.{edition-is}
 use Rattle.commit.proofs.Laws.{staged-none, staged-more, committed-for}
 use Rattle.write.proofs.Laws.{sectorsOut, entryOut, tableOut, plan-more, plan-kept}
 
@@ -28,10 +29,10 @@ module _ (img : List ℕ) (g : Geometry) (o : Opened img g) (i offset : ℕ) (by
   Whole l m j = Emitted l 0 (closed (groupsFor (view img) (some (writePlan c i (view img) offset bytes time)))) m j
 
   module _ {l m₀ m₁ n₁ : List ℕ} {k₀ k₁ : ℕ} (n₀ : List ℕ) (s : ℕ) (e : List ℕ) (first : Emitted l 0 (sectorsOut c i (view img) offset bytes time) m₀ k₀)
-      (at : s ≡ entryAt i) (is : e ≡ updatedEntrySector z time (view img (entryAt i)))
+      (at : s ≡ entryAt i) (is : e ≡ updatedEntrySector (g .edition) z time (view img (entryAt i)))
       (copy : Emitted m₀ k₀ (sectorWrite (reserveAt g + 0) e ∷ []) m₁ k₁) (noted : n₁ ≡ set n₀ 0 s) where
-    entry : Emitted m₀ k₀ (sectorWrite (reserveAt g + 0) (updatedEntrySector z time (view img (entryAt i))) ∷ []) m₁ k₁
-    entry = rw is at copy
+    entry : Emitted m₀ k₀ (sectorWrite (reserveAt g + 0) (updatedEntrySector (c .geometry .edition) z time (view img (entryAt i))) ∷ []) m₁ k₁
+    entry = rw (is ∙ ap (λ (x : ℕ). updatedEntrySector x z time (view img (entryAt i))) (sym (edition-is img g (o .is)))) at copy
 
     number : n₁ ≡ set n₀ 0 (entryAt i)
     number = noted ∙ ap (set n₀ 0) at

@@ -1,32 +1,36 @@
 -- How a resize is decided, from the tests that the code makes. Assumes nothing.
 use Prim.Native.Nat.{ℕ, _+_, _*_, _-_, _/_, _≤_, _<_, max}
 use mathlib.Core.Path.{_≡_, refl, sym, ap, _∙_}
-use mathlib.Core.Bool.{true, false}
+use mathlib.Core.Bool.{Bool, true, false, cond, not, _&&_, _||_}
 use mathlib.Core.List.{List, []}
 use mathlib.Core.Option.{Option, some}
 use native.Mathlib.Nat.{le-div-iff-mul-le, div-mul-le-self}
 use native.Mathlib.Omega.{arith}
+use lib.Dec.{ltb}
 use lib.ListN.{length}
 use borrow.Author.Tests.{lt-ltb, le-ltb}
 use Rattle.model.specs.declared.Changed.{Changed}
 use Rattle.model.specs.declared.Geometry.{Geometry}
 use Rattle.model.specs.declared.Lowest.{Lowest}
 use Rattle.model.specs.declared.Lowest.the-variants.{At}
+use Rattle.model.specs.declared.Verdict.{Verdict}
 use Rattle.model.specs.Search.{isAt, indexOf}
 use Rattle.model.specs.Geometry.{extentBytes, extentsFor, superblockAt}
 use Rattle.model.specs.Disk.{view}
 use Rattle.model.specs.Superblock.{geometryIn}
+use Rattle.model.specs.Edition.{badTime}
 use Rattle.model.specs.Entry.{badName}
 use Rattle.model.specs.Catalogue.{Catalogue, catalogueOf, fileNamed, entryOf, sectorsFrom}
-use Rattle.model.specs.Refusals.{Conditions, verdictOf, done, judged}
+use Rattle.model.specs.Refusals.{Conditions, verdictOf, refusal, done, judged}
 use Rattle.model.specs.WriteList.{Plan, recordSize, recordCount, groupsFor, listLength, closed, Emitted}
 use Rattle.model.specs.Read.{longestTransfer, sizeNamed}
 use Rattle.model.specs.Write.{grows, noRoom, writePlanned}
 use Rattle.model.specs.Resize.{zeros, shrinkPlan, resizePlanned, resizeConditions, resizeDecision, resizeAnswer, resizeList}
 use Rattle.model.specs.Opened.{Bounded, Opened}
 use Rattle.laws.proofs.Bytes.{length-bytesFrom}
+use Rattle.laws.proofs.Named.{editionOn}
 use Rattle.commit.proofs.Records.{emitted-length}
-use Rattle.commit.proofs.Decided.{ComesTo, refused-as-short, done-as-planned}
+use Rattle.commit.proofs.Decided.{same-refusals, ComesTo, refused-as-short, done-as-planned}
 use Rattle.delete.proofs.Decisions.{shrink-needs}
 use Rattle.write.specs.FileWrite.{fileConditions, fileDecision}
 use Rattle.write.specs.FileResize.{sizeConditions, sizeDecision, shrinkDecision}
@@ -119,7 +123,7 @@ module _ (img : List ℕ) (g : Geometry) (o : Opened img g) where
               )
               r
 
--- ---- 8 for the name, 9
+-- ---- 8 for the name or the time, 9
 
 module _ (img : List ℕ) (ok : judged (length img) (view img) .number ≡ 0) (list : List ℕ) where
   abbrev cat : Catalogue
@@ -127,7 +131,7 @@ module _ (img : List ℕ) (ok : judged (length img) (view img) .number ≡ 0) (l
 
   module _ (name : List ℕ) (z time : ℕ) where
     abbrev conditions : Conditions
-    conditions = resizeConditions cat name z
+    conditions = resizeConditions cat name z time
 
     abbrev planned : Option Plan
     planned = resizePlanned cat (view img) (indexOf (fileNamed cat name)) z time
@@ -136,14 +140,28 @@ module _ (img : List ℕ) (ok : judged (length img) (view img) .number ≡ 0) (l
     Resized answer after =
         (answer ≡ resizeAnswer (length img) (view img) name z time (length list)) × (after ≡ resizeList (length img) (view img) name z time list)
 
-    pub resize-bad-name : badName name ≡ true → Resized (refusedBy 8) list
-    unfolding resizeAnswer resizeList resizeDecision resizeConditions verdictOf
-    resize-bad-name h = own-refusal img ok list conditions planned 8 (λ (e : _≡_ {A = ℕ} 8 0). omega arith) (rw h)
+    -- the code's tests
+    abbrev isBad : Bool
+    isBad = badTime (editionOn (view img)) time || badName (editionOn (view img)) name
 
-    module _ (good : badName name ≡ false) where
+    abbrev isFar : Bool
+    isFar = isAt (fileNamed cat name) && ltb (sizeNamed cat name + longestTransfer) z
+
+    abbrev restBy : Verdict
+    restBy = cond (not (isAt (fileNamed cat name))) (refusal 9) (cond (noRoom cat (indexOf (fileNamed cat name)) z) (refusal 13) done)
+
+    resize-tests : verdictOf conditions ≡ cond isBad (refusal 8) (cond isFar (refusal 8) restBy)
+    unfolding verdictOf resizeConditions catalogueOf
+    resize-tests = same-refusals (badTime (editionOn (view img)) time) (badName (editionOn (view img)) name) isFar (refusal 8) restBy
+
+    pub resize-bad : isBad ≡ true → Resized (refusedBy 8) list
+    unfolding resizeAnswer resizeList resizeDecision
+    resize-bad h = own-refusal img ok list conditions planned 8 (λ (e : _≡_ {A = ℕ} 8 0). omega arith) (resize-tests ∙ rw h)
+
+    module _ (good : isBad ≡ false) where
       pub resize-missing : isAt (fileNamed cat name) ≡ false → Resized (refusedBy 9) list
-      unfolding resizeAnswer resizeList resizeDecision resizeConditions verdictOf
-      resize-missing h = own-refusal img ok list conditions planned 9 (λ (e : _≡_ {A = ℕ} 9 0). omega arith) (rw (good, h))
+      unfolding resizeAnswer resizeList resizeDecision
+      resize-missing h = own-refusal img ok list conditions planned 9 (λ (e : _≡_ {A = ℕ} 9 0). omega arith) (resize-tests ∙ rw (good, h))
 
       sized : (i : ℕ) → At i ≡ fileNamed cat name → sizeNamed cat name ≡ entryOf cat i .size
       unfolding sizeNamed
@@ -151,6 +169,6 @@ module _ (img : List ℕ) (ok : judged (length img) (view img) .number ≡ 0) (l
 
       pub resize-found : {answer : Changed} {after : List ℕ} (i : ℕ) → At i ≡ fileNamed cat name → ComesTo (view img) (sizeDecision (length img) (view img) i z time (length list)) list answer after
           → Resized answer after
-      unfolding resizeAnswer resizeList resizeDecision sizeDecision resizeConditions sizeConditions verdictOf
+      unfolding resizeAnswer resizeList resizeDecision sizeDecision sizeConditions verdictOf
       resize-found i e r =
-          rw (decided-same (length img) (view img) conditions (sizeConditions cat i z) planned (length list) (rw (good, ← e, sized i e)), ← e) r
+          rw (decided-same (length img) (view img) conditions (sizeConditions cat i z) planned (length list) (resize-tests ∙ rw (good, ← e, sized i e)), ← e) r

@@ -94,7 +94,7 @@ fn put_write(
     bytes: &[u8],
     len: u64,
     z: u64,
-    time: u32,
+    time: u64,
 ) -> usize
     requires { ⌜ Opened (now img) g ⌝ }
     requires { ⌜ Grown (catalogueOf (view (now img))) (i .0) z w × (w .next .0 < g .extents) ⌝ }
@@ -120,7 +120,7 @@ fn put_write(
         touched,
     );
     let mut numbers = [0u64; 2];
-    let entry = directory::updated_entry(img, i, z, time);
+    let entry = directory::updated_entry(img, g.edition, i, z, time);
     let k1 = commit::put_copy(list, k, g, &mut numbers, 0, i.sector(), entry);
     if w.more {
         let t = taken_sector(img, g, w.next, i, w.held);
@@ -141,7 +141,7 @@ fn put_if_room(
     bytes: &[u8],
     len: u64,
     z: u64,
-    time: u32,
+    time: u64,
 ) -> Changed
     requires { ⌜ judged (length (now img)) (view (now img)) .number ≡ 0 ⌝ }
     requires { ⌜ Opened (now img) g ⌝ }
@@ -174,7 +174,7 @@ fn write_file(
     offset: u64,
     bytes: &[u8],
     len: u64,
-    time: u32,
+    time: u64,
     list: &mut [u8],
 ) -> Changed
     requires { ⌜ Asked (now img) g (i .0) size len ⌝ }
@@ -203,20 +203,20 @@ pub fn write_in(
     name: &[u8],
     offset: u64,
     bytes: &[u8],
-    time: u32,
+    time: u64,
     list: &mut [u8],
 ) -> Changed
     requires { ⌜ judged (length (now img)) (view (now img)) .number ≡ 0 ⌝ }
     ensures { λ r. ⌜ r ≡ writeAnswer (length (now (img .entry))) (view (now (img .entry))) (now (name .entry)) offset (now (bytes .entry)) time (length (now (list .entry))) ⌝ }
     ensures { λ _. ⌜ now (list .exit) ≡ writeList (length (now (img .entry))) (view (now (img .entry))) (now (name .entry)) offset (now (bytes .entry)) time (now (list .entry)) ⌝ }
 {
-    if directory::bad_name(name) {
+    let g = volume::geometry_in(img);
+    if directory::bad_name_or_time(g.edition, name, time) {
         return commit::refused(volume::refusal(8));
     }
     if 65536 < bytes.len() {
         return commit::refused(volume::refusal(8));
     }
-    let g = volume::geometry_in(img);
     if let Lowest::At(i) = directory::file_named(img, g, name) {
         let index = FileIndex(i as u64);
         let size = directory::size_at(img, index);
@@ -238,7 +238,7 @@ pub fn write_in(
 // ---- resize
 
 // File i is shrunk to z: refusal 14, or the list.
-fn shrink_file(img: &[u8], g: Geometry, i: FileIndex, z: u64, time: u32, list: &mut [u8]) -> Changed
+fn shrink_file(img: &[u8], g: Geometry, i: FileIndex, z: u64, time: u64, list: &mut [u8]) -> Changed
     requires { ⌜ judged (length (now img)) (view (now img)) .number ≡ 0 ⌝ }
     requires { ⌜ Opened (now img) g ⌝ }
     requires { ⌜ i .0 < g .files ⌝ }
@@ -263,7 +263,7 @@ fn write_zeros(
     i: FileIndex,
     size: u64,
     n: u64,
-    time: u32,
+    time: u64,
     list: &mut [u8],
 ) -> Changed
     requires { ⌜ Asked (now img) g (i .0) size n ⌝ }
@@ -281,7 +281,7 @@ fn resize_file(
     i: FileIndex,
     size: u64,
     z: u64,
-    time: u32,
+    time: u64,
     list: &mut [u8],
 ) -> Changed
     requires { ⌜ Asked (now img) g (i .0) size 0 ⌝ }
@@ -297,15 +297,15 @@ fn resize_file(
     write_zeros(img, g, i, size, z - size, time, list)
 }
 
-pub fn resize_in(img: &[u8], name: &[u8], size: u64, time: u32, list: &mut [u8]) -> Changed
+pub fn resize_in(img: &[u8], name: &[u8], size: u64, time: u64, list: &mut [u8]) -> Changed
     requires { ⌜ judged (length (now img)) (view (now img)) .number ≡ 0 ⌝ }
     ensures { λ r. ⌜ r ≡ resizeAnswer (length (now (img .entry))) (view (now (img .entry))) (now (name .entry)) size time (length (now (list .entry))) ⌝ }
     ensures { λ _. ⌜ now (list .exit) ≡ resizeList (length (now (img .entry))) (view (now (img .entry))) (now (name .entry)) size time (now (list .entry)) ⌝ }
 {
-    if directory::bad_name(name) {
+    let g = volume::geometry_in(img);
+    if directory::bad_name_or_time(g.edition, name, time) {
         return commit::refused(volume::refusal(8));
     }
-    let g = volume::geometry_in(img);
     if let Lowest::At(i) = directory::file_named(img, g, name) {
         let index = FileIndex(i as u64);
         let old = directory::size_at(img, index);

@@ -18,11 +18,12 @@ own-verdict-requires c κs = judged-opened _ _ (c .geometry-in .ensures) (omega 
 put-create-requires : tie.Need-put-create-requires
 put-create-requires c κs =
     let v = c .before .before .before .before in
-    let o = v .before .geometry-in in (
+    let o = v .before .geometry-in in
+    let s = v .before .before .before .before .before in (
       omega arith,
       (
-        judged-opened _ _ (o .ensures) (omega arith) (v .before .before .before .before .before .pre),
-        good-name _ _ _ (ap (λ (v : Verdict). v .number) (sym (v .own-verdict .ensures)) ∙ c .before .before .if1 .taken),
+        judged-opened _ _ (o .ensures) (omega arith) (s .pre),
+        good-name (s .args .img .now) _ (o .ensures) _ _ _ (ap (λ (v : Verdict). v .number) (sym (v .own-verdict .ensures)) ∙ c .before .before .if1 .taken),
       ),
     )
 

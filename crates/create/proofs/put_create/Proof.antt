@@ -2,6 +2,7 @@
 use Prim.Native.Nat.{_≤_}
 use native.Mathlib.Omega.{arith}
 use Rattle.model.specs.Create.{createPlan}
+use Rattle.commit.proofs.Decided.{edition-is}
 use Rattle.create.proofs.Laws.{free-below}
 use borrow.Author.Needs.{needs}
 use Rattle.create.proofs.put_create.Statement.{statement}
@@ -36,7 +37,15 @@ unfolding createPlan
 returns c =
     let s = c .before .before .before .before in
     let n = s .before .before .before in
-    rw (← n .before .updated-root .ensures, ← n .new .ensures, ← s .before .before .free-entry .ensures, ← s .before .index-of .ensures, ← s .sector .ensures)
+    let a = n .before .before .before .before .before in
+    rw (
+      ← s .before .before .free-entry .ensures,
+      ← s .before .index-of .ensures,
+      ← s .sector .ensures,
+      edition-is (a .args .img .now) (a .args .g) (a .pre .1 .0 .is),
+      ← n .before .updated-root .ensures,
+      ← n .new .ensures,
+    )
     (c .before .before .put-pair .ensures)
 
 pub put-create-spec : {M : Type 1} → statement M

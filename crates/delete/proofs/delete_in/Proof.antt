@@ -6,15 +6,19 @@ use Rattle.model.specs.declared.Geometry.{Geometry}
 use Rattle.model.specs.Disk.{view}
 use Rattle.laws.proofs.Refusals.{image-length}
 use Rattle.laws.proofs.Judged.{judged-image, judged-opened}
-use Rattle.laws.proofs.Named.{named-at, short-name}
+use Rattle.laws.proofs.Named.{named-at}
+use Rattle.commit.proofs.Decided.{named-short}
 use Rattle.delete.proofs.Decisions.{delete-bad, delete-missing, delete-short, delete-done}
 use Rattle.model.specs.WriteList.{recordSize}
 use borrow.Author.Needs.{needs}
 use Rattle.delete.proofs.delete_in.Statement.{statement}
 use Rattle.delete.proofs.delete_in.Tie as tie
 
-bad-name-requires : tie.Need-bad-name-requires
-bad-name-requires c κs = search needs
+geometry-in-requires : tie.Need-geometry-in-requires
+geometry-in-requires c κs = image-length _ _ (judged-image _ _ (c .before .before .before .pre))
+
+bad-name-or-time-requires : tie.Need-bad-name-or-time-requires
+bad-name-or-time-requires c κs = search needs
 
 refusal-requires : tie.Need-refusal-requires
 refusal-requires c κs = search needs
@@ -24,19 +28,19 @@ refused-requires c κs = search needs
 
 returns : tie.Need-returns
 returns c =
-    let s = c .before .before .before .before .before .before .before in
+    let f = c .before .before .before in
+    let s = f .before .before .before .before .before in
     let a = s .args in
     rw (c .refused .ensures, c .before .refusal .ensures)
-    (delete-bad (a .img .now) (a .list .now) (a .name .now) (a .time) (s .pre) (sym (c .before .before .before .bad-name .ensures) ∙ c .before .before .if1 .taken))
-
-geometry-in-requires : tie.Need-geometry-in-requires
-geometry-in-requires c κs = image-length _ _ (judged-image _ _ (c .before .before .before .before .before .pre))
+    (delete-bad (a .img .now) (a .list .now) (a .name .now) (a .time) (s .pre)
+    (rw (f .before .geometry-in .ensures) at (sym (f .bad-name-or-time .ensures) ∙ c .before .before .if1 .taken)))
 
 file-named-requires : tie.Need-file-named-requires
-file-named-requires c κs = (
-  judged-opened _ _ (c .geometry-in .ensures) (omega arith) (c .before .before .before .before .before .before .pre),
-  short-name _ (sym (c .before .before .bad-name .ensures) ∙ c .before .if1 .left),
-)
+file-named-requires c κs =
+    let f = c .before in
+    let s = f .before .before .before .before .before in
+    let e = f .before .geometry-in .result .edition in
+    (judged-opened _ _ (f .before .geometry-in .ensures) (omega arith) (s .pre), named-short e _ (s .args .time) (sym (f .bad-name-or-time .ensures) ∙ c .if1 .left))
 
 enum-known-i : tie.Need-enum-known-i
 enum-known-i c = search needs
@@ -46,7 +50,7 @@ delete-count-requires c κs =
     let f = c .before .before .before in
     let s = f .before .before .before .before .before .before .before in
     let a = s .args in
-    let o = judged-opened _ _ (f .before .geometry-in .ensures) (omega arith) (s .pre) in
+    let o = judged-opened _ _ (f .before .before .before .geometry-in .ensures) (omega (arith, f .before .before .before .geometry-in .ok)) (s .pre) in
     let found = sym (f .file-named .ensures) ∙ c .before .i .given .1 in
     let low = named-at (view (a .img .now)) (a .name .now) (c .before .i .given .0 .0) (sym found) in
     let e = ap (λ (x : Geometry). x .files) (o .is) in
@@ -61,7 +65,7 @@ put-delete-requires c κs =
     let f = k .before .before .before .before in
     let s = f .before .before .before .before .before .before .before in
     let a = s .args in
-    let o = judged-opened _ _ (f .before .geometry-in .ensures) (omega (arith, f .before .geometry-in .ok)) (s .pre) in
+    let o = judged-opened _ _ (f .before .before .before .geometry-in .ensures) (omega (arith, f .before .before .before .geometry-in .ok)) (s .pre) in
     let found = sym (f .file-named .ensures) ∙ k .before .before .i .given .1 in
     let low = named-at (view (a .img .now)) (a .name .now) (k .before .before .i .given .0 .0) (sym found) in
     let e = ap (λ (x : Geometry). x .files) (o .is) in
@@ -79,7 +83,7 @@ returns-2 c =
     let f = k .before .before .before .before in
     let s = f .before .before .before .before .before .before .before in
     let a = s .args in
-    let good = sym (f .before .before .before .bad-name .ensures) ∙ f .before .before .if1 .left in
+    let good = rw (f .before .before .before .geometry-in .ensures) at (sym (f .before .before .bad-name-or-time .ensures) ∙ f .before .if1 .left) in
     let found = sym (f .file-named .ensures) ∙ k .before .before .i .given .1 in
     rw (c .refusal2 .ensures)
     (delete-done (a .img .now) (a .list .now) (a .name .now) (a .time) (s .pre) (k .before .before .i .given .0 .0) good found (recordSize * k .delete-count .result)
@@ -97,7 +101,7 @@ returns-3 c =
     let f = k .before .before .before .before in
     let s = f .before .before .before .before .before .before .before in
     let a = s .args in
-    let good = sym (f .before .before .before .bad-name .ensures) ∙ f .before .before .if1 .left in
+    let good = rw (f .before .before .before .geometry-in .ensures) at (sym (f .before .before .bad-name-or-time .ensures) ∙ f .before .if1 .left) in
     let found = sym (f .file-named .ensures) ∙ k .before .before .i .given .1 in
     rw (c .refused2 .ensures, c .before .refusal3 .ensures)
     (delete-short (a .img .now) (a .list .now) (a .name .now) (a .time) (s .pre) (k .before .before .i .given .0 .0) good found (omega (arith, k .delete-count .ensures .0)))
@@ -116,7 +120,7 @@ returns-4 c =
     let f = c .before .before .before .before in
     let s = f .before .before .before .before .before .before .before in
     let a = s .args in
-    let good = sym (f .before .before .before .bad-name .ensures) ∙ f .before .before .if1 .left in
+    let good = rw (f .before .before .before .geometry-in .ensures) at (sym (f .before .before .bad-name-or-time .ensures) ∙ f .before .if1 .left) in
     let none = sym (f .file-named .ensures) ∙ c .before .before .enum-told .given .1 in
     rw (c .refused3 .ensures, c .before .refusal4 .ensures) (delete-missing (a .img .now) (a .list .now) (a .name .now) (a .time) (s .pre) good none)
 
@@ -124,11 +128,11 @@ pub delete-in-spec : {M : Type 1} → statement M
 delete-in-spec =
     tie.close
     (tie.spec
-    bad-name-requires
+    geometry-in-requires
+    bad-name-or-time-requires
     refusal-requires
     refused-requires
     returns
-    geometry-in-requires
     file-named-requires
     enum-known-i
     delete-count-requires

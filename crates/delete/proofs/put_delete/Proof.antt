@@ -78,7 +78,7 @@ returns c =
     (omega (arith, many, p .put-copy .ensures .0 .next)) in
     let staged = added-then {numbers = replicate 1024 0} (added-then {numbers = replicate 1024 0} root entry) (f .put-freed .ensures .0) in
     added-committed d (deletePlan (catalogueOf d) d (a .i .0) (a .time)) staged (m .put-commit .ensures .0) (s .pre .0 .is)
-    (rw (q .before .sector .ensures, p .before .before .before .updated-root .ensures) (sym (delete-targets d (a .i .0) (a .time))))
+    (rw (q .before .sector .ensures, p .before .before .before .updated-root .ensures) (sym (delete-targets d (a .g) (s .pre .0 .is) (a .i .0) (a .time))))
     (delete-alone d (a .i .0) (a .time))
     (omega (arith, p .put-copy .ensures .0 .next, q .put-copy2 .ensures .0 .next, f .put-freed .ensures .1 .0))
 

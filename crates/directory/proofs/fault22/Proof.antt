@@ -9,10 +9,10 @@ use Rattle.directory.proofs.fault22.Statement.{statement}
 use Rattle.directory.proofs.fault22.Tie as tie
 
 abbrev Inv-loop : tie.InvT-loop
-Inv-loop img most f i₀ i = Seeking (isBad (view img) most) f i
+Inv-loop img g most f i₀ i = Seeking (isBad (view img) (g .edition) most) f i
 
 abbrev μ-loop : tie.MeasureT-loop
-μ-loop img most f i₀ i = f - i
+μ-loop img g most f i₀ i = f - i
 
 most-bytes-requires : tie.Need-most-bytes-requires Inv-loop μ-loop
 most-bytes-requires c κs = search needs

@@ -13,14 +13,14 @@ use Rattle.laws.proofs.Seeking.{Seeking, seek-start, seek-here, seek-next, seek
 use Rattle.directory.proofs.file_named.Statement.{statement}
 use Rattle.directory.proofs.file_named.Tie as tie
 
-abbrev hit : List ℕ → List ℕ → ℕ → Bool
-hit img name i = isOccupied (view img (entryAt i)) && equalBytes (nameIn (view img (entryAt i))) name
+abbrev hit : List ℕ → ℕ → List ℕ → ℕ → Bool
+hit img edition name i = isOccupied (view img (entryAt i)) && equalBytes (nameIn edition (view img (entryAt i))) name
 
 abbrev Inv-loop : tie.InvT-loop
-Inv-loop img name f i₀ i = Seeking (hit img name) f i
+Inv-loop img g name f i₀ i = Seeking (hit img (g .edition) name) f i
 
 abbrev μ-loop : tie.MeasureT-loop
-μ-loop img name f i₀ i = f - i
+μ-loop img g name f i₀ i = f - i
 
 loop-holds : tie.Need-loop-holds Inv-loop μ-loop
 loop-holds c = seek-start

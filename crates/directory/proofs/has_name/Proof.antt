@@ -1,9 +1,11 @@
 -- `directory::has_name` meets its contract. The bytes are compared, the lengths differ, or the entry is free.
 use borrow.Author.Needs.{needs}
+use Prim.Native.Nat.{_+_}
 use mathlib.Core.Path.{_≡_, sym, _∙_}
 use native.Mathlib.Omega.{arith}
 use lib.ListN.{length}
 use Rattle.model.specs.Bytes.{bytesFrom}
+use Rattle.model.specs.Edition.{layoutOf}
 use Rattle.model.specs.Entry.{nameIn}
 use Rattle.laws.proofs.Search.{same-length}
 use Rattle.laws.proofs.Bytes.{bytesFrom-bytesFrom}
@@ -37,7 +39,9 @@ returns c =
     let o = p .before .before .before in
     let s = p .sector-part .result .now in
     let n = length (o .before .before .before .args .name .now) in
-    let e : bytesFrom s 36 n ≡ bytesFrom (bytesFrom s 36 476) 0 n = sym (bytesFrom-bytesFrom s 36 476 0 n (omega arith)) in
+    let l = layoutOf (o .before .before .before .args .edition) in
+    let e : bytesFrom s (l .name) n ≡ bytesFrom (bytesFrom s (l .name) (l .longestName)) 0 n =
+    (let z : l .name + 0 ≡ l .name = omega arith in sym (rw z at (bytesFrom-bytesFrom s (l .name) (l .longestName) 0 n (omega arith)))) in
     rw (
       ← o .is-occupied .ensures,
       p .before .before .if1 .taken,
@@ -56,9 +60,10 @@ returns-2 c =
     let p = d .before in
     let o = p .before .before .before in
     let s = p .sector-part .result .now in
-    let e : length (nameIn s) ≡ d .name-length .result = length-nameIn s ∙ sym (d .name-length .ensures) in
+    let edition = o .before .before .before .args .edition in
+    let e : length (nameIn edition s) ≡ d .name-length .result = length-nameIn edition s ∙ sym (d .name-length .ensures) in
     rw (← o .is-occupied .ensures, p .before .before .if1 .taken, ← p .before .sector .ensures, ← p .sector-part .ensures .0)
-    (sym (same-length (nameIn s) (o .before .before .before .args .name .now) (λ h. c .if2 .left (sym e ∙ h))))
+    (sym (same-length (nameIn edition s) (o .before .before .before .args .name .now) (λ h. c .if2 .left (sym e ∙ h))))
 
 returns-3 : tie.Need-returns-3
 returns-3 c = rw (← c .before .is-occupied .ensures, c .if1 .left)

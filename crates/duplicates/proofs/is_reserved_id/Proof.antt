@@ -1,7 +1,6 @@
 -- `duplicates::is_reserved_id` meets its contract. The id is 0, or it is compared with the root's.
 use borrow.Author.Needs.{needs}
 use borrow.Author.Tests.{eq-eqb, ne-eqb}
-use Rattle.model.specs.Root.{rootIn}
 use Rattle.duplicates.proofs.is_reserved_id.Statement.{statement}
 use Rattle.duplicates.proofs.is_reserved_id.Tie as tie
 
@@ -15,7 +14,6 @@ root-id-requires : tie.Need-root-id-requires
 root-id-requires c κs = search needs
 
 returns-2 : tie.Need-returns-2
-unfolding rootIn
 returns-2 c = rw (← c .before .before .id-at .ensures, ne-eqb _ _ (c .before .if1 .left), ← c .root-id .ensures)
 
 pub is-reserved-id-spec : {M : Type 1} → statement M

@@ -1,29 +1,27 @@
--- `format::can_format` meets its contract. In bounds the sum doesn't overflow and is compared; out of bounds the answer is no.
+-- `format::can_format` meets its contract. The time is judged, or there is no such edition, or no room.
 use borrow.Author.Needs.{needs}
-use mathlib.Core.Path.{sym, _∙_}
-use native.Mathlib.Omega.{arith}
-use Rattle.model.proofs.Areas.{bounds}
-use Rattle.laws.proofs.Booleans.{and-false}
-use Rattle.format.proofs.Laws.{and-one}
-use lib.Dec.{leb}
-use Prim.Native.Nat.{_+_}
 use Rattle.format.proofs.can_format.Statement.{statement}
 use Rattle.format.proofs.can_format.Tie as tie
 
-in-bounds-requires : tie.Need-in-bounds-requires
-in-bounds-requires c κs = search needs
+has-room-requires : tie.Need-has-room-requires
+has-room-requires c κs = search needs
 
-add-result : tie.Need-add-result
-add-result c =
-    let g = c .before .before .before .args .g in
-    let b = bounds g (sym (c .before .before .in-bounds .ensures) ∙ c .before .if1 .taken) (search needs) in
-    omega (arith, b .files-high)
+is-edition-requires : tie.Need-is-edition-requires
+is-edition-requires c κs = search needs
+
+bad-time-requires : tie.Need-bad-time-requires
+bad-time-requires c κs = search needs
 
 returns : tie.Need-returns
-returns c = rw (← c .before .before .in-bounds .ensures, c .before .if1 .taken, and-one)
+returns c =
+    let d = c .before .before in
+    rw (← d .before .before .has-room .ensures, d .before .if1 .taken, ← d .is-edition .ensures, c .before .if2 .taken, ← c .bad-time .ensures)
 
 returns-2 : tie.Need-returns-2
-returns-2 c = rw (← c .before .in-bounds .ensures, c .if1 .left) (sym (and-false (leb (546 + c .before .before .args .g .files) (c .before .before .args .sectors))))
+returns-2 c = rw (← c .before .before .before .has-room .ensures, c .before .before .if1 .taken, ← c .before .is-edition .ensures, c .if2 .left)
+
+returns-3 : tie.Need-returns-3
+returns-3 c = rw (← c .before .has-room .ensures, c .if1 .left)
 
 pub can-format-spec : {M : Type 1} → statement M
-can-format-spec = tie.close (tie.spec in-bounds-requires add-result returns returns-2)
+can-format-spec = tie.close (tie.spec has-room-requires is-edition-requires bad-time-requires returns returns-2 returns-3)

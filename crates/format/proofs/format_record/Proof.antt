@@ -13,11 +13,11 @@ can-format-requires : tie.Need-can-format-requires
 can-format-requires c κs = search needs
 
 record-count-requires : tie.Need-record-count-requires
-record-count-requires c κs = bounded _ _ (sym (c .before .can-format .ensures) ∙ c .if1 .taken) (search needs)
+record-count-requires c κs = bounded _ _ _ (sym (c .before .can-format .ensures) ∙ c .if1 .taken) (search needs)
 
 put-record-requires : tie.Need-put-record-requires
 put-record-requires c
-    κs = (bounded _ _ (sym (c .before .before .before .before .before .can-format .ensures) ∙ c .before .before .before .before .if1 .taken) (search needs), (search needs, search needs))
+    κs = (bounded _ _ _ (sym (c .before .before .before .before .before .can-format .ensures) ∙ c .before .before .before .before .if1 .taken) (search needs), (search needs, search needs))
 
 same-length : tie.Need-same-length
 same-length c = search needs
@@ -25,7 +25,7 @@ same-length c = search needs
 returns : tie.Need-returns
 returns c =
     let s = c .before .before .before .before .before .before .before .before .before .before .before .args in
-    let a : Format = record { sectors = s .sectors; files = s .files; id = s .id; mode = s .mode; time = s .time } in
+    let a : Format = record { sectors = s .sectors; files = s .files; edition = s .edition; id = s .id; mode = s .mode; time = s .time } in
     let g = c .before .before .before .before .before .before .before .before .before .geometry-for in
     let r = accepted a (s .position) (s .out .now) (g .result) (g .ensures)
     (sym (c .before .before .before .before .before .before .before .before .can-format .ensures) ∙ c .before .before .before .before .before .before .before .if1 .taken) (search needs)
@@ -38,7 +38,7 @@ refused-requires c κs = search needs
 returns-2 : tie.Need-returns-2
 returns-2 c =
     let s = c .before .before .before .before .before .before .before .before .args in
-    let a : Format = record { sectors = s .sectors; files = s .files; id = s .id; mode = s .mode; time = s .time } in
+    let a : Format = record { sectors = s .sectors; files = s .files; edition = s .edition; id = s .id; mode = s .mode; time = s .time } in
     let g = c .before .before .before .before .before .before .geometry-for in
     let r = refused-14 a (s .position) (s .out .now) (g .result) (g .ensures) (sym (c .before .before .before .before .before .can-format .ensures) ∙ c .before .before .before .before .if1 .taken)
     (search needs) (search needs) in
@@ -50,7 +50,7 @@ refused-requires-2 c κs = search needs
 returns-3 : tie.Need-returns-3
 returns-3 c =
     let s = c .before .before .before .before .before .before .before .args in
-    let a : Format = record { sectors = s .sectors; files = s .files; id = s .id; mode = s .mode; time = s .time } in
+    let a : Format = record { sectors = s .sectors; files = s .files; edition = s .edition; id = s .id; mode = s .mode; time = s .time } in
     let g = c .before .before .before .before .before .geometry-for in
     let r = refused-9 a (s .position) (s .out .now) (g .result) (g .ensures) (sym (c .before .before .before .before .can-format .ensures) ∙ c .before .before .before .if1 .taken) (search needs) in
     (c .refused2 .ensures ∙ r .0, r .1)
@@ -61,7 +61,7 @@ refused-requires-3 c κs = search needs
 returns-4 : tie.Need-returns-4
 returns-4 c =
     let s = c .before .before .before .before .before .args in
-    let a : Format = record { sectors = s .sectors; files = s .files; id = s .id; mode = s .mode; time = s .time } in
+    let a : Format = record { sectors = s .sectors; files = s .files; edition = s .edition; id = s .id; mode = s .mode; time = s .time } in
     let g = c .before .before .before .geometry-for in
     let r = refused-8 a (s .position) (s .out .now) (g .result) (g .ensures) (sym (c .before .before .can-format .ensures) ∙ c .before .if1 .left) in
     (c .refused3 .ensures ∙ r .0, r .1)

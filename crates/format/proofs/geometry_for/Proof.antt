@@ -10,11 +10,11 @@ data-room-requires c κs = search needs
 extent-sectors-for-requires : tie.Need-extent-sectors-for-requires
 extent-sectors-for-requires c κs = search needs
 
-cast-t5 : tie.Need-cast-t5
-cast-t5 c = search needs
+cast-t6 : tie.Need-cast-t6
+cast-t6 c = search needs
 
-div-t6 : tie.Need-div-t6
-div-t6 c = search needs
+div-t7 : tie.Need-div-t7
+div-t7 c = search needs
 
 returns : tie.Need-returns
 unfolding geometryFor
@@ -22,4 +22,4 @@ returns c = rw (← c .before .data-room .ensures, ← c .extent-sectors-for .en
 
 pub geometry-for-spec : {M : Type 1} → statement M
 geometry-for-spec =
-    tie.close (tie.spec data-room-requires extent-sectors-for-requires cast-t5 div-t6 returns)
+    tie.close (tie.spec data-room-requires extent-sectors-for-requires cast-t6 div-t7 returns)

@@ -14,7 +14,7 @@ name-at-requires c κs = let p = c .before .before .pre in (p .0, rw (← p .1 .
 copy-bytes-requires : tie.Need-copy-bytes-requires
 copy-bytes-requires c κs =
     let p = c .before .before .before .before .pre in
-    let e : length (c .before .name-at .result .now) ≡ c .before .before .before .before .args .n = ap length (c .before .name-at .ensures) ∙ length-nameIn _ ∙ sym (p .1 .0) in
+    let e : length (c .before .name-at .result .now) ≡ c .before .before .before .before .args .n = ap length (c .before .name-at .ensures) ∙ length-nameIn _ _ ∙ sym (p .1 .0) in
     (omega arith, omega (arith, p .1 .2))
 
 same-length : tie.Need-same-length
@@ -24,7 +24,7 @@ returns : tie.Need-returns
 returns c =
     let d = c .before .before .before in
     let p = d .before .before .before .before .pre in
-    let e : length (d .before .name-at .result .now) ≡ d .before .before .before .before .args .n = ap length (d .before .name-at .ensures) ∙ length-nameIn _ ∙ sym (p .1 .0) in
+    let e : length (d .before .name-at .result .now) ≡ d .before .before .before .before .args .n = ap length (d .before .name-at .ensures) ∙ length-nameIn _ _ ∙ sym (p .1 .0) in
     rw (← d .before .name-at .ensures, ← bytesFrom-all (d .before .name-at .result .now) (d .before .before .before .before .args .n) e) (c .before .before .copy-bytes .ensures)
 
 pub copy-name-spec : {M : Type 1} → statement M

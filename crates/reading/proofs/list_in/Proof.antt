@@ -4,14 +4,14 @@ use mathlib.Core.Path.{sym, ap, _∙_}
 use lib.ListN.{length}
 use native.Mathlib.Omega.{arith}
 use Rattle.model.specs.declared.Geometry.{Geometry}
-use Rattle.model.specs.Geometry.{superblockAt}
+use Rattle.model.specs.Geometry.{superblockAt, entryAt}
 use Rattle.model.specs.Disk.{view}
 use Rattle.model.specs.Superblock.{geometryIn}
 use Rattle.model.specs.Listing.{listedBy, copiedBy}
 use Rattle.laws.proofs.Bytes.{put-nil}
 use Rattle.laws.proofs.Refusals.{image-length}
 use Rattle.laws.proofs.Judged.{judged-image, judged-sound, judged-opened}
-use Rattle.laws.proofs.Named.{entry-on, sound-name, name-length-of}
+use Rattle.laws.proofs.Named.{editionOn, entry-on, sound-name, name-length-of}
 use Rattle.reading.proofs.Verdicts.{list-past, list-free, list-short, list-done, listed-name}
 use borrow.Author.Needs.{needs}
 use Rattle.reading.proofs.list_in.Statement.{statement}
@@ -32,16 +32,15 @@ fields-at-requires c κs =
 
 copy-name-requires : tie.Need-copy-name-requires
 copy-name-requires c κs =
-    let o = judged-opened _ _ (c .before .before .before .before .before .before .before .geometry-in .ensures) (omega arith)
-    (c .before .before .before .before .before .before .before .before .before .before .pre) in
-    let e = ap (λ (x : Geometry). x .files) (c .before .before .before .before .before .before .before .geometry-in .ensures) in
-    let s = sound-name (view (c .before .before .before .before .before .before .before .before .before .before .args .img .now))
-    (judged-sound _ _ (c .before .before .before .before .before .before .before .before .before .before .pre))
-    (c .before .before .before .before .before .before .before .before .before .before .args .index) (omega arith)
-    (sym (c .before .before .before .before .is-occupied .ensures) ∙ c .before .before .before .if2 .taken) in
-    let l = name-length-of (c .before .before .before .before .before .before .before .before .before .before .args .img .now)
-    (c .before .before .before .before .before .before .before .before .before .before .args .index) (c .before .before .fields-at .result) (c .before .before .fields-at .ensures) in
-    (omega arith, (l, omega arith, omega arith))
+    let f = c .before .before in
+    let g = f .before .before .before .before .before in
+    let s = g .before .before .before in
+    let d = view (s .args .img .now) in
+    let o = judged-opened _ _ (g .geometry-in .ensures) (omega arith) (s .pre) in
+    let e = ap (λ (x : Geometry). x .files) (g .geometry-in .ensures) in
+    let n = sound-name d (judged-sound _ _ (s .pre)) (s .args .index) (omega arith) (sym (f .before .before .is-occupied .ensures) ∙ f .before .if2 .taken) in
+    let l = name-length-of (editionOn d) (d (entryAt (s .args .index))) (f .fields-at .result) (rw (g .geometry-in .ensures) at (f .fields-at .ensures)) in
+    (omega arith, rw (g .geometry-in .ensures) (l, omega arith, omega arith))
 
 refusal-requires : tie.Need-refusal-requires
 refusal-requires c κs = search needs
@@ -52,30 +51,18 @@ same-length c = search needs
 returns : tie.Need-returns
 unfolding listedBy copiedBy
 returns c =
-    let e = ap (λ (x : Geometry). x .files) (c .before .before .before .before .before .before .before .before .before .before .before .geometry-in .ensures) in
-    let h : c .before .before .before .before .before .before .before .before .before .before .before .before .before .before .args .index < geometryIn
-    ((view (c .before .before .before .before .before .before .before .before .before .before .before .before .before .before .args .img .now)) superblockAt) .files = omega arith in
-    let o = sym (c .before .before .before .before .before .before .before .before .is-occupied .ensures) ∙ c .before .before .before .before .before .before .before .if2 .taken in
-    let l = name-length-of (c .before .before .before .before .before .before .before .before .before .before .before .before .before .before .args .img .now)
-    (c .before .before .before .before .before .before .before .before .before .before .before .before .before .before .args .index)
-    (c .before .before .before .before .before .before .fields-at .result) (c .before .before .before .before .before .before .fields-at .ensures) in
-    let v = list-done (view (c .before .before .before .before .before .before .before .before .before .before .before .before .before .before .args .img .now))
-    (c .before .before .before .before .before .before .before .before .before .before .before .before .before .before .args .index)
-    (length (c .before .before .before .before .before .before .before .before .before .before .before .before .before .before .args .out .now)) h o
-    (omega (arith, c .before .before .before .before .before .if3 .taken)) in (
-      rw (
-        v,
-        entry-on (view (c .before .before .before .before .before .before .before .before .before .before .before .before .before .before .args .img .now))
-            (c .before .before .before .before .before .before .before .before .before .before .before .before .before .before .args .index) h o,
-        ← c .before .before .before .before .before .before .fields-at .ensures,
-        c .refusal .ensures,
-      ),
-      rw (
-        v,
-        listed-name (view (c .before .before .before .before .before .before .before .before .before .before .before .before .before .before .args .img .now))
-            (c .before .before .before .before .before .before .before .before .before .before .before .before .before .before .args .index)
-            (length (c .before .before .before .before .before .before .before .before .before .before .before .before .before .before .args .out .now)) h o,
-      ) (c .before .before .before .copy-name .ensures),
+    let f = c .before .before .before .before .before .before in
+    let g = f .before .before .before .before .before in
+    let a = g .before .before .before .args in
+    let d = view (a .img .now) in
+    let e = ap (λ (x : Geometry). x .files) (g .geometry-in .ensures) in
+    let h : a .index < geometryIn (d superblockAt) .files = omega arith in
+    let o = sym (f .before .before .is-occupied .ensures) ∙ f .before .if2 .taken in
+    let fields = rw (g .geometry-in .ensures) at (f .fields-at .ensures) in
+    let l = name-length-of (editionOn d) (d (entryAt (a .index))) (f .fields-at .result) fields in
+    let v = list-done d (a .index) (length (a .out .now)) h o (omega (arith, c .before .before .before .before .before .if3 .taken)) in (
+      rw (v, entry-on d (a .index) h o, ← fields, c .refusal .ensures),
+      rw (v, listed-name d (a .index) (length (a .out .now)) h o) (rw (g .geometry-in .ensures) at (c .before .before .before .copy-name .ensures)),
     )
 
 refusal-requires-2 : tie.Need-refusal-requires-2
@@ -87,16 +74,15 @@ not-listed-requires c κs = search needs
 returns-2 : tie.Need-returns-2
 unfolding listedBy copiedBy
 returns-2 c =
-    let e = ap (λ (x : Geometry). x .files) (c .before .before .before .before .before .before .before .before .geometry-in .ensures) in
-    let h : c .before .before .before .before .before .before .before .before .before .before .before .args .index < geometryIn
-    ((view (c .before .before .before .before .before .before .before .before .before .before .before .args .img .now)) superblockAt) .files = omega arith in
-    let o = sym (c .before .before .before .before .before .is-occupied .ensures) ∙ c .before .before .before .before .if2 .taken in
-    let l = name-length-of (c .before .before .before .before .before .before .before .before .before .before .before .args .img .now)
-    (c .before .before .before .before .before .before .before .before .before .before .before .args .index) (c .before .before .before .fields-at .result)
-    (c .before .before .before .fields-at .ensures) in
-    let v = list-short (view (c .before .before .before .before .before .before .before .before .before .before .before .args .img .now))
-    (c .before .before .before .before .before .before .before .before .before .before .before .args .index)
-    (length (c .before .before .before .before .before .before .before .before .before .before .before .args .out .now)) h o (omega (arith, c .before .before .if3 .left)) in
+    let f = c .before .before .before in
+    let g = f .before .before .before .before .before in
+    let a = g .before .before .before .args in
+    let d = view (a .img .now) in
+    let e = ap (λ (x : Geometry). x .files) (g .geometry-in .ensures) in
+    let h : a .index < geometryIn (d superblockAt) .files = omega arith in
+    let o = sym (f .before .before .is-occupied .ensures) ∙ f .before .if2 .taken in
+    let l = name-length-of (editionOn d) (d (entryAt (a .index))) (f .fields-at .result) (rw (g .geometry-in .ensures) at (f .fields-at .ensures)) in
+    let v = list-short d (a .index) (length (a .out .now)) h o (omega (arith, c .before .before .if3 .left)) in
     (rw (v, ← c .before .refusal2 .ensures) (c .not-listed .ensures), rw v (sym (put-nil _ _)))
 
 refusal-requires-3 : tie.Need-refusal-requires-3

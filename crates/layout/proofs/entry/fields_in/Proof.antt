@@ -5,6 +5,9 @@ use borrow.Author.Needs.{needs}
 use Rattle.layout.proofs.entry.fields_in.Statement.{statement}
 use Rattle.layout.proofs.entry.fields_in.Tie as tie
 
+of-requires : tie.Need-of-requires
+of-requires c κs = search needs
+
 number-in-requires : tie.Need-number-in-requires
 number-in-requires c κs = search needs
 
@@ -20,14 +23,8 @@ cast-mode c = search needs
 number-in-requires-3 : tie.Need-number-in-requires-3
 number-in-requires-3 c κs = search needs
 
-cast-access-time : tie.Need-cast-access-time
-cast-access-time c = search needs
-
 number-in-requires-4 : tie.Need-number-in-requires-4
 number-in-requires-4 c κs = search needs
-
-cast-change-time : tie.Need-cast-change-time
-cast-change-time c = search needs
 
 number-in-requires-5 : tie.Need-number-in-requires-5
 number-in-requires-5 c κs = search needs
@@ -43,8 +40,10 @@ unfolding fieldsOf entryIn
 returns c =
     let l = c .before .before in
     let m = l .before .before in
+    let e = m .before .before .before .before .before .before in
     rw (
       length-nameIn,
+      ← e .of .ensures .0,
       ← m .before .before .number-in .ensures .0,
       ← m .before .number-in2 .ensures .0,
       ← m .number-in3 .ensures .0,
@@ -58,14 +57,13 @@ pub fields-in-spec : {M : Type 1} → statement M
 fields-in-spec =
     tie.close
     (tie.spec
+    of-requires
     number-in-requires
     cast-version
     number-in-requires-2
     cast-mode
     number-in-requires-3
-    cast-access-time
     number-in-requires-4
-    cast-change-time
     number-in-requires-5
     size-requires
     id-requires

@@ -1,8 +1,12 @@
 -- `layout::entry::unnamed` meets its contract. The stores are those of the definition.
 use Rattle.layout.specs.Unnamed.{unnamedSector}
+use mathlib.Core.Path.{_∙_}
 use borrow.Author.Needs.{needs}
 use Rattle.layout.proofs.entry.unnamed.Statement.{statement}
 use Rattle.layout.proofs.entry.unnamed.Tie as tie
+
+of-requires : tie.Need-of-requires
+of-requires c κs = search needs
 
 owned-requires : tie.Need-owned-requires
 owned-requires c κs = search needs
@@ -39,12 +43,22 @@ put-zeros-requires c κs = search needs
 
 returns : tie.Need-returns
 unfolding unnamedSector
-returns c = cc
+returns c =
+    c .before .put-zeros .ensures ∙ rw (
+      c .before .before .before .before .set-to3 .ensures,
+      c .before .before .before .before .before .before .before .set-to2 .ensures,
+      c .before .before .before .before .before .before .before .before .before .before .set-to .ensures,
+      c .before .before .before .before .before .before .before .before .before .before .before .before .before .before .owned .ensures,
+      c .before .before .before .before .before .before .before .before .before .before .before .before .raised-version .ensures,
+      c .before .before .before .before .before .before .before .before .before .before .before .before .before .number-in .ensures .0,
+      ← c .before .before .before .before .before .before .before .before .before .before .before .before .before .before .before .before .before .of .ensures .0,
+    )
 
 pub unnamed-spec : {M : Type 1} → statement M
 unnamed-spec =
     tie.close
     (tie.spec
+    of-requires
     owned-requires
     number-in-requires
     raised-version-requires

@@ -1,8 +1,12 @@
 -- `layout::entry::updated` meets its contract. The stores are those of the definition.
 use Rattle.model.specs.Entry.{updatedEntrySector}
+use mathlib.Core.Path.{_∙_}
 use borrow.Author.Needs.{needs}
 use Rattle.layout.proofs.entry.updated.Statement.{statement}
 use Rattle.layout.proofs.entry.updated.Tie as tie
+
+of-requires : tie.Need-of-requires
+of-requires c κs = search needs
 
 owned-requires : tie.Need-owned-requires
 owned-requires c κs = search needs
@@ -33,12 +37,21 @@ set-to-requires-3 c κs = search needs
 
 returns : tie.Need-returns
 unfolding updatedEntrySector
-returns c = cc
+returns c =
+    c .before .set-to3 .ensures ∙ rw (
+      c .before .before .before .before .set-to2 .ensures,
+      c .before .before .before .before .before .before .before .set-to .ensures,
+      c .before .before .before .before .before .before .before .before .before .before .before .owned .ensures,
+      c .before .before .before .before .before .before .before .before .before .raised-version .ensures,
+      c .before .before .before .before .before .before .before .before .before .before .number-in .ensures .0,
+      ← c .before .before .before .before .before .before .before .before .before .before .before .before .before .of .ensures .0,
+    )
 
 pub updated-spec : {M : Type 1} → statement M
 updated-spec =
     tie.close
     (tie.spec
+    of-requires
     owned-requires
     number-in-requires
     raised-version-requires

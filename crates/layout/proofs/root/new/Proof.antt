@@ -1,8 +1,12 @@
 -- `layout::root::new` meets its contract. The four stores are those of the definition.
 use Rattle.model.specs.Root.{newRootSector}
+use mathlib.Core.Path.{_∙_}
 use borrow.Author.Needs.{needs}
 use Rattle.layout.proofs.root.new.Statement.{statement}
 use Rattle.layout.proofs.root.new.Tie as tie
+
+of-requires : tie.Need-of-requires
+of-requires c κs = search needs
 
 zero-sector-requires : tie.Need-zero-sector-requires
 zero-sector-requires c κs = search needs
@@ -33,12 +37,20 @@ set-to-requires-4 c κs = search needs
 
 returns : tie.Need-returns
 unfolding newRootSector
-returns c = cc
+returns c =
+    c .before .set-to4 .ensures ∙ rw (
+      c .before .before .before .before .set-to3 .ensures,
+      c .before .before .before .before .before .before .before .set-to2 .ensures,
+      c .before .before .before .before .before .before .before .before .before .before .set-to .ensures,
+      c .before .before .before .before .before .before .before .before .before .before .before .before .zero-sector .ensures,
+      ← c .before .before .before .before .before .before .before .before .before .before .before .before .before .before .before .of .ensures .0,
+    )
 
 pub new-spec : {M : Type 1} → statement M
 new-spec =
     tie.close
     (tie.spec
+    of-requires
     zero-sector-requires
     slice-aggregate-set-to
     set-to-requires

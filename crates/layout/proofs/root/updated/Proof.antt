@@ -1,8 +1,12 @@
 -- `layout::root::updated` meets its contract. The stores are those of the definition.
 use Rattle.model.specs.Root.{updatedRootSector}
+use mathlib.Core.Path.{_∙_}
 use borrow.Author.Needs.{needs}
 use Rattle.layout.proofs.root.updated.Statement.{statement}
 use Rattle.layout.proofs.root.updated.Tie as tie
+
+of-requires : tie.Need-of-requires
+of-requires c κs = search needs
 
 owned-requires : tie.Need-owned-requires
 owned-requires c κs = search needs
@@ -27,12 +31,20 @@ set-to-requires-2 c κs = search needs
 
 returns : tie.Need-returns
 unfolding updatedRootSector
-returns c = cc
+returns c =
+    c .before .set-to2 .ensures ∙ rw (
+      c .before .before .before .before .set-to .ensures,
+      c .before .before .before .before .before .before .before .before .owned .ensures,
+      c .before .before .before .before .before .before .raised-version .ensures,
+      c .before .before .before .before .before .before .before .number-in .ensures .0,
+      ← c .before .before .before .before .before .before .before .before .before .before .of .ensures .0,
+    )
 
 pub updated-spec : {M : Type 1} → statement M
 updated-spec =
     tie.close
     (tie.spec
+    of-requires
     owned-requires
     number-in-requires
     raised-version-requires

@@ -1,4 +1,4 @@
--- `layout::superblock::is_volume` meets its contract. The magic is wrong, or the version is compared.
+-- `layout::superblock::is_volume` meets its contract. The magic is wrong, or the version is looked at.
 use Rattle.laws.proofs.Bytes.{bytesFrom-part}
 use Rattle.model.specs.Search.{equalBytes}
 use Rattle.model.specs.Bytes.{bytesFrom}
@@ -27,13 +27,16 @@ starts-with-requires c κs = search needs
 number-in-requires : tie.Need-number-in-requires
 number-in-requires c κs = search needs
 
+is-edition-requires : tie.Need-is-edition-requires
+is-edition-requires c κs = search needs
+
 returns : tie.Need-returns
 unfolding isVolume
-returns c = let d = c .before .before in
+returns c = let d = c .before .before .before in
     let s = d .before .before .before .before .args .s .now in
     let m : equalBytes (bytesFrom s 8 8) magic ≡ d .starts-with .result =
     rw (← bytesFrom-part s 8 8 8 (omega arith)) (sym (d .starts-with .ensures)) in
-    rw (m, c .before .if1 .taken, ← c .number-in .ensures .0)
+    rw (m, c .before .before .if1 .taken, ← c .before .number-in .ensures .0, ← c .is-edition .ensures)
 
 returns-2 : tie.Need-returns-2
 unfolding isVolume
@@ -53,5 +56,6 @@ is-volume-spec =
     slice-aggregate-starts-with
     starts-with-requires
     number-in-requires
+    is-edition-requires
     returns
     returns-2)

@@ -33,8 +33,8 @@ pub mod system;
 pub mod volume;
 
 pub use ffi::{
-    carry_out, check, check_with, create, delete, find, format_record, list, read, recover, recover_slice,
-    rename, resize, summary, write,
+    carry_out, check, check_with, create, delete, find, format_record, list, read, recover,
+    recover_slice, rename, resize, summary, write,
 };
 pub use ffi::{
     ChangeAnswer, CheckAnswer, FindAnswer, FormatRecordAnswer, ListAnswer, ReadAnswer,

@@ -4,7 +4,7 @@
 use super::audit::audit;
 use super::requests::{create, delete, rename, resize, write};
 use super::slices::{differing, expected_slice};
-use super::volumes::{format_list, sample_of, Volume, ANY_LIST, SAMPLE};
+use super::volumes::{format_list, sample_of, Volume, ANY_LIST};
 use super::{Counts, Oracle, Subject};
 use crate::answers::{code, state, Refusal, SliceAnswer, SummaryAnswer};
 use crate::draw::Draw;
@@ -62,10 +62,10 @@ pub fn cut_each_kind_of_call(subject: &dyn Subject, edition: Edition) -> Counts 
 }
 
 /// Cuts a delete, a resize and a rename everywhere whose freed extents stand in two table sectors.
-pub fn cut_over_two_table_sectors(subject: &dyn Subject) -> Counts {
+pub fn cut_over_two_table_sectors(subject: &dyn Subject, edition: Edition) -> Counts {
     let format = FormatRequest {
         sectors: 546 + 255 + 130 * 128,
-        ..SAMPLE
+        ..sample_of(edition)
     };
     let mut volume = Volume::formatted(&Oracle, &format);
     volume.done(&create(b"all", 1));

@@ -23,7 +23,9 @@ fn of_each_kind_of_call_with_wide_times() {
 
 #[test]
 fn over_two_table_sectors() {
-    cut_over_two_table_sectors(&Oracle);
+    for edition in Edition::BOTH {
+        cut_over_two_table_sectors(&Oracle, edition);
+    }
 }
 
 #[test]

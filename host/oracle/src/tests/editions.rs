@@ -3,27 +3,14 @@
 use crate::answers::code;
 use crate::layout::{get16, get32, get64, Edition, SECTOR};
 use crate::lists::{CONTENTS, RECORD};
-use crate::request::{Answer, Request};
-use crate::testing::requests::{create, delete, find, read, rename, resize, write};
+use crate::request::Answer;
+use crate::testing::requests::{at_time, create, delete, find, read, rename, resize, write};
 use crate::testing::volumes::{sample_of, some_files_of, Volume, ANY_LIST, SAMPLE};
 use crate::testing::{Oracle, Subject};
 use crate::{check, report, summary, FormatRequest};
 
 /// A second past the year 2106.
 const WIDE: u64 = 1 << 32;
-
-fn at_time(request: Request, new: u64) -> Request {
-    let mut request = request;
-    match &mut request {
-        Request::Create { time, .. }
-        | Request::Delete { time, .. }
-        | Request::Resize { time, .. }
-        | Request::Write { time, .. }
-        | Request::Rename { time, .. } => *time = new,
-        _ => panic!("{request:?} takes no time"),
-    }
-    request
-}
 
 #[test]
 fn fields_of_the_second_edition() {

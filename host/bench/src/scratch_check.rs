@@ -17,7 +17,9 @@ pub fn print(comparisons: &mut Comparisons) -> f64 {
     println!();
     println!("### Check with scratch, beside a check by sorting");
     println!();
-    println!("| files | extents | names | Rattle ns | sorting ns | ratio | of the rounds | stack |");
+    println!(
+        "| files | extents | names | Rattle ns | sorting ns | ratio | of the rounds | stack |"
+    );
     println!("|---:|---:|---|---:|---:|---:|---:|---:|");
     let long = ("476 bytes", images::long_name as fn(u64) -> Vec<u8>);
     let short = ("short", images::short_name as fn(u64) -> Vec<u8>);

@@ -123,22 +123,14 @@ static void write_sector(const struct card *card, uint64_t sector, const uint8_t
     }
 }
 
-/* A sector number, 8 bytes with the highest first. */
-static uint64_t number(const uint8_t *at)
+/* Does one record on the file: a sector's contents, or a barrier. */
+static void land(const struct card *card, const uint8_t *record)
 {
     uint64_t sector = 0;
     int i;
 
     for (i = 0; i < 8; i++)
-        sector = sector << 8 | at[i];
-    return sector;
-}
-
-/* Does one record on the file: a sector's contents, or a barrier. */
-static void land(const struct card *card, const uint8_t *record)
-{
-    uint64_t sector = number(record + GOOFS_NUMBER);
-
+        sector = sector << 8 | record[GOOFS_NUMBER + i];
     if (sector == GOOFS_BARRIER)
         barrier(card);
     else
@@ -253,23 +245,6 @@ static void feed_watchdog(void)
 {
 }
 
-/* Sends the targets of a waiting change again as they were read. A slice passes over those that show their copy, and what the system
- * shows may not be on the medium. A boot loader that reads the medium itself needn't do this. Each entry of the journal, which stands
- * behind the directory, has 16 bytes: the copy's sector and its target's. */
-static void send_targets_again(const struct card *card, const goofs_summary_result *summary)
-{
-    const uint8_t *journal = card->image + (2 + summary->files) * GOOFS_SECTOR;
-    uint64_t k, target;
-
-    for (k = 0; k < summary->entries; k++) {
-        if (k % SLICE == 0)
-            feed_watchdog();
-        target = number(journal + 16 * k + 8);
-        write_sector(card, target, card->image + target * GOOFS_SECTOR);
-    }
-    barrier(card);
-}
-
 /* What a detector does first when it is switched on: make sure of what it reads, finish a change that was cut, see whether the volume
  * is sound, and remove a file beside that a save did not come to rename. */
 static void start(struct card *card)
@@ -291,16 +266,14 @@ static void start(struct card *card)
     if (summary.state == GOOFS_STATE_WAITING) {
         /* The boot loop: a few sectors at a time, so that the watchdog is fed in between. If the power goes here too, the volume still
          * waits, and the next start goes on. */
-        goofs_slice_result slice = goofs_recover_slice(card->image, card->length, SLICE, list.slice, sizeof list.slice);
+        goofs_slice_result slice;
 
-        done("recover", slice.code); /* so the journal is good, and its targets lie in the image */
-        send_targets_again(card, &summary);
-        while (slice.count != 0) {
-            carry_out(card, list.slice, slice.length);
+        do {
             feed_watchdog();
             slice = goofs_recover_slice(card->image, card->length, SLICE, list.slice, sizeof list.slice);
             done("recover", slice.code);
-        }
+            carry_out(card, list.slice, slice.length);
+        } while (slice.count != 0);
         fprintf(stderr, "detector: finished a change that was cut, of %" PRIu64 " sectors\n", summary.entries);
     }
     check = goofs_check(card->image, card->length);

@@ -218,9 +218,7 @@ goofs_length_result goofs_recover(const uint8_t *image, size_t image_length, uin
 /* The same in slices of at most `budget` sector writes, for a boot loader under a watchdog: the first targets, in the journal's order, that
  * don't hold their copy yet, then a barrier; when none is left, the end mark and a barrier. `count` is the number of sector writes.
  * Asked for and carried out until `count` is 0: with d targets left, the volume is clean after d / budget rounded up, plus 1, calls.
- * Slices and goofs_recover may be mixed, and each may be cut. A slice passes over targets that show their copy, so it is for a program
- * that sees what is on the medium: where a system may show what isn't there (above), use goofs_recover, which writes all targets
- * again, or send them again before the first slice, as examples/detector.c does. Gives 0 to 4, 6, 8 (a budget of 0) and 14. List: GOOFS_SLICE_LIST(budget) is always
+ * Slices and goofs_recover may be mixed, and each may be cut. Gives 0 to 4, 6, 8 (a budget of 0) and 14. List: GOOFS_SLICE_LIST(budget) is always
  * enough. A clean volume gives an empty list and the count 0. */
 goofs_slice_result goofs_recover_slice(const uint8_t *image, size_t image_length, uint64_t budget, uint8_t *list, size_t list_length);
 

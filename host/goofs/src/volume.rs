@@ -123,8 +123,7 @@ impl<D: Device> Volume<D> {
     }
 
     /// One slice of a recovery, of at most so many sector writes. Gives how many it wrote: 0 when no
-    /// change waits. It passes over sectors that show their copy already; after a failed barrier they
-    /// need not be on the medium, so `recover` is called then, which writes them all.
+    /// change waits.
     pub fn recover_slice(&mut self, budget: u64) -> Result<usize, Error> {
         let list = self.image()?.recovery_slice(budget)?;
         self.carry_out(&list, 0)?;

@@ -3,8 +3,9 @@
  *     detector --format SECTORS IMAGE   makes the image file IMAGE with an empty volume
  *     detector IMAGE                    prints the calibration
  *     detector IMAGE TEXT               saves TEXT as the calibration, reads it back and prints it
+ *     detector --boot IMAGE             finishes a change that was cut, a few sectors at a time, as a boot loader does
  *
- * Each start first finishes a change that was cut, and removes what a save that was cut has left. The calls take some hundred KiB of
+ * Each other start first finishes a change that was cut, and removes what a save that was cut has left. The calls take some hundred KiB of
  * stack (include/goofs.h says how much); a thread with a small stack must be given more before it makes one.
  *
  *     cc -std=c99 -Iinclude examples/detector.c target/staticlib/libgoofs.a -o detector
@@ -68,6 +69,7 @@ static union {
     uint8_t write[GOOFS_WRITE_LIST];
     uint8_t rename[GOOFS_RENAME_LIST];
     uint8_t removal[GOOFS_DELETE_LIST];
+    uint8_t recover[GOOFS_RECOVER_LIST];
     uint8_t slice[GOOFS_SLICE_LIST(SLICE)];
 } list;
 
@@ -245,6 +247,24 @@ static void feed_watchdog(void)
 {
 }
 
+/* The boot loop of a box whose boot loader is reset if it writes for too long. If the power goes, or the box is reset, the volume still
+ * waits, and the next boot goes on where this one was. A sector that reads as its copy is passed over, so what is read must be on the
+ * medium: a boot loader reads the card itself. Where a system keeps writes in memory, as at a desk, it is to forget them; where one
+ * need not, after a barrier that failed, goofs_recover writes every sector again (`start`). */
+static void boot(struct card *card)
+{
+    goofs_slice_result slice;
+
+    (void)posix_fadvise(card->file, 0, 0, POSIX_FADV_DONTNEED);
+    load(card);
+    do {
+        feed_watchdog();
+        slice = goofs_recover_slice(card->image, card->length, SLICE, list.slice, sizeof list.slice);
+        done("recover", slice.code);
+        carry_out(card, list.slice, slice.length);
+    } while (slice.count != 0);
+}
+
 /* What a detector does first when it is switched on: make sure of what it reads, finish a change that was cut, see whether the volume
  * is sound, and remove a file beside that a save did not come to rename. */
 static void start(struct card *card)
@@ -264,16 +284,10 @@ static void start(struct card *card)
         barrier(card);
     }
     if (summary.state == GOOFS_STATE_WAITING) {
-        /* The boot loop: a few sectors at a time, so that the watchdog is fed in between. If the power goes here too, the volume still
-         * waits, and the next start goes on. */
-        goofs_slice_result slice;
-
-        do {
-            feed_watchdog();
-            slice = goofs_recover_slice(card->image, card->length, SLICE, list.slice, sizeof list.slice);
-            done("recover", slice.code);
-            carry_out(card, list.slice, slice.length);
-        } while (slice.count != 0);
+        /* If the power goes here too, the volume still waits, and the next start asks again. */
+        goofs_length_result answer = goofs_recover(card->image, card->length, list.recover, sizeof list.recover);
+        done("recover", answer.code);
+        carry_out(card, list.recover, answer.length);
         fprintf(stderr, "detector: finished a change that was cut, of %" PRIu64 " sectors\n", summary.entries);
     }
     check = goofs_check(card->image, card->length);
@@ -348,6 +362,8 @@ static void print(const struct card *card)
 int main(int argc, char **argv)
 {
     struct card card = {-1, NULL, 0};
+    const char *path;
+    int is_boot;
 
     if (argc == 4 && strcmp(argv[1], "--format") == 0) {
         char *end;
@@ -360,22 +376,28 @@ int main(int argc, char **argv)
         format(argv[3], sectors);
         return 0;
     }
-    if (argc < 2 || argc > 3 || argv[1][0] == '-') {
-        fputs("usage: detector --format SECTORS IMAGE\n       detector IMAGE [TEXT]\n", stderr);
+    is_boot = argc == 3 && strcmp(argv[1], "--boot") == 0;
+    if (argc < 2 || argc > 3 || (argv[1][0] == '-' && !is_boot)) {
+        fputs("usage: detector --format SECTORS IMAGE\n       detector IMAGE [TEXT]\n       detector --boot IMAGE\n", stderr);
         return 2;
     }
-    card.file = open(argv[1], O_RDWR);
+    path = argv[is_boot ? 2 : 1];
+    card.file = open(path, O_RDWR);
     if (card.file < 0)
-        system_failure(argv[1]);
+        system_failure(path);
     lock(&card);
-    start(&card);
-    if (argc == 3) {
-        save(&card, argv[2]);
-        load(&card); /* so that what is printed is what stands in the file */
+    if (is_boot) {
+        boot(&card);
+    } else {
+        start(&card);
+        if (argc == 3) {
+            save(&card, argv[2]);
+            load(&card); /* so that what is printed is what stands in the file */
+        }
+        print(&card);
     }
-    print(&card);
     free(card.image);
     if (close(card.file) != 0)
-        system_failure(argv[1]);
+        system_failure(path);
     return 0;
 }

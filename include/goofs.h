@@ -215,11 +215,15 @@ goofs_change_result goofs_write(const uint8_t *image, size_t image_length, const
  * GOOFS_RECOVER_LIST. It may itself be cut and asked for again. */
 goofs_length_result goofs_recover(const uint8_t *image, size_t image_length, uint8_t *list, size_t list_length);
 
-/* The same in slices of at most `budget` sector writes, for a boot loader under a watchdog: the first targets, in the journal's order, that
- * don't hold their copy yet, then a barrier; when none is left, the end mark and a barrier. `count` is the number of sector writes.
+/* The same in slices of at most `budget` sector writes, for a boot loader under a watchdog: the first targets, in the journal's order,
+ * that don't hold their copy yet, then a barrier; when none is left, the end mark and a barrier. `count` is the number of sector writes.
  * Asked for and carried out until `count` is 0: with d targets left, the volume is clean after d / budget rounded up, plus 1, calls.
- * Slices and goofs_recover may be mixed, and each may be cut. Gives 0 to 4, 6, 8 (a budget of 0) and 14. List: GOOFS_SLICE_LIST(budget) is always
- * enough. A clean volume gives an empty list and the count 0. */
+ * Slices and goofs_recover may be mixed, and each may be cut. Gives 0 to 4, 6, 8 (a budget of 0) and 14. List:
+ * GOOFS_SLICE_LIST(budget) is always enough. A clean volume gives an empty list and the count 0.
+ *
+ * A target that reads as its copy is passed over, so the image must be what is on the medium, as a boot loader reads it. Where a system
+ * may show what never got there, after a write or barrier that failed or a program that was ended, ask for goofs_recover: it writes
+ * every target again. */
 goofs_slice_result goofs_recover_slice(const uint8_t *image, size_t image_length, uint64_t budget, uint8_t *list, size_t list_length);
 
 /* Record `position`, from 0 on, of the format of a medium of so many sectors, to `out` (GOOFS_RECORD bytes); all of them, landed in

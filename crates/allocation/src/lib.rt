@@ -345,11 +345,11 @@ fn put_starts(img: &[u8], g: Geometry, s: &mut [u32]) -> usize
     let mut i: usize = 0;
     while i < f {
         s[i] = sum as u32;
-        let next = sum + needed(img, g, FileIndex(i as u64));
-        if g.extents < next {
+        let end = sum + needed(img, g, FileIndex(i as u64));
+        if g.extents < end {
             return i;
         }
-        sum = next;
+        sum = end;
         i += 1;
     }
     s[f] = sum as u32;
@@ -469,12 +469,12 @@ fn faults_on(img: &[u8], g: Geometry, s: &mut [u32]) -> Soundness
     if let Lowest::At(e) = misplaced {
         return Soundness::Faulty(25, e as u64);
     }
-    let m = pass.reached;
-    if let Lowest::At(i) = lowest_unmarked(s, at, m) {
+    let reached = pass.reached;
+    if let Lowest::At(i) = lowest_unmarked(s, at, reached) {
         return Soundness::Faulty(26, i as u64);
     }
-    if m < g.files as usize {
-        return Soundness::Faulty(26, m as u64);
+    if reached < g.files as usize {
+        return Soundness::Faulty(26, reached as u64);
     }
     Soundness::Sound
 }

@@ -16,6 +16,7 @@ use Rattle.model.specs.Summary.{superblockVerdict, superblockAnswer, checkAnswe
 use Rattle.model.specs.Scratch.{soundVerdictWith, judgedWith, checkWithAnswer}
 use Rattle.model.specs.Listing.{listConditions, listedBy, listVerdict, listAnswer}
 use Rattle.model.specs.Recovery.{isData, isMetadata, goodEntry, replayedSector, replayed, recoveryGroups, recoveryVerdict}
+use Rattle.model.specs.Recovery.{differs, isCopied, copiedEntry, copied, sliceGroups, sliceVerdict, sliceListed, sliceAnswer}
 use Rattle.model.specs.Search.{concatenated}
 use Rattle.model.specs.Format.{doubled, geometryFor, canFormat, formatVerdict, formatAnswer}
 use Rattle.model.specs.CarryOut.{positionIn, recordIn, badRecord, carryVerdict, carryAnswer}
@@ -27,6 +28,7 @@ unfolding beAt beBytes bytesFrom put onesSector zeroSector scan anyBelow allBelo
     entriesIn journalSector catalogueOf entryOf fault21 fault22 fault23 fault24 fault25 exact fault26 firstFault
     verdictOf isWhole fitsImage imageVerdict soundVerdict judged barrier recordBytes listBytes superblockVerdict superblockAnswer checkAnswer soundVerdictWith judgedWith checkWithAnswer
     listConditions listedBy listVerdict listAnswer isData isMetadata goodEntry replayedSector replayed recoveryGroups recoveryVerdict
+    differs isCopied copiedEntry copied sliceGroups sliceVerdict sliceListed sliceAnswer
     doubled geometryFor canFormat formatVerdict formatAnswer positionIn recordIn badRecord carryVerdict carryAnswer
 edges = record {
   table-sectors = refl;
@@ -45,6 +47,8 @@ edges = record {
   scratch = refl;
   table = refl;
   journals = refl;
+  sliced = refl;
+  slice-answers = refl;
   lists = refl;
   numbered = refl;
 }

@@ -2,15 +2,16 @@
 -- cases P1 to P10 nor a theorem decides.
 use Prim.Native.Nat.{ℕ, _+_, _^_}
 use mathlib.Core.Path.{_≡_}
-use mathlib.Core.Bool.{cond}
+use mathlib.Core.Bool.{cond, _&&_}
 use mathlib.Core.List.{List, [], _∷_, _++_}
-use lib.Dec.{eqb}
+use lib.Dec.{eqb, ltb}
 use lib.ListN.{getD, replicate}
 use Rattle.model.specs.declared.State.the-variants.{Clean, Waiting, Damaged, Unfinished}
 use Rattle.model.specs.declared.Area.the-variants.{Journal, Table, Data, Reserve}
 use Rattle.model.specs.declared.Summary.{Summary}
 use Rattle.model.specs.declared.Summarized.{Summarized}
 use Rattle.model.specs.declared.Verdict.{Verdict}
+use Rattle.model.specs.declared.Sliced.{Sliced}
 use Rattle.model.specs.Bytes.{zeroSector, onesSector}
 use Rattle.model.specs.Geometry.{tableSectors}
 use Rattle.model.specs.Disk.{Disk}
@@ -20,11 +21,11 @@ use Rattle.model.specs.Entry.{newEntrySector, updatedEntrySector}
 use Rattle.model.specs.Table.{takenIn}
 use Rattle.model.specs.Journal.{journalSector}
 use Rattle.model.specs.Refusals.{refusal, done}
-use Rattle.model.specs.WriteList.{barrier, sectorWrite, recordBytes, listBytes}
+use Rattle.model.specs.WriteList.{barrierNumber, barrier, sectorWrite, recordBytes, listBytes, sectorsOf, closed}
 use Rattle.model.specs.Summary.{superblockAnswer, stateCode, located, areaAt, checkAnswer}
 use Rattle.model.specs.Scratch.{checkWithAnswer}
 use Rattle.model.specs.Listing.{listAnswer}
-use Rattle.model.specs.Recovery.{recoveryVerdict}
+use Rattle.model.specs.Recovery.{recoveryVerdict, sliceListed, sliceAnswer}
 use Rattle.model.specs.Format.{formatAnswer}
 use Rattle.model.specs.CarryOut.{carryAnswer}
 use Rattle.cases.specs.Cases.{shape, called, sample}
@@ -83,6 +84,23 @@ waits source target source2 target2 k =
 abbrev pub recovers : Disk → ℕ
 recovers d = recoveryVerdict sampleBytes d 65536 .number
 
+-- ---- slices: the sample's disk, waiting with the first n of four entries. Their targets don't rise; the first's holds what its source
+-- holds, the others' differ.
+
+abbrev pub pending : ℕ → Disk
+pending n k =
+    cond (eqb k 0) (newSuperblock (shape 4 128) n)
+    (cond (eqb k 257) (journalSector (λ j. 674 + j) (λ j. getD (5 ∷ 3 ∷ 1 ∷ 2 ∷ []) j 0) 4 0) (cond (ltb 674 k && ltb k 678) onesSector zeroSector))
+
+abbrev pub slices : ℕ → ℕ → ℕ → Sliced
+slices n budget room = sliceAnswer sampleBytes (pending n) budget room
+
+abbrev pub sliceOf : ℕ → ℕ → List ℕ
+sliceOf n budget = sectorsOf (closed (sliceListed sampleBytes (pending n) budget 65536))
+
+abbrev pub answers : ℕ → ℕ → ℕ → Sliced
+answers number length count = record { number = number; length = length; count = count }
+
 -- ---- carrying out on an image of one sector
 
 abbrev pub carries : List ℕ → ℕ
@@ -139,6 +157,16 @@ pub record Edges : Type 0 where
       ∷ recovers (waits 674 0 675 2) ∷ recovers (waits 674 1 675 257) ∷ recovers (waits 674 288 675 2) ∷ recovers (waits 674 1 675 290)
       ∷ recovers (waits 674 1 675 1) ∷ recovers (λ k. newSuperblock (shape 4 128) 1025) ∷ recovers (λ k. newSuperblock (shape 4 128) 65535) ∷ [])
       ≡ (0 ∷ 0 ∷ 6 ∷ 6 ∷ 6 ∷ 6 ∷ 6 ∷ 6 ∷ 6 ∷ 6 ∷ 4 ∷ [])
+  -- T-05: the sectors that a slice of a budget writes, and its barrier: the first entries that differ, in journal order, none past the
+  -- journal's length; the superblock when none differ
+  pub sliced : (sliceOf 3 1 ∷ sliceOf 3 2 ∷ sliceOf 3 9 ∷ sliceOf 4 3 ∷ sliceOf 1 9 ∷ sliceOf 0 9 ∷ [])
+      ≡ ((3 ∷ barrierNumber ∷ []) ∷ (3 ∷ 1 ∷ barrierNumber ∷ []) ∷ (3 ∷ 1 ∷ barrierNumber ∷ []) ∷ (3 ∷ 1 ∷ 2 ∷ barrierNumber ∷ [])
+      ∷ (0 ∷ barrierNumber ∷ []) ∷ [] ∷ [])
+  -- what it answers, lent a list that is just long enough; 14 one byte less; 8 budget 0, of a clean volume too; 6 before 8
+  pub slice-answers : (slices 3 1 1056 ∷ slices 3 9 1584 ∷ slices 1 9 1056 ∷ slices 0 1 0 ∷ slices 3 9 1583 ∷ slices 1 9 1055 ∷ slices 3 0 1583
+      ∷ slices 0 0 0 ∷ sliceAnswer sampleBytes (waits 674 1 675 1) 0 0 ∷ [])
+      ≡ (answers 0 1056 1 ∷ answers 0 1584 2 ∷ answers 0 1056 1 ∷ answers 0 0 0 ∷ answers 14 0 0 ∷ answers 14 0 0 ∷ answers 8 0 0
+      ∷ answers 8 0 0 ∷ answers 6 0 0 ∷ [])
   -- carrying out: an empty list, one write, a barrier; 8 part of a record, a sector outside the image, a barrier whose last byte is 1; 1
   pub lists : (carries [] ∷ carries (recordBytes 0 (sectorWrite 0 onesSector)) ∷ carries (recordBytes 0 barrier)
       ∷ carries (recordBytes 0 barrier ++ (0 ∷ [])) ∷ carries (recordBytes 0 (sectorWrite 1 onesSector))

@@ -9,6 +9,7 @@ pub mod Entry
 pub mod Refusals
 pub mod Catalogue
 pub mod WriteList
+pub mod Recovery
 pub mod Repair
 pub mod Judged
 pub mod Named

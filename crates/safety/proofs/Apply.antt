@@ -158,6 +158,15 @@ own-tabulate f a (suc n) h =
     own-append (tabulate f a n) (f (a + n) ∷ []) (own-tabulate f a n (λ j k u v e. h j k (omega arith) (omega arith) e)) (tt, tt)
     (all-tabulate (λ v. All (λ w. v .sector ≢ w .sector) (f (a + n) ∷ [])) f a n (λ k l. ((λ e. let q : k ≡ n = h k n (omega arith) (omega arith) e in omega arith), tt)))
 
+pub own-concatenated : (f : ℕ → Group) (n : ℕ) → ((k : ℕ) → k < n → Own (f k))
+    → ((j k : ℕ) → j < k → k < n → All (λ v. All (λ w. v .sector ≢ w .sector) (f k)) (f j)) → Own (concatenated f 0 n)
+unfolding concatenated
+own-concatenated f zero p h = tt
+own-concatenated f (suc n) p h =
+    own-append (concatenated f 0 n) (f (0 + n)) (own-concatenated f n (λ k l. p k (omega arith)) (λ j k l r. h j k l (omega arith)))
+    (rw zero-add (p n (omega arith)))
+    (all-concatenated (λ v. All (λ w. v .sector ≢ w .sector) (f (0 + n))) f n (λ j l. rw zero-add (h j n l (omega arith))))
+
 or-no : (a b c : Bool) → (a || b) ≡ false → (b ≡ false → c ≡ false) → (a || c) ≡ false
 or-no true b c e f = absurd (true≢false e)
 or-no false b c e f = f e

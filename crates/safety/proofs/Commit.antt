@@ -23,9 +23,9 @@ use Rattle.laws.proofs.Disk.{length-view, same-view}
 use Rattle.laws.proofs.Search.{none-at}
 use Rattle.safety.proofs.Searches.{same-true}
 use Rattle.safety.proofs.Apply.{over, apply, hits, apply-nil, apply-append, apply-miss, All, all-append, all-tab0, all-at, all-by, all-concatenated, all-kept, all-miss, miss-all, over-same}
-use Rattle.safety.proofs.Apply.{kept-miss, kept-one, joined, stored-append, stored-closed, length-stored, InImage, stored-view}
+use Rattle.safety.proofs.Apply.{kept-miss, kept-one, joined, stored-append, stored-closed, length-stored, InImage, stored-view, Own, own-concatenated}
 use Rattle.safety.proofs.Landing.{Begun, Ended, both-end, cut-begun, part}
-use Rattle.safety.proofs.Journal.{length-entriesIn}
+use Rattle.safety.proofs.Journal.{length-entriesIn, rising-lt}
 use Rattle.safety.proofs.Superblock.{length-withJournalLength, journalLength-with, state-clean, Volume, volume-with, volume-long, Recovers, when-done, when-some, when-none, recovers-clean}
 use Rattle.safety.proofs.Superblock.{Slices, slices-clean, slice-done, slice-some, slice-none}
 use Rattle.safety.proofs.Plan.{UsableGeometry, WellFormed, Metadata, UsableSector, Whole, metadata-lt, volume-is, A, A-is, copyWrites, journalWrites, copyContents, journalContents}
@@ -234,13 +234,34 @@ module _ (g : Geometry) (img0 : List ℕ) (p : Plan) (geo : UsableGeometry g) (o
         not-true left (sym (λ i. not (someDiffer (v .geometry i) (view img) (st i))) ∙ e)
 
     -- a slice copies targets, and no others
-    copied-all : (P : Record → Type 0) → All P C → (budget : ℕ) → All P (copied g (view img) budget (length C))
+    pub copied-all : (P : Record → Type 0) → All P C → (budget : ℕ) → All P (copied g (view img) budget (length C))
     unfolding copied copiedEntry Pending
     copied-all P h budget = all-concatenated P (copiedEntry g (view img) budget) (length C) (λ k l. go k l (isCopied g (view img) budget k))
       where
         go : (k : ℕ) → k < length C → (b : Bool) → All P (cond b (entryWrite g (view img) k ∷ []) [])
         go k l true = (subst P (sym (entry-writes g p geo ok d0 (view img) (w .shows) k l)) (all-at P C k barrier h l), tt)
         go k l false = tt
+
+    -- no two of them for one sector
+    pub copied-own : (budget : ℕ) → Own (copied g (view img) budget (length C))
+    unfolding copied copiedEntry Pending
+    copied-own budget =
+        own-concatenated (copiedEntry g (view img) budget) (length C) (λ k l. one k (isCopied g (view img) budget k))
+        (λ j k l r. two j k l r (isCopied g (view img) budget j) (isCopied g (view img) budget k))
+      where
+        one : (k : ℕ) (b : Bool) → Own (cond b (entryWrite g (view img) k ∷ []) [])
+        one k true = (tt, tt)
+        one k false = tt
+
+        sector-is : (k : ℕ) → k < length C → entryWrite g (view img) k .sector ≡ (getD C k barrier) .sector
+        sector-is k l = ap (λ (v : Record). v .sector) (entry-writes g p geo ok d0 (view img) (w .shows) k l)
+
+        two : (j k : ℕ) → j < k → k < length C → (a b : Bool)
+            → All (λ v. All (λ w. v .sector ≢ w .sector) (cond b (entryWrite g (view img) k ∷ []) [])) (cond a (entryWrite g (view img) j ∷ []) [])
+        two j k l r true true =
+            (((λ e. let q = rising-lt C 0 j k barrier (ok .rising) l r in omega (arith, q, sector-is j (omega arith), sector-is k r)), tt), tt)
+        two j k l r true false = (tt, tt)
+        two j k l r false b = tt
 
     copied-miss : (budget j : ℕ) → hits C j ≡ false → hits (copied g (view img) budget (length C)) j ≡ false
     copied-miss budget j h = all-miss j _ (copied-all (λ w. j ≢ w .sector) (miss-all j C h) budget)

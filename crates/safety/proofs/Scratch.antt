@@ -68,5 +68,8 @@ module _ (len : ℕ) (d : Disk) (numbers : ℕ) where
     short = λ l e.
         rw (lt-ltb numbers (scratchNumbers (geometryIn (d superblockAt))) l)
         (ap (λ (v : Verdict). record { verdict = v }) (short-in (not (isWhole len)) (not (isVolume (d superblockAt))) (not (fitsImage len (d superblockAt))) (stateOn d) (firstFault d) e));
-    refused = λ e. ap (λ (v : Verdict). record { verdict = v }) (refused-in (not (isWhole len)) (not (isVolume (d superblockAt))) (not (fitsImage len (d superblockAt))) (stateOn d) (ltb numbers (scratchNumbers (geometryIn (d superblockAt)))) (firstFault d) e);
+    refused = λ e.
+        ap (λ (v : Verdict). record { verdict = v })
+        (refused-in (not (isWhole len)) (not (isVolume (d superblockAt))) (not (fitsImage len (d superblockAt))) (stateOn d)
+        (ltb numbers (scratchNumbers (geometryIn (d superblockAt)))) (firstFault d) e);
   }

@@ -3,7 +3,7 @@
 use Prim.Native.Nat.{ℕ, zero, suc, _+_, _*_, _-_, _/_, _≤_, _<_, min}
 use mathlib.Core.Path.{_≡_, refl, sym, ap, ap₂, _∙_, subst}
 use mathlib.Core.Logic.{_≢_, ⊎-elim}
-use mathlib.Core.Bool.{Bool, true, false, cond, not, _&&_, true≢false, false≢true}
+use mathlib.Core.Bool.{Bool, true, false, cond, not, true≢false, false≢true}
 use mathlib.Core.List.{List, [], _∷_, _++_, append-nil}
 use native.Mathlib.Omega.{arith}
 use native.Mathlib.Decide.{decLt}
@@ -28,6 +28,7 @@ use Rattle.laws.proofs.Booleans.{and-left}
 use Rattle.laws.proofs.Disk.{length-view}
 use Rattle.laws.proofs.Search.{allBelow-yes, allBelow-at, none-at}
 use Rattle.laws.proofs.Count.{countBelow-anyBelow, countBelow-none}
+use Rattle.laws.proofs.Recovery.{copied-count}
 use Rattle.safety.specs.Room.{geometryOn}
 use Rattle.safety.specs.AnyJournal.{recoveryNumber}
 use Rattle.safety.specs.SliceCalls.{slicedImage, sliceAt, reported, differing, Finishes, roundedUp, SliceCalls}
@@ -126,18 +127,6 @@ module _ (g : Geometry) (e : Disk) (n : ℕ) (ok : (k : ℕ) → k < n → goodE
   copied-miss : (j : ℕ) → hits (replayed g e n) j ≡ false → hits (copied g e b n) j ≡ false
   unfolding copied
   copied-miss j h = all-miss j _ (copied-all (λ w. j ≢ w .sector) n (no-target j h))
-
-  -- as many as the budget allows
-  copied-count : (k : ℕ) → countBelow (isCopied g e b) k ≡ min b (countBelow (differs g e) k)
-  unfolding countBelow isCopied
-  copied-count zero = omega arith
-  copied-count (suc k) = go (differs g e k) (ltb (countBelow (differs g e) k) b) refl (copied-count k)
-    where
-      go : (x y : Bool) → ltb (countBelow (differs g e) k) b ≡ y → countBelow (isCopied g e b) k ≡ min b (countBelow (differs g e) k)
-          → cond (x && y) 1 0 + countBelow (isCopied g e b) k ≡ min b (cond x 1 0 + countBelow (differs g e) k)
-      go true true q h = omega (arith, h, ltb-true (countBelow (differs g e) k) b q)
-      go true false q h = omega (arith, h, ltb-false (countBelow (differs g e) k) b q)
-      go false y q h = omega (arith, h)
 
   module _ (most : n ≤ 1024) (f : Disk) (is : f ≡ apply (copied g e b n) e) where
     shows : (j : ℕ) → hits (replayed g e n) j ≡ false → f j ≡ e j
@@ -268,13 +257,13 @@ module _ (img : List ℕ) (n b : ℕ) (rooms : ℕ → ℕ) (st : stateOn (view 
             (λ j h. copied-miss g (view out) n e-good b j (ap (λ (c : Group). hits c j) (replayed-same g (view img) n all-good most (view out) (w .shows)) ∙ h)) w)
 
         count-is : sliceAnswer (length out) (view out) b r .count ≡ min b (countBelow (differs (geometryOn img) (view out)) n)
-        count-is = writes ∙ ap (λ (t : Bool). cond t (countBelow (isCopied g (view out) b) n) 1) some ∙ copied-count g (view out) n e-good b n
+        count-is = writes ∙ ap (λ (t : Bool). cond t (countBelow (isCopied g (view out) b) n) 1) some ∙ copied-count g (view out) b n
 
         fewer : countBelow (differs (geometryOn img) (view out)) n
             ≡ min b (countBelow (differs (geometryOn img) (view out)) n) + countBelow (differs (geometryOn img) (view next)) n
         fewer =
             left-after g (view out) n e-good b most (view next) shows-next n (omega arith)
-            ∙ ap (λ (c : ℕ). c + countBelow (differs g (view next)) n) (copied-count g (view out) n e-good b n)
+            ∙ ap (λ (c : ℕ). c + countBelow (differs g (view next)) n) (copied-count g (view out) b n)
 
       -- none does
       module _ (none : anyBelow (differs (geometryOn img) (view out)) n ≡ false) where

@@ -106,8 +106,8 @@ pub fn first_fault_with(img: &[u8], g: Geometry, scratch: &mut [u32]) -> Soundne
     if let Lowest::At(i) = duplicates::fault23_with(img, g, scratch) {
         return Soundness::Faulty(23, i as u64);
     }
-    if let Lowest::At(i) = duplicates::fault24_with(img, g, scratch) {
-        return Soundness::Faulty(24, i as u64);
+    if let Lowest::At(file) = duplicates::fault24_with(img, g, scratch) {
+        return Soundness::Faulty(24, file as u64);
     }
     allocation::faults_by(img, g, scratch)
 }

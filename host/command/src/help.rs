@@ -146,7 +146,9 @@ Finishes a change that a cut of the power interrupted. A recovery may itself be 
 again. On a clean volume there is nothing to do, and nothing is changed. If the volume is not sound
 after it, the fault is printed and the exit status is 1.
   --budget N   write at most N sectors, at least 1, and say whether more is left; then recover again.
-               For each N sectors that are still to be copied it takes one call, and one call more
+               For each N sectors that are still to be copied it takes one call, and one call more.
+               Sectors that show their copy already are passed over: after a write to the card has
+               failed, recover without it
 ";
 
 pub const FORMAT: &str = "\

@@ -1,16 +1,16 @@
-//! Two programs with one card: a command waits for the lock, and only who holds it removes a file.
+//! Two programs with one card: a command waits for the lock. (That only who holds it removes a file is
+//! tried in `tests/faults`.)
 
 mod shared;
 
-use std::fs::{self, File, TryLockError};
+use std::fs::{self, File};
 use std::io::Read;
 use std::path::Path;
 use std::process::{Child, Command, Stdio};
-use std::sync::atomic::{AtomicBool, Ordering};
 use std::thread;
 use std::time::{Duration, Instant};
 
-use shared::{bad, formatted, good, on, run, start, Folder, Said};
+use shared::{bad, formatted, good, run, start, Folder, Said};
 
 fn begin(command: &str, card: &Path, rest: &[&str]) -> Child {
     start(
@@ -37,10 +37,10 @@ fn commands_wait_for_each_other() {
     let source = source.to_str().unwrap();
     let holder = File::open(&card).unwrap();
     for (command, rest) in [
-        ("put", &[source][..]),
-        ("ls", &[]),
-        ("rm", &["f"]),
-        ("recover", &["--wait", "60"]),
+        ("put", &[source, "--wait=600"][..]),
+        ("ls", &["--wait=600"]),
+        ("rm", &["f", "--wait=600"]),
+        ("recover", &["--wait", "600"]),
     ] {
         holder.lock().unwrap();
         let child = begin(command, &card, rest);
@@ -51,19 +51,24 @@ fn commands_wait_for_each_other() {
     }
     assert_eq!(good("check", &card, &[]), "sound, 0 files\n");
 
-    // Not for ever, and no longer than is asked for.
+    // Not for ever: as long as is asked for, else 5 seconds.
     holder.lock_shared().unwrap();
-    let begun = Instant::now();
-    let err = bad("put", &card, &[source, "--wait", "1"], 1);
-    assert!(begun.elapsed() >= Duration::from_secs(1));
-    assert!(
-        err.contains("another program has it open") && err.contains("--wait SECONDS"),
-        "{err}"
-    );
-    let begun = Instant::now();
-    bad("put", &card, &[source, "--wait=0"], 1);
-    // Without the option it would be 5.
-    assert!(begun.elapsed() < Duration::from_secs(4));
+    for (words, seconds) in [(&[source, "--wait", "1"][..], 1), (&[source], 5)] {
+        let begun = Instant::now();
+        let err = bad("put", &card, words, 1);
+        assert!(begun.elapsed() >= Duration::from_secs(seconds));
+        assert!(
+            err.contains("another program has it open") && err.contains("--wait SECONDS"),
+            "{err}"
+        );
+    }
+    // And no longer. A machine that is busy may hold some of the tries up.
+    let is_short = |_| {
+        let begun = Instant::now();
+        bad("put", &card, &[source, "--wait=0"], 1);
+        begun.elapsed() < Duration::from_secs(4)
+    };
+    assert!((0..20).any(is_short));
 }
 
 /// A put that reads what a get of the same card writes: it takes the lock when it has all of it.
@@ -108,7 +113,7 @@ fn a_card_that_is_replaced() {
     let source = folder.write("f", b"x");
     let holder = File::open(&card).unwrap();
     holder.lock().unwrap();
-    let child = begin("put", &card, &[source.to_str().unwrap()]);
+    let child = begin("put", &card, &[source.to_str().unwrap(), "--wait=600"]);
     thread::sleep(Duration::from_millis(300));
     fs::rename(&other, &card).unwrap();
     drop(holder);
@@ -117,57 +122,13 @@ fn a_card_that_is_replaced() {
     assert_eq!(good("check", &card, &[]), "sound, 1 files\n");
 }
 
-/// Another program locks the new file before the format does: the format must not remove it.
-#[test]
-fn a_format_without_the_lock_removes_nothing() {
-    let folder = Folder::new("two-formats");
-    let card = folder.file("card");
-    // Which of the two gets the lock is a matter of time, so this is tried until it was the other.
-    let mut lost = 0;
-    for _ in 0..3_000 {
-        let is_over = AtomicBool::new(false);
-        let (holder, said) = thread::scope(|scope| {
-            let other = scope.spawn(|| {
-                while !is_over.load(Ordering::Relaxed) {
-                    if let Ok(file) = File::open(&card) {
-                        match file.try_lock() {
-                            Ok(()) => return Some(file),
-                            Err(TryLockError::WouldBlock) => return None,
-                            Err(error) => panic!("{error}"),
-                        }
-                    }
-                }
-                None
-            });
-            let said = on("format", &card, &["--sectors=1313", "--wait=0"]);
-            is_over.store(true, Ordering::Relaxed);
-            (other.join().unwrap(), said)
-        });
-        assert!(card.exists(), "{said:?}");
-        drop(holder);
-        match said.status {
-            0 => assert_eq!(good("check", &card, &[]), "sound, 0 files\n"),
-            _ => {
-                assert!(said.err.contains("another program has it open"), "{said:?}");
-                assert_eq!(fs::metadata(&card).unwrap().len(), 0);
-                lost += 1;
-            }
-        }
-        fs::remove_file(&card).unwrap();
-        if lost == 3 {
-            return;
-        }
-    }
-    panic!("the other program got the lock {lost} times only");
-}
-
 /// Of two formats one makes the volume, and the other finds it.
 #[test]
 fn two_formats_at_once() {
     let folder = Folder::new("at-once");
     for round in 0..20 {
         let card = folder.file(&format!("card-{round}"));
-        let both = [(); 2].map(|()| begin("format", &card, &["--sectors=1313"]));
+        let both = [(); 2].map(|()| begin("format", &card, &["--sectors=1313", "--wait=600"]));
         let mut ends = both.map(end);
         ends.sort_by_key(|said| said.status);
         assert_eq!(ends[0].status, 0, "{ends:?}");

@@ -123,7 +123,9 @@ impl<D: Device> Volume<D> {
     }
 
     /// One slice of a recovery, of at most so many sector writes. Gives how many it wrote: 0 when no
-    /// change waits.
+    /// change waits. What shows its copy already is passed over: where a write or a barrier has failed,
+    /// or a program was ended in the middle of a list, that need not be on the medium, and `recover`
+    /// writes it again.
     pub fn recover_slice(&mut self, budget: u64) -> Result<usize, Error> {
         let list = self.image()?.recovery_slice(budget)?;
         self.carry_out(&list, 0)?;

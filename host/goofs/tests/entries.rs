@@ -133,11 +133,15 @@ fn least(mut work: impl FnMut()) -> Duration {
     times.min().unwrap()
 }
 
-/// A judgement for each of 819 files would take 819 times as long as one.
+/// A judgement for each of 819 files would take 819 times as long as one, in every try; a machine that is
+/// busy spoils some of them.
 #[test]
 fn the_volume_is_judged_once() {
     let image = volume(Edition::First);
-    let check = least(|| image.check().unwrap());
-    let entries = least(|| assert_eq!(image.entries().unwrap().len(), 819));
-    assert!(entries < 40 * check, "{entries:?} and {check:?}");
+    let is_quick = |_| {
+        let check = least(|| image.check().unwrap());
+        let entries = least(|| assert_eq!(image.entries().unwrap().len(), 819));
+        entries < 40 * check
+    };
+    assert!((0..20).any(is_quick));
 }

@@ -36,8 +36,8 @@ slice-write-s c = search needs
 needed-requires : tie.Need-needed-requires Inv-loop μ-loop
 needed-requires c κs = search needs
 
-add-next : tie.Need-add-next Inv-loop μ-loop
-add-next c = search needs
+add-end : tie.Need-add-end Inv-loop μ-loop
+add-end c = search needs
 
 same-length : tie.Need-same-length Inv-loop μ-loop
 same-length c = search needs
@@ -116,7 +116,7 @@ put-starts-spec =
     mul-s
     slice-write-s
     needed-requires
-    add-next
+    add-end
     same-length
     returns
     add-i

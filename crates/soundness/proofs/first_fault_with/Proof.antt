@@ -57,10 +57,12 @@ enum-told-3 : tie.Need-enum-told-3
 enum-told-3 c = search needs
 
 fault24-with-requires : tie.Need-fault24-with-requires
-fault24-with-requires c κs = let s = c .before .before .before .before .before .before .before .before .before .before .before .before .before .before .before in (s .pre .0, omega (arith, s .pre .1, c .before .before .before .before .before .fault23-with .kept .1 .1 .0))
+fault24-with-requires c κs =
+    let s = c .before .before .before .before .before .before .before .before .before .before .before .before .before .before .before in
+    (s .pre .0, omega (arith, s .pre .1, c .before .before .before .before .before .fault23-with .kept .1 .1 .0))
 
-enum-known-i-4 : tie.Need-enum-known-i-4
-enum-known-i-4 c = search needs
+enum-known-file : tie.Need-enum-known-file
+enum-known-file c = search needs
 
 same-length-2 : tie.Need-same-length-2
 same-length-2 c = search needs
@@ -71,8 +73,8 @@ returns-4 c =
     at-24 (view (s .args .img .now)) (s .args .g) (s .pre .0 .is)
     (sym (c .before .before .before .before .before .before .before .before .before .before .before .before .before .before .before .before .before .before .fault21 .ensures) ∙ c .before .before .before .before .before .before .before .before .before .before .before .before .before .before .before .before .enum-told .given .1)
     (sym (c .before .before .before .before .before .before .before .before .before .before .before .before .before .before .before .fault22 .ensures) ∙ c .before .before .before .before .before .before .before .before .before .before .before .before .before .enum-told2 .given .1)
-    (sym (c .before .before .before .before .before .before .before .before .before .before .before .fault23-with .ensures) ∙ c .before .before .before .before .before .before .before .enum-told3 .given .1) (c .before .i4 .given .0 .0)
-    (sym (c .before .before .before .before .before .fault24-with .ensures) ∙ c .before .i4 .given .1)
+    (sym (c .before .before .before .before .before .before .before .before .before .before .before .fault23-with .ensures) ∙ c .before .before .before .before .before .before .before .enum-told3 .given .1) (c .before .file .given .0 .0)
+    (sym (c .before .before .before .before .before .fault24-with .ensures) ∙ c .before .file .given .1)
 
 enum-told-4 : tie.Need-enum-told-4
 enum-told-4 c = search needs
@@ -80,14 +82,16 @@ enum-told-4 c = search needs
 faults-by-requires : tie.Need-faults-by-requires
 faults-by-requires c κs =
     let s = c .before .before .before .before .before .before .before .before .before .before .before .before .before .before .before .before .before .before .before .before .before in
-    (s .pre .0, omega (arith, s .pre .1, s .pre .0 .bounded .files-low, c .before .before .before .before .before .before .before .before .before .before .before .fault23-with .kept .1 .1 .0, c .before .before .before .before .before .fault24-with .kept .1 .1 .0))
+    let kept = c .before .before .before .before .before .before .before .before .before .before .before .fault23-with .kept .1 .1 .0 in
+    (s .pre .0, omega (arith, s .pre .1, s .pre .0 .bounded .files-low, kept, c .before .before .before .before .before .fault24-with .kept .1 .1 .0))
 
 same-length-3 : tie.Need-same-length-3
 same-length-3 c = search needs
 
 returns-5 : tie.Need-returns-5
 returns-5 c =
-    let s = c .before .before .before .before .before .before .before .before .before .before .before .before .before .before .before .before .before .before .before .before .before .before .before .before in
+    let b = c .before .before .before .before .before .before .before .before .before .before .before .before in
+    let s = b .before .before .before .before .before .before .before .before .before .before .before .before in
     from-25 (view (s .args .img .now)) (s .args .g) (s .pre .0 .is)
     (sym (c .before .before .before .before .before .before .before .before .before .before .before .before .before .before .before .before .before .before .before .before .before .fault21 .ensures) ∙ c .before .before .before .before .before .before .before .before .before .before .before .before .before .before .before .before .before .before .before .enum-told .given .1)
     (sym (c .before .before .before .before .before .before .before .before .before .before .before .before .before .before .before .before .before .before .fault22 .ensures) ∙ c .before .before .before .before .before .before .before .before .before .before .before .before .before .before .before .before .enum-told2 .given .1)
@@ -112,7 +116,7 @@ first-fault-with-spec =
     returns-3
     enum-told-3
     fault24-with-requires
-    enum-known-i-4
+    enum-known-file
     same-length-2
     returns-4
     enum-told-4

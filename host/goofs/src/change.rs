@@ -35,7 +35,8 @@ pub const fn recovery_records(targets: usize) -> usize {
 }
 
 /// One change. It goes through whole or not at all, but for bytes that a write puts in the place of
-/// old ones: after a cut each such sector is the old or the new one.
+/// old ones: after a cut each such sector is the old or the new one. A time that is later than the
+/// volume's edition stores is a `BadArgument`.
 #[derive(Clone, Copy, Debug, PartialEq, Eq)]
 pub enum Change<'c> {
     /// A new, empty file.

@@ -47,7 +47,8 @@ pub fn table_field(extent: u64, field: usize) -> usize {
 
 pub type Spoil = fn(&mut [u8]);
 
-/// Each spoils `some_files` of either edition, and beside it stands the fault with its place; (0, 0) for none.
+/// Each spoils `some_files` of either edition, and beside it stands the fault with its place; (0, 0)
+/// for none.
 pub const FAULTS: [((u64, u64), Spoil); 37] = [
     // Also an entry that was free.
     ((21, 254), |image| put16(image, entry_field(254, 0), 1)),
@@ -114,8 +115,8 @@ pub const FAULTS: [((u64, u64), Spoil); 37] = [
     ((26, 0), |image| put16(image, table_field(0, 0), 0)),
 ];
 
-/// Spoils up to three fields of `some_files`, of both editions in turn, so often, each time anew, and has the image judged.
-/// Makes sure that every fault and state was met many times.
+/// Spoils up to three fields of `some_files`, of both editions in turn, so often, each time anew, and
+/// has the image judged. Makes sure that every fault and state was met many times.
 pub fn spoil_fields(rounds: usize, judge: fn(&[u8]) -> CheckAnswer) {
     let sound = Edition::BOTH.map(|edition| some_files_of(edition).image);
     let mut image = sound[0].clone();

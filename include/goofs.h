@@ -35,12 +35,11 @@
  * the image is read until the last list has landed; who only reads it holds LOCK_SH. The command goofs and examples/detector.c do
  * so. A program without it would finish, or build on, a change that another has under way, and the volume would be lost.
  *
- * A volume is of one of two editions; the summary says which. In edition 2 the two times of an entry and of the root have 8 bytes, in
- * edition 1 they have 4, and so a name of edition 2 has at most 468 bytes instead of 476. All else is the same, and every call takes
- * both. Times have 64 bits in every call and result. On edition 1 a time above 4,294,967,295 (in seconds since 1970,
- * the year 2106) is refused 8 by every call that takes one, also where it would store none (a write of no data, the same size, the same
- * name twice). The edition is chosen by the format: no call turns one into the other. A build of before edition 2 refuses such a volume
- * 2, by every call, and changes nothing on it.
+ * A volume is of one of two editions, which the summary tells. In edition 1 the two times of an entry and of the root have 4 bytes, in
+ * edition 2 they have 8, and so a name of edition 2 has at most 468 bytes instead of 476. All else is the same, and every call takes
+ * both. Times have 64 bits in every call and result; on edition 1 a time above 4,294,967,295 (in seconds since 1970, the year 2106)
+ * gets 8 from every call that takes one, also where it would store none (a write of no data, the same size, the same name twice). The
+ * format chooses the edition, and no call turns one into the other. A build of before edition 2 refuses such a volume with 2.
  *
  * A name is its bytes, without a 0 at the end. examples/detector.c is a whole program.
  */
@@ -62,9 +61,9 @@ extern "C" {
 #define GOOFS_NUMBER 8    /* its sector number, */
 #define GOOFS_CONTENTS 16 /* and its contents */
 #define GOOFS_RECORD (GOOFS_CONTENTS + GOOFS_SECTOR)
-#define GOOFS_LONGEST_NAME 476      /* of either edition: room for any name that goofs_list gives */
-#define GOOFS_LONGEST_NAME_2 468    /* on a volume of edition 2 */
-#define GOOFS_LATEST_TIME_1 UINT32_MAX /* on a volume of edition 1 */
+#define GOOFS_LONGEST_NAME 476         /* of either edition */
+#define GOOFS_LONGEST_NAME_2 468       /* of edition 2 */
+#define GOOFS_LATEST_TIME_1 UINT32_MAX /* of edition 1 */
 #define GOOFS_LONGEST_TRANSFER 65536
 #define GOOFS_BARRIER UINT64_MAX
 

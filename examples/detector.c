@@ -36,7 +36,9 @@ static const uint8_t name[] = "calibration";
 static const uint8_t beside[] = "calibration.goofs-saving";
 enum { NAME_LENGTH = sizeof name - 1, BESIDE_LENGTH = sizeof beside - 1 };
 
-enum { FILES = 255, ROOT_ID = 1, MODE = 0644 };
+/* Edition 2 stores times past the year 2106. A card of edition 1 is used as well, while its times last: the calls look at the
+ * superblock. */
+enum { FILES = 255, EDITION = 2, ROOT_ID = 1, MODE = 0644 };
 
 /* Sectors that are written between two feeds of the watchdog. */
 enum { SLICE = 2 };
@@ -207,14 +209,14 @@ static void sync_folder(const char *path)
 static void format(const char *path, uint64_t sectors)
 {
     struct card card = {-1, NULL, 0};
-    uint32_t now = (uint32_t)time(NULL);
+    uint64_t now = (uint64_t)time(NULL);
     uint8_t record[GOOFS_RECORD];
     uint64_t position = 0;
     goofs_length_result answer;
     int error;
 
     /* The first record is asked for before the file is made, so that a refusal leaves no file behind. */
-    answer = goofs_format_record(sectors, FILES, ROOT_ID, MODE, now, position, record, sizeof record);
+    answer = goofs_format_record(sectors, FILES, EDITION, ROOT_ID, MODE, now, position, record, sizeof record);
     done("format", answer.code);
     /* O_EXCL: a format over a file that is there would destroy what it holds. */
     card.file = open(path, O_RDWR | O_CREAT | O_EXCL, 0666);
@@ -231,7 +233,7 @@ static void format(const char *path, uint64_t sectors)
     while (answer.code == GOOFS_DONE) {
         land(&card, record);
         position++;
-        answer = goofs_format_record(sectors, FILES, ROOT_ID, MODE, now, position, record, sizeof record);
+        answer = goofs_format_record(sectors, FILES, EDITION, ROOT_ID, MODE, now, position, record, sizeof record);
     }
     if (answer.code != GOOFS_NOT_THERE) /* past the last record, so all of them have landed */
         done("format", answer.code);
@@ -293,7 +295,7 @@ static void start(struct card *card)
         fprintf(stderr, "detector: fault %" PRIu64 " at %s %" PRIu64 "\n", check.fault,
                 check.fault == GOOFS_FAULT_TABLE ? "extent" : "file", check.place);
     done("check", check.code);
-    answer = goofs_delete(card->image, card->length, beside, BESIDE_LENGTH, (uint32_t)time(NULL), list.removal, sizeof list.removal);
+    answer = goofs_delete(card->image, card->length, beside, BESIDE_LENGTH, (uint64_t)time(NULL), list.removal, sizeof list.removal);
     if (answer.code == GOOFS_NOT_THERE)
         return;
     done("delete", answer.code);
@@ -316,7 +318,7 @@ static goofs_find_result find(const struct card *card)
 /* A save needs a free entry and a free extent beside the old calibration. If it is refused, that one stays as it is. */
 static void save(struct card *card, const char *text)
 {
-    uint32_t now = (uint32_t)time(NULL);
+    uint64_t now = (uint64_t)time(NULL);
     uint8_t calibration[CALIBRATION_SIZE] = {0};
     goofs_change_result answer;
     uint64_t id = 0;

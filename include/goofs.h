@@ -35,6 +35,12 @@
  * the image is read until the last list has landed; who only reads it holds LOCK_SH. The command goofs and examples/detector.c do
  * so. A program without it would finish, or build on, a change that another has under way, and the volume would be lost.
  *
+ * A volume is of one of two editions, which the summary tells. In edition 1 the two times of an entry and of the root have 4 bytes, in
+ * edition 2 they have 8, and so a name of edition 2 has at most 468 bytes instead of 476. All else is the same, and every call takes
+ * both. Times have 64 bits in every call and result; on edition 1 a time above 4,294,967,295 (in seconds since 1970, the year 2106)
+ * gets 8 from every call that takes one, also where it would store none (a write of no data, the same size, the same name twice). The
+ * format chooses the edition, and no call turns one into the other. A build of before edition 2 refuses such a volume with 2.
+ *
  * A name is its bytes, without a 0 at the end. examples/detector.c is a whole program.
  */
 #ifndef GOOFS_H
@@ -55,7 +61,9 @@ extern "C" {
 #define GOOFS_NUMBER 8    /* its sector number, */
 #define GOOFS_CONTENTS 16 /* and its contents */
 #define GOOFS_RECORD (GOOFS_CONTENTS + GOOFS_SECTOR)
-#define GOOFS_LONGEST_NAME 476
+#define GOOFS_LONGEST_NAME 476         /* of either edition */
+#define GOOFS_LONGEST_NAME_2 468       /* of edition 2 */
+#define GOOFS_LATEST_TIME_1 UINT32_MAX /* of edition 1 */
 #define GOOFS_LONGEST_TRANSFER 65536
 #define GOOFS_BARRIER UINT64_MAX
 
@@ -81,16 +89,17 @@ extern "C" {
 enum goofs_code {
     GOOFS_DONE = 0,
     GOOFS_NOT_WHOLE_SECTORS = 1, /* image empty or not whole sectors of 512 bytes */
-    GOOFS_NOT_A_VOLUME = 2,      /* magic or version wrong */
+    GOOFS_NOT_A_VOLUME = 2,      /* magic wrong, or a version other than 1 and 2 */
     GOOFS_OUT_OF_BOUNDS = 3,     /* files, extents or sectors per extent out of bounds, or volume longer than image */
     GOOFS_UNFINISHED = 4,        /* a format was cut; format again */
     GOOFS_WAITING = 5,           /* a change was cut; recover first */
     GOOFS_DAMAGED = 6,           /* volume damaged, or in recovery a bad journal entry */
     GOOFS_NOT_SOUND = 7,         /* `fault` and `place` (a file index, for GOOFS_FAULT_TABLE an extent) go with it */
-    GOOFS_BAD_ARGUMENT = 8,      /* a name that isn't 1 to 476 bytes without 0; a name to create or to rename to that has a byte
-                                  * other than 33 to 126, or a slash; create with id 0; a read or write of more than 65,536
-                                  * bytes; a resize that grows by more than that; a list index past the directory; a format
-                                  * without a geometry; a bad record; a slice with budget 0 */
+    GOOFS_BAD_ARGUMENT = 8,      /* a name that isn't 1 to 476 bytes without 0, on edition 2 1 to 468; a name to create or to rename
+                                  * to that has a byte other than 33 to 126, or a slash; on edition 1 a time above 4,294,967,295;
+                                  * create with id 0; a read or write of more than 65,536 bytes; a resize that grows by more than
+                                  * that; a list index past the directory; a format without a geometry or of another edition; a
+                                  * bad record; a slice with budget 0 */
     GOOFS_NOT_THERE = 9,         /* no such name, listed entry is free, or format position past the last record */
     GOOFS_ALREADY_THERE = 10,    /* create: name already there, or id an occupied entry's or the root's */
     GOOFS_DIRECTORY_FULL = 11,   /* create: no free entry */
@@ -119,6 +128,7 @@ typedef struct {
     uint64_t code, files, extents, extent_sectors;
     uint64_t state;   /* a number of `enum goofs_state` */
     uint64_t entries; /* of a waiting volume's journal, else 0 */
+    uint64_t edition; /* 1 or 2; 0 with a refusal */
 } goofs_summary_result;
 
 typedef struct {
@@ -151,7 +161,7 @@ typedef struct {
     uint64_t count;  /* sector writes in it */
 } goofs_slice_result;
 
-/* Geometry and state. Gives 0 to 3 only. */
+/* Geometry, state and edition. Gives 0 to 3 only. */
 goofs_summary_result goofs_summary(const uint8_t *image, size_t image_length);
 
 /* Whether the volume is sound. Gives 0 to 7. */
@@ -165,7 +175,7 @@ goofs_check_result goofs_check_with(const uint8_t *image, size_t image_length, u
 /* The file of that name: its index and fields. Gives 0 to 9. */
 goofs_find_result goofs_find(const uint8_t *image, size_t image_length, const uint8_t *name, size_t name_length);
 
-/* Entry `index`: its name is copied to `out` (at most 476 bytes), its fields are given. Gives 0 to 9 and 14. */
+/* Entry `index`: its name is copied to `out` (at most GOOFS_LONGEST_NAME bytes), its fields are given. Gives 0 to 9 and 14. */
 goofs_list_result goofs_list(const uint8_t *image, size_t image_length, uint64_t index, uint8_t *out, size_t out_length);
 
 /* The lesser of `count` and size - `offset` bytes of the file, to `out` (at most 65,536). Gives 0 to 9, 12 and 14. */
@@ -176,10 +186,10 @@ goofs_read_result goofs_read(const uint8_t *image, size_t image_length, const ui
  * to 126 without the slash, else 8 is given, also where a file of that name is there: a volume of before this rule may hold one. No
  * call gives the root's id; where the name is not there, 10 says that the id is taken, so a free one can be found by trying. */
 goofs_change_result goofs_create(const uint8_t *image, size_t image_length, const uint8_t *name, size_t name_length, uint64_t id,
-                                 uint32_t mode, uint32_t time, uint8_t *list, size_t list_length);
+                                 uint32_t mode, uint64_t time, uint8_t *list, size_t list_length);
 
 /* The file's entry and its extents are freed. Gives 0 to 9 and 14. List: at most GOOFS_DELETE_LIST. */
-goofs_change_result goofs_delete(const uint8_t *image, size_t image_length, const uint8_t *name, size_t name_length, uint32_t time,
+goofs_change_result goofs_delete(const uint8_t *image, size_t image_length, const uint8_t *name, size_t name_length, uint64_t time,
                                  uint8_t *list, size_t list_length);
 
 /* The file of the old name gets the new one, at once: after a cut the name is the old or the new one. A file that had the new name is
@@ -187,18 +197,18 @@ goofs_change_result goofs_delete(const uint8_t *image, size_t image_length, cons
  * the two, whole. The entry keeps its index, size, id, mode and access time. The new name follows the rule of create, the old one is
  * any that can be on a volume. Gives 0 to 9 and 14. List: at most GOOFS_RENAME_LIST. The same name twice gives an empty list. */
 goofs_change_result goofs_rename(const uint8_t *image, size_t image_length, const uint8_t *old_name, size_t old_length,
-                                 const uint8_t *new_name, size_t new_length, uint32_t time, uint8_t *list, size_t list_length);
+                                 const uint8_t *new_name, size_t new_length, uint64_t time, uint8_t *list, size_t list_length);
 
 /* Another size: extents behind it are freed, or zeros are written at the end, at most 65,536. Gives 0 to 9, 13 and 14. List: at
  * most GOOFS_RESIZE_LIST. The same size gives an empty list. */
 goofs_change_result goofs_resize(const uint8_t *image, size_t image_length, const uint8_t *name, size_t name_length, uint64_t size,
-                                 uint32_t time, uint8_t *list, size_t list_length);
+                                 uint64_t time, uint8_t *list, size_t list_length);
 
 /* `data` written at `offset`, which is at most the size. Gives 0 to 9, 12, 13 and 14. List: at most GOOFS_WRITE_LIST. No data
  * gives an empty list. Data sectors land before the start mark: after a write that was cut before it the size is the old one, but
  * each sector up to it has its old bytes or the new ones. */
 goofs_change_result goofs_write(const uint8_t *image, size_t image_length, const uint8_t *name, size_t name_length, uint64_t offset,
-                                const uint8_t *data, size_t data_length, uint32_t time, uint8_t *list, size_t list_length);
+                                const uint8_t *data, size_t data_length, uint64_t time, uint8_t *list, size_t list_length);
 
 /* Finishes a change that was cut after its start mark; a clean volume gives an empty list. Gives 0 to 4, 6 and 14. List: at most
  * GOOFS_RECOVER_LIST. It may itself be cut and asked for again. */
@@ -217,8 +227,9 @@ goofs_slice_result goofs_recover_slice(const uint8_t *image, size_t image_length
 
 /* Record `position`, from 0 on, of the format of a medium of so many sectors, to `out` (GOOFS_RECORD bytes); all of them, landed in
  * order, are the format. The record carries this position, so that all of them, joined in order, are a list for goofs_carry_out; one
- * alone is none, but the first. Gives 0, 8, 9 (past the last record) and 14. */
-goofs_length_result goofs_format_record(uint64_t sectors, uint64_t files, uint64_t id, uint32_t mode, uint32_t time,
+ * alone is none, but the first. `edition` is 1 or 2; every other, and edition 1 with a time above 4,294,967,295, is refused 8 at every
+ * position. Gives 0, 8, 9 (past the last record) and 14. */
+goofs_length_result goofs_format_record(uint64_t sectors, uint64_t files, uint64_t edition, uint64_t id, uint32_t mode, uint64_t time,
                                         uint64_t position, uint8_t *out, size_t out_length);
 
 /* All writes of a list, in order, on an image in memory. Gives 0, 1 and 8 (a part of a record, positions that aren't 0, 1, 2 and so on,

@@ -1,6 +1,6 @@
-/* Tests of the C interface through include/goofs.h: all fifteen calls, every result number, every byte of every buffer. What is
- * expected is worked out from document 01 and stands here as plain numbers. The last line is 'N passed, M failed', where a test is
- * one function of the table at the end.
+/* Tests of the C interface through include/goofs.h: all fifteen calls on volumes of both editions, every result number, every byte of
+ * every buffer. What is expected is worked out from document 01 and stands here as plain numbers. The last line is 'N passed, M failed',
+ * where a test is one function of the tables at the end, on one edition.
  *
  * The sample volume, F = 255 on 1,313 sectors, has N = 4 extents of S = 128 sectors (65,536 bytes) and T = 1, K = 1:
  *
@@ -136,8 +136,16 @@ static void lent_is(int line, const uint8_t *expected, size_t length)
 /* -------------------- the sectors as document 01 has them */
 
 static struct {
-    uint64_t files, extents, extent_sectors, journal_at, reserve_at;
+    uint64_t edition, files, extents, extent_sectors, journal_at, reserve_at;
 } volume;
+
+/* On edition 2 each time is later by a number that has more than 32 bits. */
+static uint64_t late(uint64_t time) { return volume.edition == 2 ? time + UINT64_C(0x8182838400000000) : time; }
+
+/* Where a name stands in its entry, behind two times and its length, and how long it may be. */
+static size_t name_at(void) { return volume.edition == 2 ? 44 : 36; }
+
+static size_t longest_name(void) { return volume.edition == 2 ? 468 : 476; }
 
 static void put(uint8_t *at, int width, uint64_t value)
 {
@@ -154,8 +162,17 @@ static void superblock(uint8_t *sector, uint64_t journal_length)
     put(sector + 2, 2, volume.extents);
     put(sector + 4, 4, volume.extent_sectors);
     memcpy(sector + 8, "/Goo/FS/", 8);
-    put(sector + 16, 2, 1);
+    put(sector + 16, 2, volume.edition);
     put(sector + 18, 2, journal_length);
+}
+
+/* The access time at this place and the change time behind it. */
+static void times(uint8_t *at, uint64_t access_time, uint64_t change_time)
+{
+    int width = volume.edition == 2 ? 8 : 4;
+
+    put(at, width, late(access_time));
+    put(at + width, width, late(change_time));
 }
 
 static void root(uint8_t *sector, uint64_t version, uint64_t change_time)
@@ -164,8 +181,7 @@ static void root(uint8_t *sector, uint64_t version, uint64_t change_time)
     put(sector, 4, version);
     put(sector + 4, 8, ROOT_ID);
     put(sector + 12, 4, ROOT_MODE);
-    put(sector + 16, 4, ROOT_TIME);
-    put(sector + 20, 4, change_time);
+    times(sector + 16, ROOT_TIME, change_time);
 }
 
 struct entry {
@@ -181,10 +197,9 @@ static void entry(uint8_t *sector, struct entry e)
     put(sector + 10, 4, e.version);
     put(sector + 14, 8, e.id);
     put(sector + 22, 4, e.mode);
-    put(sector + 26, 4, e.access_time);
-    put(sector + 30, 4, e.change_time);
-    put(sector + 34, 2, strlen(e.name));
-    memcpy(sector + 36, e.name, strlen(e.name));
+    times(sector + 26, e.access_time, e.change_time);
+    put(sector + name_at() - 2, 2, strlen(e.name));
+    memcpy(sector + name_at(), e.name, strlen(e.name));
 }
 
 /* The sample's table sector with its four entries, each a file index (high 16 bits) and an offset (low 16 bits). */
@@ -274,8 +289,8 @@ struct change {
     enum kind kind;
     const char *name;
     uint64_t id;
-    uint32_t mode, time;
-    uint64_t at; /* of a write the offset, of a resize the new size */
+    uint32_t mode;
+    uint64_t time, at; /* of a write the offset, of a resize the new size */
     const uint8_t *data;
     size_t data_length;
     const char *new_name;
@@ -286,19 +301,20 @@ static goofs_change_result call(const struct change *c, uint8_t *list, size_t ro
     static uint8_t new_name[512]; /* a place of its own: slices of one call must not overlap */
     const uint8_t *name = (const uint8_t *)c->name;
     size_t length = strlen(c->name), new_length = c->new_name ? strlen(c->new_name) : 0;
+    uint64_t time = late(c->time);
 
     memcpy(new_name, c->new_name ? c->new_name : "", new_length);
     switch (c->kind) {
     case CREATE:
-        return goofs_create(medium.bytes, IMAGE, name, length, c->id, c->mode, c->time, list, room);
+        return goofs_create(medium.bytes, IMAGE, name, length, c->id, c->mode, time, list, room);
     case DELETE:
-        return goofs_delete(medium.bytes, IMAGE, name, length, c->time, list, room);
+        return goofs_delete(medium.bytes, IMAGE, name, length, time, list, room);
     case RENAME:
-        return goofs_rename(medium.bytes, IMAGE, name, length, new_name, new_length, c->time, list, room);
+        return goofs_rename(medium.bytes, IMAGE, name, length, new_name, new_length, time, list, room);
     case RESIZE:
-        return goofs_resize(medium.bytes, IMAGE, name, length, c->at, c->time, list, room);
+        return goofs_resize(medium.bytes, IMAGE, name, length, c->at, time, list, room);
     default:
-        return goofs_write(medium.bytes, IMAGE, name, length, c->at, c->data, c->data_length, c->time, list, room);
+        return goofs_write(medium.bytes, IMAGE, name, length, c->at, c->data, c->data_length, time, list, room);
     }
 }
 
@@ -406,7 +422,7 @@ static void entry_is(uint64_t index, struct entry e)
 
     hold();
     IS(goofs_find_result, goofs_find(medium.bytes, IMAGE, name, length), .code = 0, .index = index, .size = e.size,
-       .version = e.version, .id = e.id, .mode = e.mode, .access_time = e.access_time, .change_time = e.change_time,
+       .version = e.version, .id = e.id, .mode = e.mode, .access_time = late(e.access_time), .change_time = late(e.change_time),
        .name_length = length);
     lend();
     IS(goofs_list_result, goofs_list(medium.bytes, IMAGE, index, lent.bytes, length - 1), .code = 14);
@@ -415,7 +431,7 @@ static void entry_is(uint64_t index, struct entry e)
     for (room = length; room <= length + 1; room++) {
         lend();
         IS(goofs_list_result, goofs_list(medium.bytes, IMAGE, index, lent.bytes, room), .code = 0, .size = e.size,
-           .version = e.version, .id = e.id, .mode = e.mode, .access_time = e.access_time, .change_time = e.change_time,
+           .version = e.version, .id = e.id, .mode = e.mode, .access_time = late(e.access_time), .change_time = late(e.change_time),
            .name_length = length);
         lent_is(__LINE__, name, length);
     }
@@ -483,22 +499,22 @@ static void all_refuse(int besides, const uint8_t *image, size_t length, uint64_
     for (bad = 0; bad < 2; bad++) {
         const uint8_t *name = bad ? NULL : beam, *new_name = bad ? NULL : created, *data = bad ? NULL : one;
         size_t name_length = bad ? 0 : 4, new_length = bad ? 0 : 3, data_length = bad ? 0 : 1, room = bad ? 0 : sizeof lent.bytes;
-        uint64_t number = bad ? UINT64_MAX : 0;
+        uint64_t number = bad ? UINT64_MAX : 0, time = number;
         uint8_t *out = bad ? NULL : lent.bytes;
 
         IS(goofs_find_result, goofs_find(image, length, name, name_length), .code = code, .fault = fault, .place = place);
         IS(goofs_list_result, goofs_list(image, length, number, out, room), .code = code, .fault = fault, .place = place);
         IS(goofs_read_result, goofs_read(image, length, name, name_length, number, number, out, room), .code = code, .fault = fault,
            .place = place);
-        IS(goofs_change_result, goofs_create(image, length, new_name, new_length, bad ? 0 : 99, 0, 0, out, room), .code = code,
+        IS(goofs_change_result, goofs_create(image, length, new_name, new_length, bad ? 0 : 99, 0, time, out, room), .code = code,
            .fault = fault, .place = place);
-        IS(goofs_change_result, goofs_delete(image, length, name, name_length, 0, out, room), .code = code, .fault = fault,
+        IS(goofs_change_result, goofs_delete(image, length, name, name_length, time, out, room), .code = code, .fault = fault,
            .place = place);
-        IS(goofs_change_result, goofs_rename(image, length, name, name_length, new_name, new_length, 0, out, room), .code = code,
+        IS(goofs_change_result, goofs_rename(image, length, name, name_length, new_name, new_length, time, out, room), .code = code,
            .fault = fault, .place = place);
-        IS(goofs_change_result, goofs_resize(image, length, name, name_length, number, 0, out, room), .code = code, .fault = fault,
+        IS(goofs_change_result, goofs_resize(image, length, name, name_length, number, time, out, room), .code = code, .fault = fault,
            .place = place);
-        IS(goofs_change_result, goofs_write(image, length, name, name_length, number, data, data_length, 0, out, room),
+        IS(goofs_change_result, goofs_write(image, length, name, name_length, number, data, data_length, time, out, room),
            .code = code, .fault = fault, .place = place);
         if (besides & RECOVER)
             IS(goofs_length_result, goofs_recover(image, length, out, room), .code = code);
@@ -510,6 +526,11 @@ static void all_refuse(int besides, const uint8_t *image, size_t length, uint64_
 }
 
 #define ALL_REFUSE (from = __LINE__, all_refuse)
+
+/* The sample's summary, with this state. */
+#define SAMPLE_IS(...) \
+    IS(goofs_summary_result, goofs_summary(medium.bytes, IMAGE), .files = 255, .extents = 4, .extent_sectors = 128, \
+       .edition = volume.edition, __VA_ARGS__)
 
 /* -------------------- the volume to begin with */
 
@@ -539,7 +560,7 @@ static void want_format_record(uint64_t position)
 
 static goofs_length_result sample_record(uint64_t position, uint8_t *out, size_t room)
 {
-    return goofs_format_record(1313, 255, ROOT_ID, ROOT_MODE, ROOT_TIME, position, out, room);
+    return goofs_format_record(1313, 255, volume.edition, ROOT_ID, ROOT_MODE, late(ROOT_TIME), position, out, room);
 }
 
 static void blank_medium(void) { memset(&medium, MEDIUM, sizeof medium); }
@@ -584,13 +605,14 @@ static void two_files(void)
 
 static void sizes_of_results(void)
 {
-    NUMBER(sizeof(goofs_summary_result), 48); /* 6 numbers of 8 bytes */
+    NUMBER(sizeof(goofs_summary_result), 56); /* 7 numbers of 8 bytes */
     NUMBER(sizeof(goofs_check_result), 24);   /* 3 */
     NUMBER(sizeof(goofs_find_result), 88);    /* 11 */
     NUMBER(sizeof(goofs_list_result), 80);    /* 10 */
     NUMBER(sizeof(goofs_read_result), 32);    /* 4 */
     NUMBER(sizeof(goofs_change_result), 32);  /* 4 */
     NUMBER(sizeof(goofs_length_result), 16);  /* 2 */
+    NUMBER(sizeof(goofs_slice_result), 24);   /* 3 */
 }
 
 static void macros(void)
@@ -601,6 +623,8 @@ static void macros(void)
     NUMBER(GOOFS_NUMBER, 8);
     NUMBER(GOOFS_CONTENTS, 16);
     NUMBER(GOOFS_LONGEST_NAME, 476);
+    NUMBER(GOOFS_LONGEST_NAME_2, 468);
+    NUMBER(GOOFS_LATEST_TIME_1, 4294967295);
     NUMBER(GOOFS_LONGEST_TRANSFER, 65536);
     NUMBER(GOOFS_BARRIER, UINT64_C(18446744073709551615));
     /* The names stand for the numbers of the rules. */
@@ -663,8 +687,7 @@ static void format_position_by_position(void)
         land(held.bytes, 1);
         held_is(__LINE__);
         if (position == 1 || position == 259) { /* from the first superblock on until the second, the volume is unfinished */
-            IS(goofs_summary_result, goofs_summary(medium.bytes, IMAGE), .files = 255, .extents = 4, .extent_sectors = 128,
-               .state = 3);
+            SAMPLE_IS(.state = 3);
             ALL_REFUSE(RECOVER, medium.bytes, IMAGE, 4, 0, 0);
         }
     }
@@ -673,7 +696,7 @@ static void format_position_by_position(void)
     IS(goofs_length_result, sample_record(262, NULL, 0), .code = 9);
     IS(goofs_length_result, sample_record(UINT64_MAX, lent.bytes, sizeof lent.bytes), .code = 9);
     lent_is(__LINE__, NULL, 0);
-    IS(goofs_summary_result, goofs_summary(medium.bytes, IMAGE), .files = 255, .extents = 4, .extent_sectors = 128);
+    SAMPLE_IS(.state = 0);
     IS(goofs_check_result, goofs_check(medium.bytes, IMAGE), .code = 0);
     IS(goofs_length_result, goofs_recover(medium.bytes, IMAGE, NULL, 0), .code = 0);
     /* The journal (257 to 288), the data (from 290) and the tail were not written, as the format names them not. */
@@ -690,15 +713,15 @@ static void geometry_is(uint64_t sectors, uint64_t files, uint64_t extents, uint
     wanted.length = 0;
     want(0, (superblock(held.bytes, 65535), held.bytes));
     lend();
-    IS(goofs_length_result, goofs_format_record(sectors, files, 0, 0, 0, 0, lent.bytes, 528), .code = 0, .length = 528);
+    IS(goofs_length_result, goofs_format_record(sectors, files, volume.edition, 0, 0, 0, 0, lent.bytes, 528), .code = 0, .length = 528);
     lent_is(__LINE__, wanted.bytes, 528);
 }
 
 static void no_geometry(uint64_t sectors, uint64_t files)
 {
     lend();
-    IS(goofs_length_result, goofs_format_record(sectors, files, 1, 0, 0, 0, lent.bytes, sizeof lent.bytes), .code = 8);
-    IS(goofs_length_result, goofs_format_record(sectors, files, 1, 0, 0, UINT64_MAX, NULL, 0), .code = 8);
+    IS(goofs_length_result, goofs_format_record(sectors, files, volume.edition, 1, 0, 0, 0, lent.bytes, sizeof lent.bytes), .code = 8);
+    IS(goofs_length_result, goofs_format_record(sectors, files, volume.edition, 1, 0, 0, UINT64_MAX, NULL, 0), .code = 8);
     lent_is(__LINE__, NULL, 0);
 }
 
@@ -961,7 +984,7 @@ static void renames(void)
     uint8_t contents[4][512];
 
     two_files();
-    memset(medium.bytes + 2 * 512 + 40, 0x5A, 472);
+    memset(medium.bytes + 2 * 512 + name_at() + 4, 0x5A, 508 - name_at());
     /* To a shorter name: the root (its version raised the third time) and the entry. 2 copies: 11 records. */
     wanted.length = 0;
     root(contents[0], 3, 1004);
@@ -1031,7 +1054,7 @@ static void renames_cut(void)
 
     two_files();
     IS(goofs_change_result,
-       goofs_rename(medium.bytes, IMAGE, (const uint8_t *)"gain", 4, (const uint8_t *)"beam", 4, 1004, list, sizeof list),
+       goofs_rename(medium.bytes, IMAGE, (const uint8_t *)"gain", 4, (const uint8_t *)"beam", 4, late(1004), list, sizeof list),
        .length = 7920); /* 4 copies, a journal sector, 2 marks, 4 targets, 4 barriers: 15 records */
     for (landed = 0; landed <= 15; landed++) {
         two_files();
@@ -1065,7 +1088,7 @@ static void cut_before_the_start_mark(void)
     entry(contents[1], (struct entry){.id = 77, .access_time = 1004, .change_time = 1004, .name = "new"});
     want_commit(2, (const uint64_t[]){1, 4}, contents);
     NUMBER(goofs_carry_out(medium.bytes, IMAGE, wanted.bytes, 4 * 528), 0); /* 2 copies, journal, barrier */
-    IS(goofs_summary_result, goofs_summary(medium.bytes, IMAGE), .files = 255, .extents = 4, .extent_sectors = 128);
+    SAMPLE_IS(.state = 0);
     IS(goofs_check_result, goofs_check(medium.bytes, IMAGE), .code = 0);
     lend();
     IS(goofs_length_result, goofs_recover(medium.bytes, IMAGE, NULL, 0), .code = 0, .length = 0);
@@ -1089,7 +1112,7 @@ static void cut_after_the_start_mark(void)
     table(contents[2], FREE, FREE, FREE, FREE);
     want_commit(3, (const uint64_t[]){1, 2, 289}, contents);
     lend();
-    IS(goofs_change_result, goofs_delete(medium.bytes, IMAGE, (const uint8_t *)"beam", 4, 1004, lent.bytes, 6864), .length = 6864);
+    IS(goofs_change_result, goofs_delete(medium.bytes, IMAGE, (const uint8_t *)"beam", 4, late(1004), lent.bytes, 6864), .length = 6864);
     lent_is(__LINE__, wanted.bytes, 6864);
     memcpy(whole, medium.bytes, IMAGE);
     land(whole, 13);
@@ -1101,8 +1124,7 @@ static void cut_after_the_start_mark(void)
         put(tail + landed * 528, 8, (uint64_t)landed);
     for (landed = 0; landed <= 3; landed++) { /* so many targets too, of the change or of a recovery that was cut */
         NUMBER(goofs_carry_out(medium.bytes, IMAGE, wanted.bytes, (size_t)(7 + landed) * 528), 0);
-        IS(goofs_summary_result, goofs_summary(medium.bytes, IMAGE), .files = 255, .extents = 4, .extent_sectors = 128, .state = 1,
-           .entries = 3);
+        SAMPLE_IS(.state = 1, .entries = 3);
         ALL_REFUSE(NOT_THESE, medium.bytes, IMAGE, 5, 0, 0);
         hold();
         lend();
@@ -1196,17 +1218,16 @@ static void states(void)
 {
     two_files();
     put(medium.bytes + 18, 2, 1024);
-    IS(goofs_summary_result, goofs_summary(medium.bytes, IMAGE), .files = 255, .extents = 4, .extent_sectors = 128, .state = 1,
-       .entries = 1024);
+    SAMPLE_IS(.state = 1, .entries = 1024);
     ALL_REFUSE(NOT_THESE, medium.bytes, IMAGE, 5, 0, 0);
     put(medium.bytes + 18, 2, 1025);
-    IS(goofs_summary_result, goofs_summary(medium.bytes, IMAGE), .files = 255, .extents = 4, .extent_sectors = 128, .state = 2);
+    SAMPLE_IS(.state = 2);
     ALL_REFUSE(RECOVER, medium.bytes, IMAGE, 6, 0, 0);
     put(medium.bytes + 18, 2, 65534);
-    IS(goofs_summary_result, goofs_summary(medium.bytes, IMAGE), .files = 255, .extents = 4, .extent_sectors = 128, .state = 2);
+    SAMPLE_IS(.state = 2);
     ALL_REFUSE(RECOVER, medium.bytes, IMAGE, 6, 0, 0);
     put(medium.bytes + 18, 2, 65535);
-    IS(goofs_summary_result, goofs_summary(medium.bytes, IMAGE), .files = 255, .extents = 4, .extent_sectors = 128, .state = 3);
+    SAMPLE_IS(.state = 3);
     ALL_REFUSE(RECOVER, medium.bytes, IMAGE, 4, 0, 0);
 }
 
@@ -1214,6 +1235,7 @@ static void images_refused(void)
 {
     static const uint64_t fields[][3] = {/* place, width, value */
                                          {0, 2, 254}, {0, 2, 1025}, {2, 2, 1}, {2, 2, 0}, {4, 4, 127}, {4, 4, 4294967295}};
+    static const uint64_t versions[] = {0, 3, 257, 258, 512, 65535};
     size_t k;
 
     two_files();
@@ -1229,9 +1251,11 @@ static void images_refused(void)
         put(medium.bytes + fields[k][0], (int)fields[k][1], fields[k][2]);
         ALL_REFUSE(SUMMARY | RECOVER, medium.bytes, IMAGE, 3, 0, 0);
     }
-    two_files();
-    put(medium.bytes + 16, 2, 2); /* the version */
-    ALL_REFUSE(SUMMARY | RECOVER, medium.bytes, IMAGE, 2, 0, 0);
+    for (k = 0; k < sizeof versions / sizeof *versions; k++) {
+        two_files();
+        put(medium.bytes + 16, 2, versions[k]);
+        ALL_REFUSE(SUMMARY | RECOVER, medium.bytes, IMAGE, 2, 0, 0);
+    }
     two_files();
     medium.bytes[15] = '\\'; /* the magic's last byte */
     ALL_REFUSE(SUMMARY | RECOVER, medium.bytes, IMAGE, 2, 0, 0);
@@ -1239,14 +1263,15 @@ static void images_refused(void)
 
 static void faults(void)
 {
-    static const uint64_t damages[][5] = {
+    const size_t length = 2 * 512 + name_at() - 2, name = 2 * 512 + name_at(); /* of "beam" */
+    const uint64_t damages[][5] = {
         /* place, width, value, fault, place of the fault */
         {2 * 512 + 5 * 512, 2, 1, 21, 5},                 /* mark of entry 5 */
-        {2 * 512 + 34, 2, 0, 22, 0},                      /* name length of "beam" */
-        {2 * 512 + 34, 2, 477, 22, 0},                    /* the same */
-        {2 * 512 + 37, 1, 0, 22, 0},                      /* a 0 in its name */
+        {length, 2, 0, 22, 0},                            /* name length of "beam" */
+        {length, 2, longest_name() + 1, 22, 0},           /* the same */
+        {name + 1, 1, 0, 22, 0},                          /* a 0 in its name */
         {3 * 512 + 2, 8, 196609, 22, 1},                  /* size of "gain" above 3 x 65,536 */
-        {3 * 512 + 36, 4, UINT64_C(0x6265616D), 23, 1},   /* "gain" named "beam" */
+        {name + 512, 4, UINT64_C(0x6265616D), 23, 1},     /* "gain" named "beam" */
         {3 * 512 + 14, 8, 0, 24, 1},                      /* id of "gain": 0, */
         {3 * 512 + 14, 8, ROOT_ID, 24, 1},                /* the root's */
         {3 * 512 + 14, 8, BEAM_ID, 24, 1},                /* that of "beam" */
@@ -1262,7 +1287,7 @@ static void faults(void)
         two_files();
         put(medium.bytes + damages[k][0], (int)damages[k][1], damages[k][2]);
         ALL_REFUSE(NOT_THESE, medium.bytes, IMAGE, 7, damages[k][3], damages[k][4]);
-        IS(goofs_summary_result, goofs_summary(medium.bytes, IMAGE), .files = 255, .extents = 4, .extent_sectors = 128);
+        SAMPLE_IS(.state = 0);
         IS(goofs_length_result, goofs_recover(medium.bytes, IMAGE, NULL, 0), .code = 0); /* doesn't judge */
     }
     two_files(); /* what is not judged: a free entry's bytes, a free table entry's offset, table padding */
@@ -1275,16 +1300,18 @@ static void faults(void)
 static void names(void)
 {
     static uint8_t long_name[478];
+    const size_t longest = longest_name();
     goofs_change_result answer;
+    size_t length;
 
-    memset(long_name, 'n', 477);
+    memset(long_name, 'n', sizeof long_name);
     two_files();
     hold();
     lend();
     /* P10, and by length 0, with a null pointer or without */
-    IS(goofs_change_result, goofs_create(medium.bytes, IMAGE, long_name, 477, 5, 0, 0, lent.bytes, sizeof lent.bytes), .code = 8);
-    IS(goofs_find_result, goofs_find(medium.bytes, IMAGE, long_name, 477), .code = 8);
-    IS(goofs_find_result, goofs_find(medium.bytes, IMAGE, long_name, 476), .code = 9);
+    IS(goofs_change_result, goofs_create(medium.bytes, IMAGE, long_name, longest + 1, 5, 0, 0, lent.bytes, sizeof lent.bytes), .code = 8);
+    IS(goofs_find_result, goofs_find(medium.bytes, IMAGE, long_name, longest + 1), .code = 8);
+    IS(goofs_find_result, goofs_find(medium.bytes, IMAGE, long_name, longest), .code = 9);
     IS(goofs_find_result, goofs_find(medium.bytes, IMAGE, NULL, 0), .code = 8);
     IS(goofs_find_result, goofs_find(medium.bytes, IMAGE, long_name, 0), .code = 8);
     IS(goofs_read_result, goofs_read(medium.bytes, IMAGE, NULL, 0, 0, 0, NULL, 0), .code = 8);
@@ -1294,19 +1321,31 @@ static void names(void)
     IS(goofs_change_result, goofs_resize(medium.bytes, IMAGE, NULL, 0, 0, 0, NULL, 0), .code = 8);
     IS(goofs_change_result, goofs_write(medium.bytes, IMAGE, NULL, 0, 0, NULL, 0, 0, NULL, 0), .code = 8);
     /* either name of a rename */
-    IS(goofs_change_result, goofs_rename(medium.bytes, IMAGE, (const uint8_t *)"beam", 4, long_name, 477, 0, NULL, 0), .code = 8);
-    IS(goofs_change_result, goofs_rename(medium.bytes, IMAGE, long_name, 477, (const uint8_t *)"new", 3, 0, NULL, 0), .code = 8);
-    IS(goofs_change_result, goofs_rename(medium.bytes, IMAGE, long_name, 476, (const uint8_t *)"new", 3, 0, NULL, 0), .code = 9);
-    IS(goofs_change_result, goofs_rename(medium.bytes, IMAGE, (const uint8_t *)"beam", 4, long_name, 476, 0, NULL, 0), .code = 14);
+    IS(goofs_change_result, goofs_rename(medium.bytes, IMAGE, (const uint8_t *)"beam", 4, long_name, longest + 1, 0, NULL, 0), .code = 8);
+    IS(goofs_change_result, goofs_rename(medium.bytes, IMAGE, long_name, longest + 1, (const uint8_t *)"new", 3, 0, NULL, 0), .code = 8);
+    IS(goofs_change_result, goofs_rename(medium.bytes, IMAGE, long_name, longest, (const uint8_t *)"new", 3, 0, NULL, 0), .code = 9);
+    IS(goofs_change_result, goofs_rename(medium.bytes, IMAGE, (const uint8_t *)"beam", 4, long_name, longest, 0, NULL, 0), .code = 14);
+    /* T-08: on edition 2 also the lengths up to edition 1's longest are bad in every call */
+    for (length = longest + 1; length <= 477; length++) {
+        from = (int)length;
+        NUMBER(goofs_find(medium.bytes, IMAGE, long_name, length).code, 8);
+        NUMBER(goofs_read(medium.bytes, IMAGE, long_name, length, 0, 0, NULL, 0).code, 8);
+        NUMBER(goofs_create(medium.bytes, IMAGE, long_name, length, 5, 0, 0, NULL, 0).code, 8);
+        NUMBER(goofs_delete(medium.bytes, IMAGE, long_name, length, 0, NULL, 0).code, 8);
+        NUMBER(goofs_resize(medium.bytes, IMAGE, long_name, length, 0, 0, NULL, 0).code, 8);
+        NUMBER(goofs_write(medium.bytes, IMAGE, long_name, length, 0, NULL, 0, 0, NULL, 0).code, 8);
+        NUMBER(goofs_rename(medium.bytes, IMAGE, (const uint8_t *)"beam", 4, long_name, length, 0, NULL, 0).code, 8);
+        NUMBER(goofs_rename(medium.bytes, IMAGE, long_name, length, (const uint8_t *)"new", 3, 0, NULL, 0).code, 8);
+    }
     /* a name is its length's bytes, not a C string: "beam" with a 0 at its end has a 0 in it */
     IS(goofs_find_result, goofs_find(medium.bytes, IMAGE, (const uint8_t *)"beam", 5), .code = 8);
     lent_is(__LINE__, NULL, 0);
     held_is(__LINE__);
 
-    answer = goofs_create(medium.bytes, IMAGE, long_name, 476, 5, 6, 7, lent.bytes, GOOFS_CREATE_LIST);
+    answer = goofs_create(medium.bytes, IMAGE, long_name, longest, 5, 6, late(7), lent.bytes, GOOFS_CREATE_LIST);
     NUMBER(answer.code, 0);
     NUMBER(goofs_carry_out(medium.bytes, IMAGE, lent.bytes, (size_t)answer.length), 0);
-    long_name[476] = 0;
+    long_name[longest] = 0;
     ENTRY_IS(2, .id = 5, .mode = 6, .access_time = 7, .change_time = 7, .name = (const char *)long_name);
 }
 
@@ -1354,6 +1393,58 @@ static void new_names(void)
     IS(goofs_check_result, goofs_check(medium.bytes, IMAGE), .code = 0);
     MADE(DELETE, "\x7F", .time = 12);
     REFUSED(9, DELETE, "\x7F", .time = 13);
+}
+
+/* T-08: each call that takes a time, and what it answers if the time is good. */
+static void times_of_calls(void)
+{
+    static const uint64_t good[] = {0, 1, 4294967295}, wide[] = {4294967296, 4294967297, UINT64_C(1) << 63, UINT64_MAX};
+    const uint8_t *beam = (const uint8_t *)"beam", *gain = (const uint8_t *)"gain", *none = (const uint8_t *)"none";
+    size_t k;
+
+    two_files();
+    hold();
+    for (k = 0; k < 7; k++) {
+        uint64_t t = k < 3 ? good[k] : wide[k - 3];
+        int bad = volume.edition == 1 && k >= 3;
+
+        from = (int)k;
+        NUMBER(goofs_create(medium.bytes, IMAGE, none, 4, 5, 0, t, lent.bytes, LONGEST).code, bad ? 8 : 0);
+        NUMBER(goofs_create(medium.bytes, IMAGE, beam, 4, 5, 0, t, lent.bytes, LONGEST).code, bad ? 8 : 10);
+        NUMBER(goofs_delete(medium.bytes, IMAGE, beam, 4, t, lent.bytes, LONGEST).code, bad ? 8 : 0);
+        NUMBER(goofs_delete(medium.bytes, IMAGE, none, 4, t, lent.bytes, LONGEST).code, bad ? 8 : 9);
+        NUMBER(goofs_resize(medium.bytes, IMAGE, beam, 4, 7, t, lent.bytes, LONGEST).code, bad ? 8 : 0);
+        NUMBER(goofs_write(medium.bytes, IMAGE, beam, 4, 7, data, 9, t, lent.bytes, LONGEST).code, bad ? 8 : 0);
+        NUMBER(goofs_write(medium.bytes, IMAGE, beam, 4, 3001, data, 9, t, lent.bytes, LONGEST).code, bad ? 8 : 12);
+        NUMBER(goofs_rename(medium.bytes, IMAGE, beam, 4, gain, 4, t, lent.bytes, LONGEST).code, bad ? 8 : 0);
+        NUMBER(goofs_rename(medium.bytes, IMAGE, none, 4, gain, 4, t, lent.bytes, LONGEST).code, bad ? 8 : 9);
+        /* where nothing would be stored, into no list */
+        IS(goofs_change_result, goofs_resize(medium.bytes, IMAGE, beam, 4, 3000, t, NULL, 0), .code = bad ? 8 : 0);
+        IS(goofs_change_result, goofs_write(medium.bytes, IMAGE, beam, 4, 7, NULL, 0, t, NULL, 0), .code = bad ? 8 : 0);
+        memcpy(lent.bytes, "beam", 4); /* slices of one call must not overlap */
+        IS(goofs_change_result, goofs_rename(medium.bytes, IMAGE, beam, 4, lent.bytes, 4, t, NULL, 0), .code = bad ? 8 : 0);
+        /* 14 goes behind */
+        IS(goofs_change_result, goofs_delete(medium.bytes, IMAGE, beam, 4, t, NULL, 0), .code = bad ? 8 : 14);
+        IS(goofs_length_result, goofs_format_record(1313, 255, volume.edition, 1, 0, t, 0, NULL, 0), .code = bad ? 8 : 14);
+        IS(goofs_length_result, goofs_format_record(1313, 255, volume.edition, 1, 0, t, 262, NULL, 0), .code = bad ? 8 : 9);
+    }
+    held_is(__LINE__);
+}
+
+/* Editions other than 1 and 2 are refused at every position. */
+static void editions_refused(void)
+{
+    static const uint64_t bad[] = {0, 3, 256, 65537, 65538, UINT64_C(4294967297), UINT64_C(4294967298), UINT64_MAX};
+    size_t k;
+
+    for (k = 0; k < sizeof bad / sizeof *bad; k++) {
+        from = (int)k;
+        lend();
+        IS(goofs_length_result, goofs_format_record(1313, 255, bad[k], 1, 0, 0, 0, lent.bytes, sizeof lent.bytes), .code = 8);
+        IS(goofs_length_result, goofs_format_record(1313, 255, bad[k], 1, 0, 0, 2, lent.bytes, sizeof lent.bytes), .code = 8);
+        IS(goofs_length_result, goofs_format_record(1313, 255, bad[k], 1, 0, 0, 262, NULL, 0), .code = 8);
+        lent_is(__LINE__, NULL, 0);
+    }
 }
 
 static void full_directory(void)
@@ -1464,7 +1555,7 @@ static void longest_recovery(void)
         NUMBER(wanted.length, 1027 * 528);
         NUMBER(wanted.length, GOOFS_RECOVER_LIST);
         IS(goofs_summary_result, goofs_summary(image, sizeof image), .files = 1024, .extents = 2, .extent_sectors = 128, .state = 1,
-           .entries = 1024);
+           .entries = 1024, .edition = volume.edition);
         lend();
         IS(goofs_length_result, goofs_recover(image, sizeof image, lent.bytes, GOOFS_RECOVER_LIST - 1), .code = 14);
         lent_is(__LINE__, NULL, 0);
@@ -1473,7 +1564,8 @@ static void longest_recovery(void)
         /* After the list has landed the volume is clean. The entries 0 to 3 are full of 255, so they have the mark of an occupied
          * one; entry 4 is full of 254, and that is no mark. */
         NUMBER(goofs_carry_out(image, sizeof image, lent.bytes, 542256), 0);
-        IS(goofs_summary_result, goofs_summary(image, sizeof image), .files = 1024, .extents = 2, .extent_sectors = 128);
+        IS(goofs_summary_result, goofs_summary(image, sizeof image), .files = 1024, .extents = 2, .extent_sectors = 128,
+           .edition = volume.edition);
         IS(goofs_check_result, goofs_check(image, sizeof image), .code = 7, .fault = 21, .place = 4);
     }
 }
@@ -1507,9 +1599,11 @@ static int longest_lists(void)
     memset(image + 289 * 512, 255, 512 * 512); /* all free */
     for (k = 0; k < 65530; k++)
         put(image + 289 * 512 + 4 * k, 4, 65529 - k); /* file 0, the extents in falling order */
-    IS(goofs_summary_result, goofs_summary(image, length), .files = 255, .extents = 65535, .extent_sectors = 128);
+    IS(goofs_summary_result, goofs_summary(image, length), .files = 255, .extents = 65535, .extent_sectors = 128,
+       .edition = volume.edition);
     IS(goofs_check_result, goofs_check(image, length), .code = 0);
 
+    memset(contents, 0, sizeof contents);
     targets[0] = 1;
     root(contents[0], 42, 1001);
     targets[1] = 2;
@@ -1522,10 +1616,10 @@ static int longest_lists(void)
     NUMBER(wanted.length, 1051 * 528);
     NUMBER(wanted.length, GOOFS_DELETE_LIST);
     lend();
-    IS(goofs_change_result, goofs_delete(image, length, (const uint8_t *)"beam", 4, 1001, lent.bytes, GOOFS_DELETE_LIST - 1),
+    IS(goofs_change_result, goofs_delete(image, length, (const uint8_t *)"beam", 4, late(1001), lent.bytes, GOOFS_DELETE_LIST - 1),
        .code = 14);
     lent_is(__LINE__, NULL, 0);
-    IS(goofs_change_result, goofs_delete(image, length, (const uint8_t *)"beam", 4, 1001, lent.bytes, GOOFS_DELETE_LIST), .code = 0,
+    IS(goofs_change_result, goofs_delete(image, length, (const uint8_t *)"beam", 4, late(1001), lent.bytes, GOOFS_DELETE_LIST), .code = 0,
        .length = 554928);
     lent_is(__LINE__, wanted.bytes, 554928);
 
@@ -1540,11 +1634,11 @@ static int longest_lists(void)
     NUMBER(wanted.length, GOOFS_RENAME_LIST);
     lend();
     IS(goofs_change_result,
-       goofs_rename(image, length, (const uint8_t *)"gain", 4, (const uint8_t *)"beam", 4, 1001, lent.bytes, GOOFS_RENAME_LIST - 1),
+       goofs_rename(image, length, (const uint8_t *)"gain", 4, (const uint8_t *)"beam", 4, late(1001), lent.bytes, GOOFS_RENAME_LIST - 1),
        .code = 14);
     lent_is(__LINE__, NULL, 0);
     IS(goofs_change_result,
-       goofs_rename(image, length, (const uint8_t *)"gain", 4, (const uint8_t *)"beam", 4, 1001, lent.bytes, GOOFS_RENAME_LIST),
+       goofs_rename(image, length, (const uint8_t *)"gain", 4, (const uint8_t *)"beam", 4, late(1001), lent.bytes, GOOFS_RENAME_LIST),
        .code = 0, .length = 555984);
     lent_is(__LINE__, wanted.bytes, 555984);
     memmove(contents + 2, contents + 3, sizeof *contents * 512);
@@ -1557,15 +1651,15 @@ static int longest_lists(void)
     NUMBER(wanted.length, 1049 * 528);
     NUMBER(wanted.length, GOOFS_RESIZE_LIST);
     lend();
-    IS(goofs_change_result, goofs_resize(image, length, (const uint8_t *)"beam", 4, 0, 1001, lent.bytes, GOOFS_RESIZE_LIST - 1),
+    IS(goofs_change_result, goofs_resize(image, length, (const uint8_t *)"beam", 4, 0, late(1001), lent.bytes, GOOFS_RESIZE_LIST - 1),
        .code = 14);
     lent_is(__LINE__, NULL, 0);
-    IS(goofs_change_result, goofs_resize(image, length, (const uint8_t *)"beam", 4, 0, 1001, lent.bytes, GOOFS_RESIZE_LIST),
+    IS(goofs_change_result, goofs_resize(image, length, (const uint8_t *)"beam", 4, 0, late(1001), lent.bytes, GOOFS_RESIZE_LIST),
        .code = 0, .length = 553872);
     lent_is(__LINE__, wanted.bytes, 553872);
     NUMBER(goofs_carry_out(image, length, lent.bytes, 553872), 0);
-    IS(goofs_find_result, goofs_find(image, length, (const uint8_t *)"beam", 4), .code = 0, .id = 9, .change_time = 1001,
-       .name_length = 4);
+    IS(goofs_find_result, goofs_find(image, length, (const uint8_t *)"beam", 4), .code = 0, .id = 9,
+       .access_time = late(0), .change_time = late(1001), .name_length = 4);
     munmap(image, length);
     return 1;
 }
@@ -1606,12 +1700,13 @@ static int older_volume(void)
     return 1;
 }
 
-static const struct {
+struct test {
     const char *name;
     void (*run)(void);
-} tests[] = {
-    {"sizes of results", sizes_of_results},
-    {"macros", macros},
+};
+
+/* On each edition. */
+static const struct test tests[] = {
     {"format position by position", format_position_by_position},
     {"geometries", geometries},
     {"first create", first_create},
@@ -1630,9 +1725,17 @@ static const struct {
     {"faults", faults},
     {"names", names},
     {"new names", new_names},
+    {"times of calls", times_of_calls},
     {"full directory", full_directory},
-    {"carrying out", carrying_out},
     {"longest recovery", longest_recovery},
+};
+
+/* These know no edition. */
+static const struct test others[] = {
+    {"sizes of results", sizes_of_results},
+    {"macros", macros},
+    {"editions refused", editions_refused},
+    {"carrying out", carrying_out},
 };
 
 static unsigned long passed, failed;
@@ -1643,28 +1746,36 @@ static void count(const char *name)
         passed++;
     } else {
         failed++;
-        printf("c interface: FAILED: %s\n", name);
+        printf("c interface: FAILED: %s (edition %" PRIu64 ")\n", name, volume.edition);
     }
     wrong = 0;
 }
 
-int main(void)
+static void run(const struct test *table, size_t length)
 {
     size_t k;
 
-    make_data();
-    for (k = 0; k < sizeof tests / sizeof *tests; k++) {
-        tests[k].run();
-        count(tests[k].name);
+    for (k = 0; k < length; k++) {
+        table[k].run();
+        count(table[k].name);
     }
-    if (longest_lists())
-        count("longest lists");
-    else
-        printf("c interface: the longest lists were not tried, as 4 GiB of addresses could not be had\n");
-    if (older_volume())
-        count("older volume");
-    else
-        printf("c interface: an older volume was not tried, as 1 GiB of addresses could not be had\n");
+}
+
+int main(void)
+{
+    make_data();
+    run(others, sizeof others / sizeof *others);
+    for (volume.edition = 1; volume.edition <= 2; volume.edition++) {
+        run(tests, sizeof tests / sizeof *tests);
+        if (longest_lists())
+            count("longest lists");
+        else
+            printf("c interface: the longest lists were not tried, as 4 GiB of addresses could not be had\n");
+        if (older_volume())
+            count("older volume");
+        else
+            printf("c interface: an older volume was not tried, as 1 GiB of addresses could not be had\n");
+    }
     printf("%lu passed, %lu failed\n", passed, failed);
     return failed == 0 ? 0 : 1;
 }

@@ -2,6 +2,7 @@
 
 use std::hint::black_box;
 
+use oracle::layout::Edition;
 use oracle::lists::RECORD;
 use oracle::FormatRequest;
 
@@ -32,6 +33,7 @@ pub fn print(comparisons: &mut Comparisons) {
         slower: Vec::new(),
     };
     sample(&mut table);
+    second_edition(&mut table);
     nearly_empty(&mut table);
     full(&mut table);
     almost_full(&mut table);
@@ -41,7 +43,7 @@ pub fn print(comparisons: &mut Comparisons) {
 
 fn sample(table: &mut CallTable) {
     let input = SAMPLE;
-    let mut image = images::sample();
+    let mut image = images::sample(Edition::First);
     let name = b"calibration";
     table.format(input, images::SAMPLE_SECTORS, 255);
     table.summary(input, &image);
@@ -70,7 +72,7 @@ fn sample(table: &mut CallTable) {
         &mut image,
         &list[..length],
     );
-    let mut image = images::sample();
+    let mut image = images::sample(Edition::First);
     let length = oracle::create(&image, b"new", 77, 1, 2, &mut list).length as usize;
     cut(&mut image, &list[..length]);
     table.recover("recovery, of the create", input, &image);
@@ -80,6 +82,18 @@ fn sample(table: &mut CallTable) {
         &mut image,
         &list[..length],
     );
+}
+
+/// Beside the same rows of the sample: what fields that stand by the edition cost.
+fn second_edition(table: &mut CallTable) {
+    let input = "sample, edition 2";
+    let image = images::sample(Edition::Second);
+    let name = b"calibration";
+    table.check(input, &image);
+    table.find("find", input, &image, name);
+    table.create("create", input, &image);
+    table.write("write, 1 byte over an old one", input, &image, name, 0, 1);
+    table.rename("rename, to a new name", input, &image, name, b"new");
 }
 
 fn nearly_empty(table: &mut CallTable) {
@@ -356,6 +370,7 @@ impl CallTable<'_> {
     /// All records of a format, asked for one at a time until there are no more.
     fn format(&mut self, input: &str, sectors: u64, files: u64) {
         let request = FormatRequest {
+            edition: 1,
             sectors,
             files,
             id: 9,
@@ -368,7 +383,7 @@ impl CallTable<'_> {
             |list| {
                 all_records(list, |position, list| {
                     let sectors = black_box(sectors);
-                    goofs::format_record(sectors, files, 9, 1, 2, position, list).length
+                    goofs::format_record(sectors, files, 1, 9, 1, 2, position, list).length
                 })
             },
             |list| {

@@ -3,8 +3,8 @@
 //! take up memory.
 
 use oracle::draw::Draw;
-use oracle::layout::{Extent, Geometry, SECTOR};
-use oracle::testing::images::{blank, put_file};
+use oracle::layout::{Edition, Extent, Geometry, SECTOR};
+use oracle::testing::images::{blank, blank_of, put_file};
 
 pub const SAMPLE_SECTORS: u64 = 1_313;
 
@@ -30,9 +30,9 @@ pub fn long_name(index: u64) -> Vec<u8> {
 }
 
 /// The sample of 1,313 sectors: "calibration" with two extents, "empty", and one extent free.
-pub fn sample() -> Vec<u8> {
+pub fn sample(edition: Edition) -> Vec<u8> {
     let geometry = geometry(255, 4);
-    let mut image = blank(geometry, SAMPLE_SECTORS);
+    let mut image = blank_of(edition, geometry, SAMPLE_SECTORS);
     put_file(&mut image, geometry, 0, b"calibration", 131_072, &[2, 0]);
     put_file(&mut image, geometry, 1, b"empty", 0, &[]);
     fill_extents(&mut image, geometry, &[2, 0]);

@@ -11,7 +11,7 @@ use std::time::{SystemTime, UNIX_EPOCH};
 use goofs::change::{Change, Format};
 use goofs::device::{Device, Disk, SECTOR};
 use goofs::error::{Error, Refusal};
-use goofs::image::{Image, State};
+use goofs::image::{Edition, Image, State};
 use goofs::save::MODE;
 use goofs::system::{self, Held};
 use goofs::volume::{self, Stage, Volume};
@@ -33,12 +33,56 @@ const TAKEN_OFF: u64 = 546;
 const LEAST_EXTENT: u64 = 128;
 
 /// The time of a change: the one given, or now.
-pub fn time(arguments: &Arguments) -> Result<u32, Failure> {
+pub fn time(arguments: &Arguments) -> Result<u64, Failure> {
     let now = SystemTime::now()
         .duration_since(UNIX_EPOCH)
-        .map_or(0, |since| since.as_secs().min(LARGEST_32));
-    let given = arguments.number("time", 10, LARGEST_32)?;
-    Ok(given.unwrap_or(now) as u32)
+        .map_or(0, |since| since.as_secs());
+    let given = arguments.number("time", 10, u64::MAX)?;
+    Ok(given.unwrap_or(now))
+}
+
+/// The volume's edition, if it stores the time. What is wrong with the volume itself is told first, as
+/// the volume code does.
+pub fn edition_for(card: &OsStr, image: &Image, time: u64) -> Result<Edition, Failure> {
+    let edition = image.summary().edition;
+    if time > edition.latest_time() {
+        image.check().map_err(of_card(card))?;
+        return Err(late(
+            card,
+            time,
+            "copy the files to a card made with goofs format --edition 2, which stores any time",
+        ));
+    }
+    Ok(edition)
+}
+
+/// Makes the failure of a time that edition 1 can't store. `instead` says how it could be.
+fn late(card: &OsStr, time: u64, instead: &str) -> Failure {
+    let latest = Edition::First.latest_time();
+    Failure::Card {
+        card: card.to_owned(),
+        error: Refusal::BadArgument.into(),
+        detail: Some(Detail::with_next(
+            format!(
+                "the time {time}, {}, is later than edition 1 can store, {}",
+                text::time(time),
+                text::time(latest)
+            ),
+            &format!(
+                "see that the clock is right, or give another time, up to --time {latest}; or {instead}"
+            ),
+        )),
+    }
+}
+
+fn edition(arguments: &Arguments) -> Result<Edition, Failure> {
+    match arguments.number("edition", 10, u64::MAX)? {
+        None | Some(1) => Ok(Edition::First),
+        Some(2) => Ok(Edition::Second),
+        Some(other) => Err(Failure::Usage(format!(
+            "--edition: there are the editions 1 and 2, and no {other}"
+        ))),
+    }
 }
 
 fn mode(arguments: &Arguments) -> Result<Option<u32>, Failure> {
@@ -53,6 +97,7 @@ pub fn format(arguments: &Arguments) -> Result<(), Failure> {
     let mut request = Format {
         sectors: 0,
         files: arguments.number("files", 10, u64::MAX)?.unwrap_or(255),
+        edition: edition(arguments)?,
         id: arguments.number("id", 10, u64::MAX)?.unwrap_or(1),
         mode: mode(arguments)?.unwrap_or(0o755),
         time: time(arguments)?,
@@ -105,7 +150,16 @@ pub fn format(arguments: &Arguments) -> Result<(), Failure> {
 /// Makes failures of a format, and says which of its arguments is out of bounds.
 fn of_format<'f>(card: &'f OsStr, request: &'f Format) -> impl Fn(Refusal) -> Failure + 'f {
     move |refusal| {
-        let Format { sectors, files, .. } = *request;
+        let Format {
+            sectors,
+            files,
+            edition,
+            time,
+            ..
+        } = *request;
+        if refusal == Refusal::BadArgument && time > edition.latest_time() {
+            return late(card, time, "add --edition 2, which stores any time");
+        }
         let least = TAKEN_OFF + files.min(65_535) + 2 * LEAST_EXTENT;
         let detail = match files {
             _ if refusal != Refusal::BadArgument => None,
@@ -271,7 +325,7 @@ impl NewFile {
         &self,
         image: &Image,
         name: &'c [u8],
-        time: u32,
+        time: u64,
     ) -> Result<Change<'c>, Refusal> {
         let id = match self.id {
             Some(id) => id,
@@ -291,7 +345,8 @@ pub fn rm(arguments: &Arguments) -> Result<(), Failure> {
     let time = time(arguments)?;
     let (card, name) = (&places[0], places[1].as_bytes());
     let mut volume = card::volume(card, arguments.wait()?)?;
-    apply(&mut volume, &[Change::Delete { name, time }]).map_err(of_call(card, name))
+    let edition = edition_for(card, volume.image().map_err(of_card(card))?, time)?;
+    apply(&mut volume, &[Change::Delete { name, time }]).map_err(of_call(card, name, edition))
 }
 
 pub fn mv(arguments: &Arguments) -> Result<(), Failure> {
@@ -300,8 +355,11 @@ pub fn mv(arguments: &Arguments) -> Result<(), Failure> {
     let (card, old, new) = (&places[0], places[1].as_bytes(), places[2].as_bytes());
     not_beside(new, "take another NEW")?;
     let mut volume = card::volume(card, arguments.wait()?)?;
-    let replaced = volume.image().map_err(of_card(card))?.find(new);
-    apply(&mut volume, &[Change::Rename { old, new, time }]).map_err(of_rename(card, old, new))?;
+    let image = volume.image().map_err(of_card(card))?;
+    let edition = edition_for(card, image, time)?;
+    let replaced = image.find(new);
+    apply(&mut volume, &[Change::Rename { old, new, time }])
+        .map_err(of_rename(card, old, new, edition))?;
     match replaced {
         Ok(_) if old == new => print_done(
             card,

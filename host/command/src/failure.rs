@@ -6,7 +6,7 @@ use std::io::{self, ErrorKind};
 use std::os::unix::ffi::OsStrExt;
 
 use goofs::error::{Error, FaultKind, Refusal};
-use goofs::image::LONGEST_NAME;
+use goofs::image::Edition;
 use goofs::names;
 
 use crate::card::is_device_name;
@@ -108,11 +108,15 @@ pub fn of_card<E: Into<Error>>(card: &OsStr) -> impl Fn(E) -> Failure + '_ {
 }
 
 /// Makes failures of a call with the name of a file that is to be there.
-pub fn of_call<'c, E: Into<Error>>(card: &'c OsStr, name: &'c [u8]) -> impl Fn(E) -> Failure + 'c {
+pub fn of_call<'c, E: Into<Error>>(
+    card: &'c OsStr,
+    name: &'c [u8],
+    edition: Edition,
+) -> impl Fn(E) -> Failure + 'c {
     move |error| {
         let error = error.into();
         let detail = match &error {
-            Error::Refused(Refusal::BadArgument) => bad_length("the name", name),
+            Error::Refused(Refusal::BadArgument) => bad_length("the name", name, edition),
             Error::Refused(Refusal::NotThere) => {
                 Some(Detail::new(format!("the name was {}", word(name))))
             }
@@ -131,6 +135,7 @@ pub fn of_call<'c, E: Into<Error>>(card: &'c OsStr, name: &'c [u8]) -> impl Fn(E
 pub fn of_new<'c, E: Into<Error>>(
     card: &'c OsStr,
     name: &'c [u8],
+    edition: Edition,
     id: Option<u64>,
     another: &'c str,
 ) -> impl Fn(E) -> Failure + 'c {
@@ -142,7 +147,7 @@ pub fn of_new<'c, E: Into<Error>>(
                     "no file may have the id 0".to_string(),
                     "take another id, or leave --id out",
                 )),
-                _ => bad_new_name("the name", name, another),
+                _ => bad_new_name("the name", name, edition, another),
             },
             Error::Refused(Refusal::AlreadyThere) => Some(Detail::new(match id {
                 Some(id) => format!("name {}, id {id}", word(name)),
@@ -163,15 +168,16 @@ pub fn of_rename<'c, E: Into<Error>>(
     card: &'c OsStr,
     old: &'c [u8],
     new: &'c [u8],
+    edition: Edition,
 ) -> impl Fn(E) -> Failure + 'c {
     move |error| match error.into() {
         error @ Error::Refused(Refusal::BadArgument) => Failure::Card {
             card: card.to_owned(),
             error,
-            detail: bad_length("the old name", old)
-                .or_else(|| bad_new_name("the new name", new, "take another NEW")),
+            detail: bad_length("the old name", old, edition)
+                .or_else(|| bad_new_name("the new name", new, edition, "take another NEW")),
         },
-        error => of_call(card, old)(error),
+        error => of_call(card, old, edition)(error),
     }
 }
 
@@ -227,20 +233,22 @@ pub fn not_beside(name: &[u8], next: &str) -> Result<(), Failure> {
 }
 
 /// The name's length, if that is out of bounds.
-fn bad_length(what: &str, name: &[u8]) -> Option<Detail> {
-    let length = match name.len() {
-        1..=LONGEST_NAME => return None,
-        0 => "is empty".to_string(),
-        bytes => format!("has {bytes} bytes"),
+fn bad_length(what: &str, name: &[u8], edition: Edition) -> Option<Detail> {
+    let longest = edition.longest_name();
+    let length = match (name.len(), edition) {
+        (0, _) => "is empty".to_string(),
+        (bytes, _) if bytes <= longest => return None,
+        (bytes, Edition::First) => format!("has {bytes} bytes"),
+        (bytes, Edition::Second) => format!("has {bytes} bytes, on a volume of edition 2"),
     };
     Some(Detail::with_next(
         format!("{what} {length}"),
-        "take a name of 1 to 476 bytes",
+        &format!("take a name of 1 to {longest} bytes"),
     ))
 }
 
 /// What is wrong with a name that a file is to get.
-fn bad_new_name(what: &str, name: &[u8], next: &str) -> Option<Detail> {
+fn bad_new_name(what: &str, name: &[u8], edition: Edition, next: &str) -> Option<Detail> {
     let untypable = || {
         let at = names::untypable(name)?;
         let byte = match name[at] {
@@ -255,7 +263,7 @@ fn bad_new_name(what: &str, name: &[u8], next: &str) -> Option<Detail> {
             ),
         ))
     };
-    bad_length(what, name).or_else(untypable)
+    bad_length(what, name, edition).or_else(untypable)
 }
 
 /// Makes failures of a file.
@@ -312,8 +320,9 @@ fn after_refusal(refusal: Refusal, card: &str) -> String {
         }
         Refusal::BadArgument => {
             "keep to the bounds: a new name has 1 to 476 letters, digits and signs of ASCII without \
-             space and slash, an id is not 0, one write has at most 65536 bytes; a format has 255 to \
-             65535 files and sectors for at least two extents"
+             space and slash (to 468 on a volume of edition 2), an id is not 0, one write has at most \
+             65536 bytes, a time on edition 1 is at most 4294967295; a format has 255 to 65535 files \
+             and sectors for at least two extents"
                 .to_string()
         }
         Refusal::NotThere => format!("see which names there are: goofs ls {card}"),

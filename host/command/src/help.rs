@@ -41,8 +41,8 @@ rules of the volume. A refused command has changed nothing.
 pub const INFO: &str = "\
 goofs info CARD
 
-Shows the volume's geometry, where each area starts (in sectors), its state, whether it is sound, and
-how many extents are used and free. Each file takes whole extents. It works on a volume in any state and changes nothing. The states:
+Shows the volume's geometry and edition, where each area starts (in sectors), its state, whether it is
+sound, and how many extents are used and free. Each file takes whole extents. It works on a volume in any state and changes nothing. The states:
   clean        no change is under way
   waiting      a change was cut: goofs recover CARD finishes it
   damaged      the journal's length is one that no change writes
@@ -85,11 +85,12 @@ pub const PUT: &str = "\
 goofs put CARD FILE... [--as NAME] [--id ID] [--mode M] [--time T] [--in-place]
 
 Copies files to the card, each under the last part of its own name. A file of that name on the card is
-replaced. A name has 1 to 476 letters, digits and signs of ASCII, without space and slash.
+replaced. A name has 1 to 476 letters, digits and signs of ASCII, without space and slash; on a volume
+of edition 2 it has 1 to 468.
   --as NAME   the name on the card, for one FILE; `-` as FILE is the standard input and needs it
   --id ID     the id of the new file; else the number after the greatest id in use
   --mode M    the mode of new files, octal; else that of the file that is replaced, or 644
-  --time T    the time of the change, in seconds since 1970; else now
+  --time T    the time of the change, in seconds since 1970, on edition 1 up to 4294967295; else now
   --in-place  write over a file that is there, which keeps its id and mode
 
 A file is written beside the old one, as NAME.goofs-saving, and when it is whole it takes the name, in
@@ -112,7 +113,7 @@ pub const RM: &str = "\
 goofs rm CARD NAME [--time T]
 
 Removes the file. Its extents are free at once.
-  --time T    the time of the change, in seconds since 1970; else now
+  --time T    the time of the change, in seconds since 1970, on edition 1 up to 4294967295; else now
 ";
 
 pub const MV: &str = "\
@@ -121,17 +122,18 @@ goofs mv CARD OLD NEW [--time T]
 Gives the file OLD the name NEW, in one change. A file that has the name NEW already is replaced: it is
 removed with the same change, which is told. After a cut of the power and `goofs recover` both files
 are as before, or only the one is there, as NEW. It keeps its size, id and mode.
-  --time T    the time of the change, in seconds since 1970; else now
+  --time T    the time of the change, in seconds since 1970, on edition 1 up to 4294967295; else now
 
-NEW has 1 to 476 letters, digits and signs of ASCII, without space and slash. OLD may be a name with
-other bytes, from a volume of before this rule, as ls prints it.
+NEW has 1 to 476 letters, digits and signs of ASCII, without space and slash; on a volume of edition 2
+it has 1 to 468. OLD may be a name with other bytes, from a volume of before this rule, as ls prints
+it.
 ";
 
 pub const RESIZE: &str = "\
 goofs resize CARD NAME SIZE [--time T]
 
 Gives the file another size, in bytes. What is added is zero.
-  --time T    the time of the change, in seconds since 1970; else now
+  --time T    the time of the change, in seconds since 1970, on edition 1 up to 4294967295; else now
 
 A file grows by at most 65536 bytes at a time, so growing by more is several changes, one after the
 other, each atomic. All are tried in memory first: if one is refused, nothing is changed.
@@ -150,15 +152,19 @@ after it, the fault is printed and the exit status is 1.
 ";
 
 pub const FORMAT: &str = "\
-goofs format CARD [--sectors N] [--files F] [--id ID] [--mode M] [--time T] [--sparse] [--yes]
+goofs format CARD [--sectors N] [--files F] [--edition E] [--id ID] [--mode M] [--time T] [--sparse]
+             [--yes]
 
 Makes an empty volume. A CARD that isn't there is made, as an image file; then --sectors is needed.
   --sectors N  the sectors of 512 bytes, 2048 for each MiB; at least 1057 for 255 files; else all of
                CARD. An image file that is shorter is made longer.
   --files F    the most files it can hold, 255 to 65535; else 255
+  --edition E  1, whose times end in the year 2106, or 2, whose times have 64 bits and whose names have
+               at most 468 bytes; else 1. A goofs of before edition 2 refuses such a card (2), and no
+               command turns one edition into the other
   --id ID      the root's id; else 1
   --mode M     the root's mode, octal; else 755
-  --time T     the root's time, in seconds since 1970; else now
+  --time T     the root's time, in seconds since 1970, in edition 1 up to 4294967295; else now
   --sparse     leave an image file without blocks of its own on the disk until they are written to;
                when the disk is full, changes then fail. Else the blocks are taken at once
   --yes        needed where CARD holds a volume or other data: they are lost. Without it, the whole

@@ -75,7 +75,7 @@ const COMMANDS: [Command; 11] = [
     command(
         "format",
         help::FORMAT,
-        &["sectors", "files", "id", "mode", "time"],
+        &["sectors", "files", "edition", "id", "mode", "time"],
         &["sparse", "yes"],
         changing::format,
     ),

@@ -8,7 +8,7 @@ use std::os::unix::ffi::OsStrExt;
 use std::path::{Component, Path};
 
 use goofs::error::Refusal;
-use goofs::image::{Entry, State};
+use goofs::image::{Edition, Entry, State};
 use goofs::names;
 
 use crate::arguments::Arguments;
@@ -49,6 +49,16 @@ pub fn info(arguments: &Arguments) -> Result<(), Failure> {
             },
         );
     }
+    line(
+        "edition",
+        match summary.edition {
+            Edition::First => "1: times of 32 bits, up to the year 2106".to_string(),
+            Edition::Second => format!(
+                "2: times of 64 bits, names of at most {} bytes",
+                Edition::Second.longest_name()
+            ),
+        },
+    );
     line("sectors", format!("{} of 512 bytes", summary.sectors()));
     line("files at most", summary.files.to_string());
     line(
@@ -127,7 +137,7 @@ pub fn leftovers(card: &OsStr, files: &[Entry]) -> String {
 pub fn ls(arguments: &Arguments) -> Result<(), Failure> {
     let card = &arguments.places(&["CARD"])?[0];
     let image = card::read(card, arguments.wait()?)?;
-    let changed = |seconds: u32| match arguments.flag("numeric") {
+    let changed = |seconds: u64| match arguments.flag("numeric") {
         true => seconds.to_string(),
         false => text::time(seconds),
     };
@@ -175,13 +185,14 @@ pub fn get(arguments: &Arguments) -> Result<(), Failure> {
         may_be_written(card, target)?;
     }
     let image = card::read(card, arguments.wait()?)?;
+    let edition = image.summary().edition;
     // A name that isn't there is found out before the first file is written.
     for name in names {
         let name = name.as_bytes();
-        image.find(name).map_err(of_call(card, name))?;
+        image.find(name).map_err(of_call(card, name, edition))?;
     }
     let contents = |name: &OsStr| {
-        let failure = of_call(card, name.as_bytes());
+        let failure = of_call(card, name.as_bytes(), edition);
         image.contents(name.as_bytes()).map_err(failure)
     };
     if let [name] = names {

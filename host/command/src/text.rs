@@ -44,10 +44,13 @@ fn escaped(name: &[u8]) -> String {
     text
 }
 
-/// Seconds since 1970 as day and time, in UTC: the volume has no time zone.
-pub fn time(seconds: u32) -> String {
+/// Seconds since 1970 as day and time, in UTC: the volume has no time zone. A year of more than four
+/// digits has a plus sign, as in ISO 8601.
+pub fn time(seconds: u64) -> String {
     let (mut day, rest) = (seconds / 86_400, seconds % 86_400);
-    let mut year = 1970;
+    // Every 400 years have the same number of days; the latest year has twelve digits.
+    let mut year = 1970 + 400 * (day / DAYS_OF_400_YEARS);
+    day %= DAYS_OF_400_YEARS;
     while day >= days_of_year(year) {
         day -= days_of_year(year);
         year += 1;
@@ -59,8 +62,12 @@ pub fn time(seconds: u32) -> String {
         day -= months[month];
         month += 1;
     }
+    let sign = match year {
+        ..10_000 => "",
+        _ => "+",
+    };
     format!(
-        "{year}-{:02}-{:02} {:02}:{:02}:{:02} UTC",
+        "{sign}{year}-{:02}-{:02} {:02}:{:02}:{:02} UTC",
         month + 1,
         day + 1,
         rest / 3_600,
@@ -69,9 +76,10 @@ pub fn time(seconds: u32) -> String {
     )
 }
 
-/// Seconds since 1970 end in 2106, so that the year 2100 is the only exception.
-fn days_of_year(year: u32) -> u32 {
-    match year.is_multiple_of(4) && year != 2100 {
+const DAYS_OF_400_YEARS: u64 = 146_097;
+
+fn days_of_year(year: u64) -> u64 {
+    match year.is_multiple_of(4) && (!year.is_multiple_of(100) || year.is_multiple_of(400)) {
         true => 366,
         false => 365,
     }
@@ -114,7 +122,14 @@ mod tests {
             (951_782_400, "2000-02-29 00:00:00 UTC"),
             (1_709_251_199, "2024-02-29 23:59:59 UTC"),
             (4_107_542_400, "2100-03-01 00:00:00 UTC"),
-            (u32::MAX, "2106-02-07 06:28:15 UTC"),
+            (4_294_967_295, "2106-02-07 06:28:15 UTC"),
+            (4_294_967_296, "2106-02-07 06:28:16 UTC"),
+            (7_258_118_399, "2199-12-31 23:59:59 UTC"),
+            (7_263_216_000, "2200-03-01 00:00:00 UTC"),
+            (13_574_563_200, "2400-02-29 00:00:00 UTC"),
+            (253_402_300_799, "9999-12-31 23:59:59 UTC"),
+            (253_402_300_800, "+10000-01-01 00:00:00 UTC"),
+            (u64::MAX, "+584554051223-11-09 07:00:15 UTC"),
         ] {
             assert_eq!(time(seconds), text);
         }

@@ -13,7 +13,7 @@ use goofs::image::Image;
 
 use crate::arguments::Arguments;
 use crate::card;
-use crate::changing::{time, NewFile};
+use crate::changing::{edition_for, time, NewFile};
 use crate::failure::{not_beside, of_call, of_card, of_file, of_new, of_rename, quoted, Failure};
 use crate::output::{print, save_image};
 use crate::progress::Progress;
@@ -61,6 +61,7 @@ pub fn run(arguments: &Arguments) -> Result<(), Failure> {
     }
 
     let mut image = card::read(card, arguments.wait()?)?;
+    let edition = edition_for(card, &image, time)?;
     let sources = match kind {
         b"put" => Source::all(rest, arguments.word("as"))?,
         _ => Vec::new(),
@@ -104,10 +105,10 @@ pub fn run(arguments: &Arguments) -> Result<(), Failure> {
     // A refusal of any change comes before the first line of the table.
     let mut tried = Progress::new("changes tried", changes.len() as u64);
     let refused = |refusal: Refusal| match kind {
-        b"create" => of_new(card, name, new_file.id, "take another NAME")(refusal),
-        b"mv" => of_rename(card, name, rest[1].as_bytes())(refusal),
+        b"create" => of_new(card, name, edition, new_file.id, "take another NAME")(refusal),
+        b"mv" => of_rename(card, name, rest[1].as_bytes(), edition)(refusal),
         b"put" => of_put(card, &puts)(refusal.into()),
-        _ => of_call(card, name)(refusal),
+        _ => of_call(card, name, edition)(refusal),
     };
     image
         .try_out(&changes, &mut |count| tried.at(count as u64))
@@ -571,6 +572,7 @@ mod tests {
     use super::*;
     use goofs::change::Format;
     use goofs::device::Memory;
+    use goofs::image::Edition;
     use goofs::volume;
 
     fn sample() -> Image {
@@ -578,6 +580,7 @@ mod tests {
         let format = Format {
             sectors: 1_313,
             files: 255,
+            edition: Edition::First,
             id: 900,
             mode: 0,
             time: 1,

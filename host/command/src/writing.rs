@@ -13,7 +13,7 @@ use goofs::save::Save;
 
 use crate::arguments::{self, Arguments};
 use crate::card;
-use crate::changing::{apply, time, NewFile};
+use crate::changing::{apply, edition_for, time, NewFile};
 use crate::failure::{
     in_place_instead, no_room, no_room_for_both, not_beside, of_call, of_card, of_file, of_new,
     quoted, Failure,
@@ -128,8 +128,9 @@ pub fn look_up<'p>(
     sources: &'p [Source],
     new_file: &NewFile,
     in_place: bool,
-    time: u32,
+    time: u64,
 ) -> Result<Vec<Put<'p>>, Failure> {
+    let edition = edition_for(card, image, time)?;
     let another = match sources {
         [_] => "give another with --as NAME",
         _ => "put this file alone, with --as NAME",
@@ -154,7 +155,7 @@ pub fn look_up<'p>(
                 Some(_) if refusal == Refusal::BadArgument && id != 0 => {
                     not_replaced(card, name, is_given)
                 }
-                _ => of_new(card, name, new_file.id, another)(refusal),
+                _ => of_new(card, name, edition, new_file.id, another)(refusal),
             })?,
         }
         puts.push(Put {
@@ -318,9 +319,11 @@ pub fn resize_changes<'c>(
     image: &Image,
     name: &'c [u8],
     size: u64,
-    time: u32,
+    time: u64,
 ) -> Result<Vec<Change<'c>>, Failure> {
-    let mut reached = image.find(name).map_err(of_call(card, name))?.size;
+    let edition = edition_for(card, image, time)?;
+    let found = image.find(name).map_err(of_call(card, name, edition))?;
+    let mut reached = found.size;
     // A size for which there is no room is refused before its many steps are counted up.
     let space = Space::of(image);
     if space.after(reached, size).is_none() {
@@ -346,6 +349,7 @@ pub fn resize(arguments: &Arguments) -> Result<(), Failure> {
     let (card, name, size) = (&places[0], places[1].as_bytes(), size(&places[2])?);
     let mut volume = card::volume(card, arguments.wait()?)?;
     let image = volume.image().map_err(of_card(card))?;
+    let edition = image.summary().edition;
     let changes = resize_changes(card, image, name, size, time)?;
-    apply(&mut volume, &changes).map_err(of_call(card, name))
+    apply(&mut volume, &changes).map_err(of_call(card, name, edition))
 }

@@ -106,7 +106,7 @@ fn files_are_removed() {
     create(&card, b"f", 2);
     create(&card, b"g", 3);
     assert!(bad("rm", &card, &["h"], 1).contains("refused (9)"));
-    bad("rm", &card, &["f", "--time", "4294967296"], 2);
+    bad("rm", &card, &["f", "--time", "18446744073709551616"], 2);
     bad("rm", &card, &["f", "g"], 2);
     good("rm", &card, &["f", "--time", "11"]);
     let ls = good("ls", &card, &[]);

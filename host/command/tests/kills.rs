@@ -71,7 +71,7 @@ struct Run {
     card: PathBuf,
     ledger: Ledger,
     draw: Draw,
-    time: u32,
+    time: u64,
 }
 
 fn seed() -> u64 {
@@ -85,23 +85,30 @@ fn seed() -> u64 {
 impl Run {
     fn new(seed: u64) -> Run {
         let folder = Folder::new(&format!("kills-{seed}"));
+        // Every other card is of the second edition, with times past the first one's.
+        let (edition, time) = match seed % 2 {
+            0 => (1, 1_000),
+            _ => (2, 1 << 33),
+        };
         // Room for all files with what is left beside each, and the reserve.
         let format = FormatRequest {
+            edition,
             sectors: 546 + 255 + 50 * 128,
             files: 255,
             id: 1,
             mode: 0o755,
-            time: 1_000,
+            time,
         };
         // Written once, so that the file system has no more to note at the barriers.
         let card = folder.write("card", &vec![0; format.sectors as usize * SECTOR]);
-        good("format", &card, &["--time", "1000"]);
+        let words = [format!("--edition={edition}"), format!("--time={time}")];
+        good("format", &card, &words.each_ref().map(String::as_str));
         Run {
             folder,
             card,
             ledger: Ledger::new(&format).expect("the format has a geometry"),
             draw: Draw::new(seed),
-            time: 1_000,
+            time,
         }
     }
 
@@ -280,7 +287,7 @@ impl Run {
     }
 }
 
-fn rm(name: &'static str, time: u32) -> Work {
+fn rm(name: &'static str, time: u64) -> Work {
     Work {
         name,
         words: ["rm", name].map(String::from).to_vec(),

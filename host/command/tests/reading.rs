@@ -18,6 +18,7 @@ use shared::{bad, good, goofs, name_by_hand, on, run, start, Folder};
 /// The sample volume with one file, and a tail past the volume's end.
 fn sample(folder: &Folder) -> PathBuf {
     let request = FormatRequest {
+        edition: 1,
         sectors: 1_313,
         files: 255,
         id: 900,
@@ -78,6 +79,7 @@ fn what_stands_on_a_volume() {
     let info = good("info", &card, &[]);
     for line in [
         "state            clean",
+        "edition          1: times of 32 bits, up to the year 2106",
         "files at most    255",
         "extents          4 of 128 sectors (65536 bytes)",
         "journal at       257",

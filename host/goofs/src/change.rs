@@ -4,7 +4,7 @@
 use crate::device::SECTOR;
 use crate::error::Refusal;
 use crate::image::{
-    claimed, Image, Summary, ENTRIES_IN_TABLE_SECTOR, JOURNAL_SECTORS, LONGEST_TRANSFER,
+    claimed, Edition, Image, Summary, ENTRIES_IN_TABLE_SECTOR, JOURNAL_SECTORS, LONGEST_TRANSFER,
 };
 
 /// Bytes of a list's record: its position in the list, from 0 on, the sector number, the contents.
@@ -35,7 +35,8 @@ pub const fn recovery_records(targets: usize) -> usize {
 }
 
 /// One change. It goes through whole or not at all, but for bytes that a write puts in the place of
-/// old ones: after a cut each such sector is the old or the new one.
+/// old ones: after a cut each such sector is the old or the new one. A time that is later than the
+/// volume's edition stores is a `BadArgument`.
 #[derive(Clone, Copy, Debug, PartialEq, Eq)]
 pub enum Change<'c> {
     /// A new, empty file.
@@ -43,30 +44,30 @@ pub enum Change<'c> {
         name: &'c [u8],
         id: u64,
         mode: u32,
-        time: u32,
+        time: u64,
     },
     Delete {
         name: &'c [u8],
-        time: u32,
+        time: u64,
     },
     /// Another name. A file that has it is deleted with the same change.
     Rename {
         old: &'c [u8],
         new: &'c [u8],
-        time: u32,
+        time: u64,
     },
     /// Another size; what is added, at most 65,536 bytes, is zero.
     Resize {
         name: &'c [u8],
         size: u64,
-        time: u32,
+        time: u64,
     },
     /// At most 65,536 bytes at an offset up to the size.
     Write {
         name: &'c [u8],
         offset: u64,
         data: &'c [u8],
-        time: u32,
+        time: u64,
     },
 }
 
@@ -240,10 +241,11 @@ fn records_of_format(geometry: &Summary) -> u64 {
 pub struct Format {
     pub sectors: u64,
     pub files: u64,
+    pub edition: Edition,
     /// The root's id, mode and time.
     pub id: u64,
     pub mode: u32,
-    pub time: u32,
+    pub time: u64,
 }
 
 impl Format {
@@ -265,6 +267,7 @@ impl Format {
         let answer = crate::format_record(
             self.sectors,
             self.files,
+            self.edition.number(),
             self.id,
             self.mode,
             self.time,
@@ -305,6 +308,7 @@ mod tests {
             let format = Format {
                 sectors,
                 files,
+                edition: Edition::First,
                 id: 1,
                 mode: 0,
                 time: 0,

@@ -17,8 +17,9 @@ macro_rules! results {
 
 results! {
     /// The geometry and the state: 0 clean, 1 waiting, 2 damaged, 3 unfinished. `entries` is the
-    /// number of journal entries of a waiting volume, else 0.
-    SummaryAnswer { code, files, extents, extent_sectors, state, entries }
+    /// number of journal entries of a waiting volume, else 0. The edition is 1 or 2, or 0 with a
+    /// refusal.
+    SummaryAnswer { code, files, extents, extent_sectors, state, entries, edition }
 
     /// With code 7, the fault and its place.
     CheckAnswer { code, fault, place }
@@ -105,7 +106,7 @@ macro_rules! calls {
 }
 
 calls! {
-    /// The geometry and the state.
+    /// The geometry, the state and the edition.
     summary is goofs_summary(image: bytes) -> SummaryAnswer;
 
     /// Whether the volume is clean and has no fault.
@@ -128,25 +129,25 @@ calls! {
 
     /// A new empty file in the lowest free entry.
     create is goofs_create(
-        image: bytes, name: bytes, id: u64, mode: u32, time: u32, list: buffer
+        image: bytes, name: bytes, id: u64, mode: u32, time: u64, list: buffer
     ) -> ChangeAnswer;
 
     /// Frees the file's entry and its extents.
-    delete is goofs_delete(image: bytes, name: bytes, time: u32, list: buffer) -> ChangeAnswer;
+    delete is goofs_delete(image: bytes, name: bytes, time: u64, list: buffer) -> ChangeAnswer;
 
     /// Gives the file of the old name the new one; a file that had it is deleted.
     rename is goofs_rename(
-        image: bytes, old_name: bytes, new_name: bytes, time: u32, list: buffer
+        image: bytes, old_name: bytes, new_name: bytes, time: u64, list: buffer
     ) -> ChangeAnswer;
 
     /// Gives the file another size; what is added at its end is zero.
     resize is goofs_resize(
-        image: bytes, name: bytes, size: u64, time: u32, list: buffer
+        image: bytes, name: bytes, size: u64, time: u64, list: buffer
     ) -> ChangeAnswer;
 
     /// Writes the data at an offset up to the size.
     write is goofs_write(
-        image: bytes, name: bytes, offset: u64, data: bytes, time: u32, list: buffer
+        image: bytes, name: bytes, offset: u64, data: bytes, time: u64, list: buffer
     ) -> ChangeAnswer;
 
     /// The list that finishes an interrupted change; empty for a clean volume.
@@ -157,7 +158,8 @@ calls! {
 
     /// The record at this position of the format of a medium with so many sectors.
     format_record is goofs_format_record(
-        sectors: u64, files: u64, id: u64, mode: u32, time: u32, position: u64, output: buffer
+        sectors: u64, files: u64, edition: u64, id: u64, mode: u32, time: u64, position: u64,
+        output: buffer
     ) -> FormatRecordAnswer;
 
     /// Does all the writes of a list in their order, or none: 1 for the image, 8 for the list.
@@ -205,7 +207,7 @@ mod tests {
             );
             assert_eq!(goofs_recover(null(), 0, null_mut(), 0).code, one);
             assert_eq!(goofs_recover_slice(null(), 0, 1, null_mut(), 0).code, one);
-            let too_short = goofs_format_record(1_313, 255, 1, 0, 0, 0, null_mut(), 0);
+            let too_short = goofs_format_record(1_313, 255, 1, 1, 0, 0, 0, null_mut(), 0);
             assert_eq!(too_short.code, 14);
             assert_eq!(goofs_carry_out(null_mut(), 0, null(), 0), one);
         }

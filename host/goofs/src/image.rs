@@ -8,14 +8,17 @@ use crate::device::{Device, SECTOR};
 use crate::error::{Error, Refusal};
 use crate::map::Map;
 
-/// The longest name.
-pub const LONGEST_NAME: usize = 476;
+/// The longest name of either edition.
+pub const LONGEST_NAME: usize = Edition::First.longest_name();
 /// The most bytes that one read or write moves.
 pub const LONGEST_TRANSFER: usize = 65_536;
 
 pub(crate) const JOURNAL_SECTORS: u64 = 32;
 pub(crate) const ENTRIES_IN_TABLE_SECTOR: u64 = 128;
 const DIRECTORY_AT: usize = 2;
+/// Where the two times start in the root and in a directory entry.
+const ROOT_TIMES: usize = 16;
+const ENTRY_TIMES: usize = 26;
 const NO_FILE: [u8; 2] = [255, 255];
 const FREE: [u8; 2] = [0, 0];
 
@@ -67,9 +70,69 @@ pub enum State {
     Unfinished,
 }
 
-/// The geometry and the state, and what follows from them.
+/// How wide the times are that a volume stores. The format chooses it, and no call changes it.
+#[derive(Clone, Copy, Debug, PartialEq, Eq)]
+pub enum Edition {
+    /// Times of 32 bits.
+    First,
+    /// Times of 64 bits, and so names that are shorter by 8 bytes. A build of before this edition
+    /// refuses such a volume with `NotAVolume`.
+    Second,
+}
+
+impl Edition {
+    /// The number that the volume code takes and that stands in the superblock.
+    pub const fn number(self) -> u64 {
+        match self {
+            Edition::First => 1,
+            Edition::Second => 2,
+        }
+    }
+
+    /// The edition of a volume that the volume code takes.
+    fn of(number: u64) -> Edition {
+        match number {
+            2 => Edition::Second,
+            _ => Edition::First,
+        }
+    }
+
+    /// The latest time that a volume stores; a later one is a `BadArgument`.
+    pub const fn latest_time(self) -> u64 {
+        match self {
+            Edition::First => u32::MAX as u64,
+            Edition::Second => u64::MAX,
+        }
+    }
+
+    /// The bytes of the longest name: it ends with its sector.
+    pub const fn longest_name(self) -> usize {
+        SECTOR - self.name_at()
+    }
+
+    const fn time_bytes(self) -> usize {
+        match self {
+            Edition::First => 4,
+            Edition::Second => 8,
+        }
+    }
+
+    /// Where the name stands in a directory entry, after two times and its length.
+    const fn name_at(self) -> usize {
+        ENTRY_TIMES + 2 * self.time_bytes() + 2
+    }
+
+    /// Access and change time, which follow one another in a sector from this byte on.
+    fn times(self, sector: &[u8], from: usize) -> (u64, u64) {
+        let (width, times) = (self.time_bytes(), &sector[from..]);
+        (number(&times[..width]), number(&times[width..2 * width]))
+    }
+}
+
+/// The geometry, the state and the edition, and what follows from them.
 #[derive(Clone, Copy, Debug, PartialEq, Eq)]
 pub struct Summary {
+    pub edition: Edition,
     pub files: u64,
     pub extents: u64,
     pub extent_sectors: u64,
@@ -122,8 +185,8 @@ pub struct Root {
     pub version: u32,
     pub id: u64,
     pub mode: u32,
-    pub access_time: u32,
-    pub change_time: u32,
+    pub access_time: u64,
+    pub change_time: u64,
 }
 
 /// A file's directory entry.
@@ -135,23 +198,25 @@ pub struct Entry {
     pub version: u32,
     pub id: u64,
     pub mode: u32,
-    pub access_time: u32,
-    pub change_time: u32,
+    pub access_time: u64,
+    pub change_time: u64,
 }
 
 impl Entry {
     /// What a directory sector of a sound volume says.
-    fn of(index: u64, sector: &[u8]) -> Entry {
-        let name_length = number(&sector[34..36]) as usize;
+    fn of(index: u64, sector: &[u8], edition: Edition) -> Entry {
+        let (length, name) = sector.split_at(edition.name_at());
+        let name_length = number(&length[length.len() - 2..]) as usize;
+        let (access_time, change_time) = edition.times(sector, ENTRY_TIMES);
         Entry {
             index,
-            name: sector[36..36 + name_length].to_vec(),
+            name: name[..name_length].to_vec(),
             size: number(&sector[2..10]),
             version: number(&sector[10..14]) as u32,
             id: number(&sector[14..22]),
             mode: number(&sector[22..26]) as u32,
-            access_time: number(&sector[26..30]) as u32,
-            change_time: number(&sector[30..34]) as u32,
+            access_time,
+            change_time,
         }
     }
 }
@@ -162,10 +227,11 @@ fn number(bytes: &[u8]) -> u64 {
         .fold(0, |sum, byte| sum << 8 | u64::from(*byte))
 }
 
-/// The geometry that a superblock claims. Only a measure of what to read: the volume code judges
-/// what was read.
+/// The geometry and edition that a superblock claims. Only a measure of what to read: the volume code
+/// judges what was read.
 pub(crate) fn claimed(superblock: &[u8]) -> Summary {
     Summary {
+        edition: Edition::of(number(&superblock[16..18])),
         files: number(&superblock[0..2]),
         extents: number(&superblock[2..4]),
         extent_sectors: number(&superblock[4..8]),
@@ -236,6 +302,7 @@ impl Image {
     pub fn summary(&self) -> Summary {
         let answer = crate::summary(&self.bytes);
         Summary {
+            edition: Edition::of(answer.edition),
             files: answer.files,
             extents: answer.extents,
             extent_sectors: answer.extent_sectors,
@@ -269,12 +336,13 @@ impl Image {
     /// What the root record says.
     pub fn root(&self) -> Root {
         let root = &self.bytes[SECTOR..2 * SECTOR];
+        let (access_time, change_time) = self.summary().edition.times(root, ROOT_TIMES);
         Root {
             version: number(&root[0..4]) as u32,
             id: number(&root[4..12]),
             mode: number(&root[12..16]) as u32,
-            access_time: number(&root[16..20]) as u32,
-            change_time: number(&root[20..24]) as u32,
+            access_time,
+            change_time,
         }
     }
 
@@ -299,8 +367,8 @@ impl Image {
             version: answer.version as u32,
             id: answer.id,
             mode: answer.mode as u32,
-            access_time: answer.access_time as u32,
-            change_time: answer.change_time as u32,
+            access_time: answer.access_time,
+            change_time: answer.change_time,
         })
     }
 
@@ -308,13 +376,13 @@ impl Image {
     /// judge it anew each time.
     pub fn entries(&self) -> Result<Vec<Entry>, Refusal> {
         self.check()?;
-        let files = self.summary().files;
+        let Summary { files, edition, .. } = self.summary();
         let directory = self.bytes.chunks_exact(SECTOR).skip(DIRECTORY_AT);
         Ok((0..files)
             .zip(directory)
             // In a sound volume any other mark says that the entry is occupied.
             .filter(|(_, sector)| sector[..2] != FREE)
-            .map(|(index, sector)| Entry::of(index, sector))
+            .map(|(index, sector)| Entry::of(index, sector, edition))
             .collect())
     }
 

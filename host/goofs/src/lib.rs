@@ -8,6 +8,9 @@
 //! - `format_record` gives the records of a format one at a time;
 //! - `carry_out` does the writes of a list, and is the only call that changes an image.
 //!
+//! A volume is of one of two editions (`image::Edition`), which differ in the width of their times; all
+//! calls take both, and times of 64 bits.
+//!
 //! A call takes up to 266 KiB of stack and no heap (measured; see `bench/README.md`): a thread that
 //! makes calls needs a stack of at least 512 KiB.
 //!

@@ -1,14 +1,14 @@
 //! Names of files: which bytes a new one may have, and the name that a file has while it is saved.
 
-use crate::image::LONGEST_NAME;
+use crate::image::Edition;
 
 /// The end of the name that a file has while it is saved.
 pub const SAVING: &str = ".goofs-saving";
 
 /// The name beside this one: a file has it while it is saved, until it is whole. Of a name that is
 /// too long for the end the first bytes are kept, so that two long names may have one name beside.
-pub fn beside(name: &[u8]) -> Vec<u8> {
-    let kept = name.len().min(LONGEST_NAME - SAVING.len());
+pub fn beside(name: &[u8], edition: Edition) -> Vec<u8> {
+    let kept = name.len().min(edition.longest_name() - SAVING.len());
     [&name[..kept], SAVING.as_bytes()].concat()
 }
 
@@ -30,13 +30,16 @@ mod tests {
 
     #[test]
     fn names_beside() {
-        assert_eq!(beside(b"gain"), b"gain.goofs-saving");
-        for length in [1, 462, 463, 464, 475, 476] {
-            let name = vec![b'n'; length];
-            let beside = beside(&name);
-            assert!(beside.len() <= LONGEST_NAME && beside != name);
-            assert!(is_beside(&beside) && !is_beside(&name));
-            assert_eq!(untypable(&beside), None);
+        for (edition, longest) in [(Edition::First, 476), (Edition::Second, 468)] {
+            assert_eq!(beside(b"gain", edition), b"gain.goofs-saving");
+            for length in [1, 454, 455, 456, 462, 463, 464, longest - 1, longest] {
+                let name = vec![b'n'; length];
+                let beside = beside(&name, edition);
+                assert_eq!(beside.len(), (length + 13).min(longest));
+                assert_ne!(beside, name);
+                assert!(is_beside(&beside) && !is_beside(&name));
+                assert_eq!(untypable(&beside), None);
+            }
         }
         assert!(is_beside(b".goofs-saving") && !is_beside(b".goofs-savin"));
     }

@@ -22,7 +22,7 @@ pub struct Save<'s> {
     /// Id, mode and time of the new file. While both are there it needs an id of its own.
     pub id: u64,
     pub mode: u32,
-    pub time: u32,
+    pub time: u64,
 }
 
 impl<'s> Save<'s> {
@@ -32,12 +32,12 @@ impl<'s> Save<'s> {
         name: &'s [u8],
         id: u64,
         mode: Option<u32>,
-        time: u32,
+        time: u64,
     ) -> Result<Save<'s>, Error> {
         if names::is_beside(name) {
             return Err(Error::NameBeside);
         }
-        let beside = names::beside(name);
+        let beside = names::beside(name, image.summary().edition);
         let (mut old, mut leftover) = (None, None);
         for entry in image.entries()? {
             if entry.name == name {

@@ -108,7 +108,7 @@ impl<D: Device> Volume<D> {
     /// room and an entry: where there is none, the save is refused with `NoRoom` or `DirectoryFull`,
     /// and nothing is written. `Save` has the changes one by one, also those that write over the old
     /// file, and lets id and mode be given.
-    pub fn save(&mut self, name: &[u8], contents: &[u8], time: u32) -> Result<(), Error> {
+    pub fn save(&mut self, name: &[u8], contents: &[u8], time: u64) -> Result<(), Error> {
         let image = self.image()?;
         let id = image.unused_id(&[])?;
         let save = Save::new(image, name, id, None, time)?;
@@ -252,10 +252,12 @@ mod tests {
     use super::*;
     use crate::device::Memory;
     use crate::error::Refusal;
+    use crate::image::Edition;
 
     const SAMPLE: Format = Format {
         sectors: 1_313,
         files: 255,
+        edition: Edition::First,
         id: 900,
         mode: 0o755,
         time: 1,
@@ -488,9 +490,21 @@ mod tests {
     /// Two superblocks, root, 255 entries, one table sector and three barriers.
     #[test]
     fn records_of_a_format() {
-        assert_eq!(SAMPLE.records(), Ok(262));
-        let image = Image::load(&formatted()).unwrap();
-        assert_eq!(SAMPLE.geometry(), Ok(image.summary()));
+        for edition in [Edition::First, Edition::Second] {
+            let request = Format { edition, ..SAMPLE };
+            assert_eq!(request.records(), Ok(262));
+            let mut medium = Memory::of_sectors(1_313);
+            format(&mut medium, &request, &mut |_| ()).unwrap();
+            let summary = Image::load(&medium).unwrap().summary();
+            assert_eq!(request.geometry(), Ok(summary));
+            assert_eq!(summary.edition, edition);
+            let latest = edition.latest_time();
+            let at = |time| Format { time, ..request }.record(0);
+            assert!(at(latest).is_ok());
+            if let Some(later) = latest.checked_add(1) {
+                assert_eq!(at(later), Err(Refusal::BadArgument));
+            }
+        }
         let too_few = Format {
             sectors: 1_056,
             ..SAMPLE

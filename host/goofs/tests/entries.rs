@@ -5,7 +5,7 @@ use std::time::{Duration, Instant};
 
 use goofs::change::{Change, Format};
 use goofs::device::Memory;
-use goofs::image::{Image, LONGEST_NAME};
+use goofs::image::{Edition, Image, LONGEST_NAME};
 use goofs::volume;
 
 const FILES: u64 = 1_024;
@@ -15,17 +15,19 @@ fn carry_out(image: &mut Image, change: &Change) {
     image.carry_out(&list).unwrap();
 }
 
-fn name(i: u64) -> Vec<u8> {
+fn name(edition: Edition, i: u64) -> Vec<u8> {
     let mut name = format!("file-{i}-").into_bytes();
-    name.resize(8 + (i * 7 % 469) as usize, b'n');
+    name.resize(8 + i as usize * 7 % (edition.longest_name() - 7), b'n');
     name
 }
 
 /// All entries taken but each fifth; of the others some have bytes.
-fn volume() -> Image {
+fn volume(edition: Edition) -> Image {
+    let latest = edition.latest_time();
     let format = Format {
         sectors: 546 + FILES + 128 * 300,
         files: FILES,
+        edition,
         id: 77,
         mode: 0o755,
         time: 1,
@@ -35,25 +37,25 @@ fn volume() -> Image {
     let mut image = Image::new(medium.bytes).unwrap();
     for i in 0..FILES {
         let create = Change::Create {
-            name: &name(i),
+            name: &name(edition, i),
             id: 1_000_000_007 * (i + 1),
             mode: 0o600 + i as u32,
-            time: 40_000 + i as u32,
+            time: latest - i,
         };
         carry_out(&mut image, &create);
         if i % 9 == 0 {
             let write = Change::Write {
-                name: &name(i),
+                name: &name(edition, i),
                 offset: 0,
                 data: &vec![1; i as usize + 1],
-                time: 80_000 + i as u32,
+                time: 80_000 + i,
             };
             carry_out(&mut image, &write);
         }
     }
     for i in (0..FILES).step_by(5) {
         let delete = Change::Delete {
-            name: &name(i),
+            name: &name(edition, i),
             time: 90_000,
         };
         carry_out(&mut image, &delete);
@@ -63,7 +65,12 @@ fn volume() -> Image {
 
 #[test]
 fn entries_are_those_of_the_proved_call() {
-    let image = volume();
+    for edition in [Edition::First, Edition::Second] {
+        entries_of(&volume(edition));
+    }
+}
+
+fn entries_of(image: &Image) {
     let mut entries = image.entries().unwrap().into_iter();
     for index in 0..FILES {
         let mut output = [0; LONGEST_NAME];
@@ -80,8 +87,8 @@ fn entries_are_those_of_the_proved_call() {
             u64::from(entry.version),
             entry.id,
             u64::from(entry.mode),
-            u64::from(entry.access_time),
-            u64::from(entry.change_time),
+            entry.access_time,
+            entry.change_time,
         ];
         let told = [
             answer.size,
@@ -99,7 +106,7 @@ fn entries_are_those_of_the_proved_call() {
 
 #[test]
 fn a_free_id_is_found() {
-    let mut image = volume();
+    let mut image = volume(Edition::First);
     // The id of file 1,023, which is there, is the greatest.
     let id = image.unused_id(&[]).unwrap();
     assert_eq!(id, 1_000_000_007 * 1_024 + 1);
@@ -130,7 +137,7 @@ fn least(mut work: impl FnMut()) -> Duration {
 /// busy spoils some of them.
 #[test]
 fn the_volume_is_judged_once() {
-    let image = volume();
+    let image = volume(Edition::First);
     let is_quick = |_| {
         let check = least(|| image.check().unwrap());
         let entries = least(|| assert_eq!(image.entries().unwrap().len(), 819));

@@ -11,7 +11,7 @@ use std::rc::Rc;
 use goofs::change::{Change, Format, RECORD};
 use goofs::device::{Device, SECTOR};
 use goofs::error::Error;
-use goofs::image::State;
+use goofs::image::{Edition, Image, State};
 use goofs::volume::{self, Volume};
 use oracle::draw::Draw;
 use oracle::ledger::CutReport;
@@ -314,24 +314,31 @@ fn data_sectors_of(request: &Request) -> usize {
 }
 
 /// Five extents, of which one is the reserve.
-const SAMPLE: Format = Format {
-    sectors: 546 + 255 + 5 * 128,
-    files: 255,
-    id: 900,
-    mode: 0o755,
-    time: 1,
-};
+fn format(edition: Edition) -> Format {
+    Format {
+        sectors: 546 + 255 + 5 * 128,
+        files: 255,
+        edition,
+        id: 900,
+        mode: 0o755,
+        time: 1,
+    }
+}
+
+const EDITIONS: [Edition; 2] = [Edition::First, Edition::Second];
 
 /// The ledger after the format.
-fn empty() -> Ledger {
+fn empty(edition: Edition) -> Ledger {
     let Format {
         sectors,
         files,
+        edition,
         id,
         mode,
         time,
-    } = SAMPLE;
+    } = format(edition);
     let format = FormatRequest {
+        edition: edition.number(),
         sectors,
         files,
         id,
@@ -342,10 +349,11 @@ fn empty() -> Ledger {
 }
 
 /// A volume with the files `f`, of three sectors, `g` and `h`, and its ledger.
-fn sample() -> (Card, Ledger) {
-    let mut card = Card::of(vec![0; SAMPLE.sectors as usize * SECTOR]);
-    volume::format(&mut card, &SAMPLE, &mut |_| ()).unwrap();
-    let mut ledger = empty();
+fn sample(edition: Edition) -> (Card, Ledger) {
+    let format = format(edition);
+    let mut card = Card::of(vec![0; format.sectors as usize * SECTOR]);
+    volume::format(&mut card, &format, &mut |_| ()).unwrap();
+    let mut ledger = empty(edition);
     let requests = [
         create(b"f", 1),
         create(b"g", 2),
@@ -431,7 +439,12 @@ const WAYS: [(Fate, Forgets); 11] = [
 /// change, or the rest of the same, that is cut at each of its writes and barriers.
 #[test]
 fn a_fault_then_the_advice_then_a_cut() {
-    let (card, ledger) = sample();
+    for edition in EDITIONS {
+        fault_then_cut(sample(edition));
+    }
+}
+
+fn fault_then_cut((card, ledger): (Card, Ledger)) {
     let others = next_changes();
     let (mut faults, mut cuts) = (0, 0);
     for (name, command) in commands() {
@@ -485,7 +498,12 @@ fn a_fault_then_the_advice_then_a_cut() {
 /// opening; then it is given again.
 #[test]
 fn a_fault_then_a_recovery_that_fails() {
-    let (card, ledger) = sample();
+    for edition in EDITIONS {
+        fault_then_failing_recovery(sample(edition));
+    }
+}
+
+fn fault_then_failing_recovery((card, ledger): (Card, Ledger)) {
     let others = next_changes();
     let mut faults = 0;
     for (name, command) in commands() {
@@ -543,21 +561,24 @@ fn cut_at_each_step(card: &Card, before: &[End], next: &[Request], what: &str) -
 /// A format that fails anywhere is done again, as the command advises.
 #[test]
 fn a_format_that_fails() {
-    let (card, _) = sample();
+    // A volume of the other edition stood there before.
+    let (card, _) = sample(Edition::First);
+    let format = format(Edition::Second);
     let mut faults = 0;
     for at in 0.. {
         let mut reached = false;
         for fate in FATES {
             let mut failed = card.clone().set(Some(Fault { at, fate }));
             failed.forgets = Forgets::None;
-            reached = volume::format(&mut failed, &SAMPLE, &mut |_| ()).is_err();
+            reached = volume::format(&mut failed, &format, &mut |_| ()).is_err();
             if !reached {
                 break;
             }
             faults += 1;
             let mut again = failed.set(None);
-            volume::format(&mut again, &SAMPLE, &mut |_| ()).unwrap();
-            recovered(&mut again.cut(), ends(&empty(), &[]), "format");
+            volume::format(&mut again, &format, &mut |_| ()).unwrap();
+            let formatted = empty(Edition::Second);
+            recovered(&mut again.cut(), ends(&formatted, &[]), "format");
         }
         if !reached {
             break;
@@ -570,13 +591,14 @@ fn a_format_that_fails() {
 /// old volume on the medium, and a refused command must not take it away.
 #[test]
 fn an_opening_leaves_an_unfinished_volume_alone() {
-    let (card, ledger) = sample();
+    let (card, ledger) = sample(Edition::First);
     let mut failed = card.set(Some(Fault {
         at: 1,
         fate: Fate::AllLost,
     }));
     failed.forgets = Forgets::None;
-    assert!(volume::format(&mut failed, &SAMPLE, &mut |_| ()).is_err());
+    let format = format(Edition::Second);
+    assert!(volume::format(&mut failed, &format, &mut |_| ()).is_err());
     let mut failed = failed.set(None);
     let volume = Volume::open(&mut failed).unwrap();
     assert_eq!(volume.image().unwrap().summary().state, State::Unfinished);
@@ -587,8 +609,8 @@ fn an_opening_leaves_an_unfinished_volume_alone() {
 /// The data sectors of a list, as the ledger counts them, are no more than are tried above.
 #[test]
 fn data_sectors_are_all_tried() {
-    let (card, _) = sample();
-    let image = goofs::image::Image::new(card.bytes()).unwrap();
+    let (card, _) = sample(Edition::First);
+    let image = Image::new(card.bytes()).unwrap();
     for (_, command) in commands() {
         let list = image.list_of(&change(&command[0])).unwrap();
         let count = data_sectors(&groups(list.bytes()));

@@ -11,7 +11,7 @@ use std::sync::{Mutex, MutexGuard, PoisonError};
 use goofs::change::{Change, Format};
 use goofs::device::{Device, Disk, Memory, SECTOR};
 use goofs::error::{Error, Refusal};
-use goofs::image::{Image, State};
+use goofs::image::{Edition, Image, State};
 use goofs::map::{self, Map};
 use goofs::volume::{self, Volume};
 
@@ -83,6 +83,7 @@ fn request(sectors: u64, files: u64) -> Format {
     Format {
         sectors,
         files,
+        edition: Edition::First,
         id: 5_000,
         mode: 0o755,
         time: 1,

@@ -7,10 +7,12 @@ use std::process::{Command, Output};
 const PROGRAM: &str = r#"
 use goofs::change::{Change, Format};
 use goofs::device::Memory;
+use goofs::image::Edition;
 use goofs::volume::{self, Volume};
 
 fn main() {
-    let format = Format { sectors: 1_313, files: 255, id: 1, mode: 0, time: 1 };
+    let edition = Edition::Second;
+    let format = Format { sectors: 1_313, files: 255, edition, id: 1, mode: 0, time: 1 };
     let mut medium = Memory::of_sectors(1_313);
     volume::format(&mut medium, &format, &mut |_| ()).unwrap();
     let mut volume = Volume::open(medium).unwrap();

@@ -7,13 +7,13 @@ use std::io;
 use goofs::change::{Change, Format};
 use goofs::device::{Device, Memory, SECTOR};
 use goofs::error::{Error, Refusal};
-use goofs::image::Image;
+use goofs::image::{Edition, Image};
 use goofs::names;
 use goofs::save::Save;
 use goofs::volume::{self, Volume};
 use oracle::draw::Draw;
 
-const TIME: u32 = 7;
+const TIME: u64 = 7;
 
 /// A medium whose power goes at one write or barrier. Sectors sent after the last barrier are each
 /// there or not then, as is drawn.
@@ -68,10 +68,11 @@ impl Device for Card {
 }
 
 /// So many extents, one of them the reserve, with one file besides.
-fn formatted(extents: u64) -> Memory {
+fn formatted(edition: Edition, extents: u64) -> Memory {
     let format = Format {
         sectors: 546 + 255 + extents * 128,
         files: 255,
+        edition,
         id: 900,
         mode: 0o755,
         time: 1,
@@ -150,7 +151,7 @@ fn cut_everywhere(before: &Memory, name: &[u8], new: &[u8]) -> (u64, u64) {
 
 #[test]
 fn a_save_cut_at_each_step() {
-    let empty = formatted(8);
+    let empty = formatted(Edition::First, 8);
     let pattern = |length: usize| -> Vec<u8> { (0..length).map(|i| (i * 7) as u8).collect() };
     for (old, length) in [
         (None, 0),
@@ -171,14 +172,16 @@ fn a_save_cut_at_each_step() {
         assert!(behind <= 8, "{old:?}, {length}: {mark} of {steps}");
     }
     // With the longest name, whose name beside is made of a part of it.
-    let name = [b'n'; 476];
-    cut_everywhere(&empty, &name, &pattern(700));
+    for (edition, longest) in [(Edition::First, 476), (Edition::Second, 468)] {
+        let name = vec![b'n'; longest];
+        cut_everywhere(&formatted(edition, 8), &name, &pattern(700));
+    }
 }
 
 /// Both files need room, and an entry, until the old one is gone.
 #[test]
 fn no_room_for_both() {
-    let mut volume = Volume::open(formatted(4)).unwrap();
+    let mut volume = Volume::open(formatted(Edition::First, 4)).unwrap();
     volume.save(b"f", &[1; 70_000], TIME).unwrap();
     let held = volume.image().unwrap().bytes().to_vec();
     let refused = volume.save(b"f", &[2; 70_000], TIME);
@@ -214,7 +217,7 @@ fn no_room_for_both() {
 /// What a replaced file leaves to the new one, and what not.
 #[test]
 fn fields_of_a_replaced_file() {
-    let mut volume = Volume::open(formatted(8)).unwrap();
+    let mut volume = Volume::open(formatted(Edition::First, 8)).unwrap();
     volume.save(b"f", b"old", 10).unwrap();
     let old = volume.image().unwrap().find(b"f").unwrap();
     assert_eq!((old.id, old.mode, old.change_time), (902, 0o644, 10));
@@ -230,12 +233,40 @@ fn fields_of_a_replaced_file() {
 /// Names that no file is saved under.
 #[test]
 fn names_of_saves() {
-    let mut volume = Volume::open(formatted(8)).unwrap();
-    let refused = volume.save(b"f.goofs-saving", b"x", TIME);
-    assert!(matches!(refused, Err(Error::NameBeside)));
-    for name in [&b""[..], b"a b", b"a/b", b"\xff", &[b'n'; 477]] {
-        let refused = volume.save(name, b"x", TIME);
-        assert!(matches!(refused, Err(Error::Refused(Refusal::BadArgument))));
+    for (edition, longest) in [(Edition::First, 476), (Edition::Second, 468)] {
+        let mut volume = Volume::open(formatted(edition, 8)).unwrap();
+        let refused = volume.save(b"f.goofs-saving", b"x", TIME);
+        assert!(matches!(refused, Err(Error::NameBeside)));
+        for name in [&b""[..], b"a b", b"a/b", b"\xff", &vec![b'n'; longest + 1]] {
+            let refused = volume.save(name, b"x", TIME);
+            assert!(matches!(refused, Err(Error::Refused(Refusal::BadArgument))));
+        }
+        assert_eq!(volume.image().unwrap().entries().unwrap().len(), 1);
     }
-    assert_eq!(volume.image().unwrap().entries().unwrap().len(), 1);
+}
+
+/// The latest time of each edition is stored and given back; a later one is refused.
+#[test]
+fn times_of_saves() {
+    for edition in [Edition::First, Edition::Second] {
+        let mut volume = Volume::open(formatted(edition, 8)).unwrap();
+        let latest = edition.latest_time();
+        volume.save(b"f", b"old", latest).unwrap();
+        volume.save(b"f", b"new", latest - 1).unwrap();
+        let image = volume.image().unwrap();
+        assert_eq!(image.summary().edition, edition);
+        let file = image.find(b"f").unwrap();
+        assert_eq!(
+            (file.access_time, file.change_time),
+            (latest - 1, latest - 1)
+        );
+        assert_eq!(
+            (image.root().access_time, image.root().change_time),
+            (1, latest - 1)
+        );
+        if let Some(later) = latest.checked_add(1) {
+            let refused = volume.save(b"f", b"newer", later);
+            assert!(matches!(refused, Err(Error::Refused(Refusal::BadArgument))));
+        }
+    }
 }

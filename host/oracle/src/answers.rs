@@ -69,6 +69,7 @@ impl Refusal {
 #[derive(Clone, Copy, Debug, Default, PartialEq, Eq)]
 pub struct SummaryAnswer {
     pub code: u64,
+    pub edition: u64,
     pub files: u64,
     pub extents: u64,
     pub extent_sectors: u64,
@@ -165,8 +166,8 @@ impl ListAnswer {
             version: u64::from(entry.version()),
             id: entry.id(),
             mode: u64::from(entry.mode()),
-            access_time: u64::from(entry.access_time()),
-            change_time: u64::from(entry.change_time()),
+            access_time: entry.access_time(),
+            change_time: entry.change_time(),
             name_length: entry.name_length() as u64,
         }
     }

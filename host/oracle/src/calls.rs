@@ -4,7 +4,7 @@ use crate::answers::{
     code, state, CheckAnswer, FindAnswer, ListAnswer, ReadAnswer, Refusal, SummaryAnswer,
 };
 use crate::judge::{open, open_sound, SoundVolume, State};
-use crate::layout::{name_is_good, Entry, FileIndex, LONGEST_SPAN, SECTOR};
+use crate::layout::{Entry, FileIndex, LONGEST_SPAN, SECTOR};
 
 /// The geometry and the state; only 1 to 3 refuse it.
 pub fn summary(image: &[u8]) -> SummaryAnswer {
@@ -21,6 +21,7 @@ pub fn summary(image: &[u8]) -> SummaryAnswer {
     let geometry = volume.geometry();
     SummaryAnswer {
         code: code::DONE,
+        edition: volume.edition().number(),
         files: geometry.files(),
         extents: geometry.extents(),
         extent_sectors: geometry.extent_sectors(),
@@ -132,7 +133,7 @@ pub(crate) fn find_file<'i>(
     volume: &SoundVolume<'i>,
     name: &[u8],
 ) -> Result<(FileIndex, Entry<'i>), Refusal> {
-    if !name_is_good(name) {
+    if !volume.edition().name_is_good(name) {
         return Err(Refusal::new(code::BAD_ARGUMENT));
     }
     volume.find(name).ok_or(Refusal::new(code::NOT_THERE))

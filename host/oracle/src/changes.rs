@@ -5,8 +5,8 @@ use crate::answers::{code, ChangeAnswer, Refusal};
 use crate::calls::find_file;
 use crate::judge::{open_sound, SoundVolume, Volume};
 use crate::layout::{
-    entry, get32, new_name_is_good, put16, put32, put64, root, Entry, Extent, FileIndex, Sector,
-    LONGEST_SPAN, NO_FILE, SECTOR,
+    entry, get32, put16, put32, put64, root, Extent, FileIndex, Sector, LONGEST_SPAN, NO_FILE,
+    SECTOR,
 };
 use crate::lists::{list_length, ListWriter, Target};
 
@@ -19,19 +19,19 @@ pub fn create(
     name: &[u8],
     id: u64,
     mode: u32,
-    time: u32,
+    time: u64,
     list: &mut [u8],
 ) -> ChangeAnswer {
     answer(create_file(image, name, id, mode, time, list))
 }
 
 /// Frees the file's entry and its extents.
-pub fn delete(image: &[u8], name: &[u8], time: u32, list: &mut [u8]) -> ChangeAnswer {
+pub fn delete(image: &[u8], name: &[u8], time: u64, list: &mut [u8]) -> ChangeAnswer {
     answer(delete_file(image, name, time, list))
 }
 
 /// Gives the file another size; what is added at its end is zero.
-pub fn resize(image: &[u8], name: &[u8], size: u64, time: u32, list: &mut [u8]) -> ChangeAnswer {
+pub fn resize(image: &[u8], name: &[u8], size: u64, time: u64, list: &mut [u8]) -> ChangeAnswer {
     answer(resize_file(image, name, size, time, list))
 }
 
@@ -41,7 +41,7 @@ pub fn write(
     name: &[u8],
     offset: u64,
     data: &[u8],
-    time: u32,
+    time: u64,
     list: &mut [u8],
 ) -> ChangeAnswer {
     answer(write_file(image, name, offset, data, time, list))
@@ -62,12 +62,13 @@ fn create_file(
     name: &[u8],
     id: u64,
     mode: u32,
-    time: u32,
+    time: u64,
     list: &mut [u8],
 ) -> Result<u64, Refusal> {
     let sound = open_sound(image)?;
     let volume = sound.volume();
-    if !new_name_is_good(name) || id == 0 {
+    let edition = sound.edition();
+    if !edition.new_name_is_good(name) || id == 0 || !edition.time_fits(time) {
         return Err(Refusal::new(code::BAD_ARGUMENT));
     }
     let id_is_taken =
@@ -82,10 +83,9 @@ fn create_file(
     put16(&mut contents, entry::MARK, entry::OCCUPIED);
     put64(&mut contents, entry::ID, id);
     put32(&mut contents, entry::MODE, mode);
-    put32(&mut contents, entry::ACCESS_TIME, time);
-    put32(&mut contents, entry::CHANGE_TIME, time);
-    put16(&mut contents, entry::NAME_LENGTH, name.len() as u16);
-    contents[entry::NAME..entry::NAME + name.len()].copy_from_slice(name);
+    edition.put_time(&mut contents, entry::ACCESS_TIME, time);
+    edition.put_time(&mut contents, edition.entry_change_time(), time);
+    edition.put_name(&mut contents, name);
 
     let new_entry = Target {
         sector: volume.geometry().entry_at(file),
@@ -94,8 +94,9 @@ fn create_file(
     transaction(volume, &[changed_root(volume, time), new_entry], list)
 }
 
-fn delete_file(image: &[u8], name: &[u8], time: u32, list: &mut [u8]) -> Result<u64, Refusal> {
+fn delete_file(image: &[u8], name: &[u8], time: u64, list: &mut [u8]) -> Result<u64, Refusal> {
     let sound = open_sound(image)?;
+    judge_time(&sound, time)?;
     let (file, _) = find_file(&sound, name)?;
     let volume = sound.volume();
     let freed_entry = Target {
@@ -111,10 +112,11 @@ fn resize_file(
     image: &[u8],
     name: &[u8],
     size: u64,
-    time: u32,
+    time: u64,
     list: &mut [u8],
 ) -> Result<u64, Refusal> {
     let sound = open_sound(image)?;
+    judge_time(&sound, time)?;
     let (file, entry) = find_file(&sound, name)?;
     if size > entry.size() {
         let growth = size - entry.size();
@@ -135,7 +137,7 @@ fn resize_file(
     }
     let volume = sound.volume();
     let kept = volume.geometry().extents_for(size) as usize;
-    let mut targets = vec![changed_entry(volume, file, size, time)];
+    let mut targets = vec![resized_entry(volume, file, size, time)];
     targets.extend(freed_table(volume, &sound.extents_of(file)[kept..]));
     transaction(volume, &targets, list)
 }
@@ -145,10 +147,11 @@ fn write_file(
     name: &[u8],
     offset: u64,
     data: &[u8],
-    time: u32,
+    time: u64,
     list: &mut [u8],
 ) -> Result<u64, Refusal> {
     let sound = open_sound(image)?;
+    judge_time(&sound, time)?;
     if data.len() as u64 > LONGEST_SPAN {
         return Err(Refusal::new(code::BAD_ARGUMENT));
     }
@@ -168,7 +171,7 @@ fn write_span(
     file: FileIndex,
     offset: u64,
     data: &[u8],
-    time: u32,
+    time: u64,
     list: &mut [u8],
 ) -> Result<u64, Refusal> {
     let volume = sound.volume();
@@ -177,7 +180,7 @@ fn write_span(
     let old_size = volume.entry(file).size();
     let new_size = old_size.max(end);
 
-    let mut targets = vec![changed_entry(volume, file, new_size, time)];
+    let mut targets = vec![resized_entry(volume, file, new_size, time)];
     let old_extents = sound.extents_of(file);
     let mut new_extent = None;
     // A span is no longer than an extent and starts at the size or before, so one more extent is
@@ -220,6 +223,15 @@ fn write_span(
     Ok(writer.filled())
 }
 
+/// Refusal 8 for a time that the volume's edition can't store.
+fn judge_time(sound: &SoundVolume, time: u64) -> Result<(), Refusal> {
+    if sound.edition().time_fits(time) {
+        Ok(())
+    } else {
+        Err(Refusal::new(code::BAD_ARGUMENT))
+    }
+}
+
 /// The list of a call without data sectors, or refusal 14.
 pub(crate) fn transaction(
     volume: Volume,
@@ -235,11 +247,12 @@ pub(crate) fn transaction(
 }
 
 /// The root after a create, delete or rename.
-pub(crate) fn changed_root(volume: Volume, time: u32) -> Target {
+pub(crate) fn changed_root(volume: Volume, time: u64) -> Target {
     let mut contents = *volume.root();
     let version = get32(&contents, root::VERSION).wrapping_add(1);
     put32(&mut contents, root::VERSION, version);
-    put32(&mut contents, root::CHANGE_TIME, time);
+    let edition = volume.edition();
+    edition.put_time(&mut contents, edition.root_change_time(), time);
     Target {
         sector: volume.geometry().root_at(),
         contents,
@@ -247,16 +260,19 @@ pub(crate) fn changed_root(volume: Volume, time: u32) -> Target {
 }
 
 /// The file's entry after a write or resize.
-fn changed_entry(volume: Volume, file: FileIndex, size: u64, time: u32) -> Target {
-    let Entry(old) = volume.entry(file);
-    let mut contents = *old;
-    put64(&mut contents, entry::SIZE, size);
-    put32(
-        &mut contents,
-        entry::VERSION,
-        Entry(old).version().wrapping_add(1),
-    );
-    put32(&mut contents, entry::CHANGE_TIME, time);
+fn resized_entry(volume: Volume, file: FileIndex, size: u64, time: u64) -> Target {
+    let mut target = changed_entry(volume, file, time);
+    put64(&mut target.contents, entry::SIZE, size);
+    target
+}
+
+/// The file's entry with its version raised and its change time set.
+pub(crate) fn changed_entry(volume: Volume, file: FileIndex, time: u64) -> Target {
+    let old = volume.entry(file);
+    let edition = volume.edition();
+    let mut contents = *old.sector;
+    put32(&mut contents, entry::VERSION, old.version().wrapping_add(1));
+    edition.put_time(&mut contents, edition.entry_change_time(), time);
     Target {
         sector: volume.geometry().entry_at(file),
         contents,

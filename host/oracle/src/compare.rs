@@ -2,8 +2,8 @@
 //! each file. The journal, free extents, the reserve and bytes past a file's end are not looked at.
 
 use crate::layout::{
-    get16, get32, get64, root, sector, superblock, Entry, Extent, FileIndex, Sector, NO_FILE,
-    SECTOR,
+    get16, get32, get64, root, sector, superblock, Edition, Entry, Extent, FileIndex, Sector,
+    NO_FILE, SECTOR,
 };
 use crate::ledger::{File, Ledger, Root};
 
@@ -20,8 +20,11 @@ impl Ledger {
         self.compare_superblock(sector(image, Sector(0)))?;
         self.compare_root(sector(image, geometry.root_at()))?;
         for (index, slot) in self.slots().iter().enumerate() {
-            let entry_at = geometry.entry_at(FileIndex(index as u64));
-            compare_entry(slot.as_ref(), Entry(sector(image, entry_at)))
+            let entry = Entry {
+                sector: sector(image, geometry.entry_at(FileIndex(index as u64))),
+                edition: self.layout(),
+            };
+            compare_entry(slot.as_ref(), entry)
                 .map_err(|difference| format!("entry {index}: {difference}"))?;
         }
         self.compare_table(image)?;
@@ -37,13 +40,18 @@ impl Ledger {
         Ok(())
     }
 
+    /// Where the fields stand.
+    pub(crate) fn layout(&self) -> Edition {
+        Edition::of(self.edition()).expect("a ledger has one of the two editions")
+    }
+
     fn compare_superblock(&self, found: &[u8; SECTOR]) -> Result<(), String> {
         let geometry = self.geometry();
         let number = |at| u64::from(get16(found, at));
         let extent_sectors = u64::from(get32(found, superblock::EXTENT_SECTORS));
         let magic = &found[superblock::MAGIC..superblock::VERSION];
         same("magic", &superblock::MAGIC_TEXT[..], magic)?;
-        same("volume version", 1, number(superblock::VERSION))?;
+        same("edition", self.edition(), number(superblock::VERSION))?;
         same("files", geometry.files(), number(superblock::FILES))?;
         same("extents", geometry.extents(), number(superblock::EXTENTS))?;
         same("extent sectors", geometry.extent_sectors(), extent_sectors)?;
@@ -51,12 +59,13 @@ impl Ledger {
     }
 
     fn compare_root(&self, found: &[u8; SECTOR]) -> Result<(), String> {
+        let edition = self.layout();
         let found = Root {
             version: get32(found, root::VERSION),
             id: get64(found, root::ID),
             mode: get32(found, root::MODE),
-            access_time: get32(found, root::ACCESS_TIME),
-            change_time: get32(found, root::CHANGE_TIME),
+            access_time: edition.get_time(found, root::ACCESS_TIME),
+            change_time: edition.get_time(found, edition.root_change_time()),
         };
         same("root", self.root(), &found)
     }

@@ -2,8 +2,8 @@
 
 use crate::answers::{code, FormatRecordAnswer, Refusal};
 use crate::layout::{
-    files_in_bounds, put16, put32, put64, root, superblock, Geometry, Sector, JOURNAL_SECTORS,
-    SECTOR,
+    files_in_bounds, put16, put32, put64, root, superblock, Edition, Geometry, Sector,
+    JOURNAL_SECTORS, SECTOR,
 };
 use crate::lists::{ListWriter, RECORD};
 
@@ -17,12 +17,14 @@ const LAST_EXTENT_SECTORS: u64 = 1 << 31;
 /// The arguments of a format.
 #[derive(Clone, Copy, Debug, PartialEq, Eq)]
 pub struct FormatRequest {
+    /// 1, or 2 for wide times.
+    pub edition: u64,
     pub sectors: u64,
     pub files: u64,
     /// The root's id, mode and time.
     pub id: u64,
     pub mode: u32,
-    pub time: u32,
+    pub time: u64,
 }
 
 impl FormatRequest {
@@ -43,9 +45,16 @@ impl FormatRequest {
         Geometry::new(self.files, for_data / extent_sectors, extent_sectors)
     }
 
+    /// Edition and geometry of the volume, if the format is not refused.
+    fn accepted(&self) -> Option<(Edition, Geometry)> {
+        let edition = Edition::of(self.edition)?;
+        let geometry = self.geometry()?;
+        edition.time_fits(self.time).then_some((edition, geometry))
+    }
+
     /// How many records the format has, if it is not refused.
     pub fn records(&self) -> Option<u64> {
-        self.geometry().map(record_count)
+        self.accepted().map(|(_, geometry)| record_count(geometry))
     }
 }
 
@@ -70,7 +79,7 @@ pub fn format_record(
 }
 
 fn write_record(request: &FormatRequest, position: u64, output: &mut [u8]) -> Result<u64, Refusal> {
-    let geometry = request.geometry().ok_or(Refusal::new(code::BAD_ARGUMENT))?;
+    let (edition, geometry) = request.accepted().ok_or(Refusal::new(code::BAD_ARGUMENT))?;
     let records = record_count(geometry);
     if position >= records {
         return Err(Refusal::new(code::NOT_THERE));
@@ -85,10 +94,10 @@ fn write_record(request: &FormatRequest, position: u64, output: &mut [u8]) -> Re
     if position == 0 {
         writer.record(
             Sector(0),
-            &superblock_sector(geometry, superblock::UNFINISHED),
+            &superblock_sector(edition, geometry, superblock::UNFINISHED),
         );
     } else if position == 2 {
-        writer.record(geometry.root_at(), &root_sector(request));
+        writer.record(geometry.root_at(), &root_sector(edition, request));
     } else if (directory..table).contains(&position) {
         writer.record(
             Sector(geometry.directory_at().0 + (position - directory)),
@@ -100,7 +109,7 @@ fn write_record(request: &FormatRequest, position: u64, output: &mut [u8]) -> Re
             &[255; SECTOR],
         );
     } else if position == records - 2 {
-        writer.record(Sector(0), &superblock_sector(geometry, 0));
+        writer.record(Sector(0), &superblock_sector(edition, geometry, 0));
     } else {
         writer.barrier();
     }
@@ -108,7 +117,11 @@ fn write_record(request: &FormatRequest, position: u64, output: &mut [u8]) -> Re
 }
 
 /// The superblock of a volume with this journal length.
-pub(crate) fn superblock_sector(geometry: Geometry, journal_length: u16) -> [u8; SECTOR] {
+pub(crate) fn superblock_sector(
+    edition: Edition,
+    geometry: Geometry,
+    journal_length: u16,
+) -> [u8; SECTOR] {
     let mut contents = [0; SECTOR];
     put16(&mut contents, superblock::FILES, geometry.files() as u16);
     put16(
@@ -122,16 +135,16 @@ pub(crate) fn superblock_sector(geometry: Geometry, journal_length: u16) -> [u8;
         geometry.extent_sectors() as u32,
     );
     contents[superblock::MAGIC..superblock::VERSION].copy_from_slice(&superblock::MAGIC_TEXT);
-    put16(&mut contents, superblock::VERSION, superblock::THIS_VERSION);
+    put16(&mut contents, superblock::VERSION, edition.number() as u16);
     put16(&mut contents, superblock::JOURNAL_LENGTH, journal_length);
     contents
 }
 
-fn root_sector(request: &FormatRequest) -> [u8; SECTOR] {
+fn root_sector(edition: Edition, request: &FormatRequest) -> [u8; SECTOR] {
     let mut contents = [0; SECTOR];
     put64(&mut contents, root::ID, request.id);
     put32(&mut contents, root::MODE, request.mode);
-    put32(&mut contents, root::ACCESS_TIME, request.time);
-    put32(&mut contents, root::CHANGE_TIME, request.time);
+    edition.put_time(&mut contents, root::ACCESS_TIME, request.time);
+    edition.put_time(&mut contents, edition.root_change_time(), request.time);
     contents
 }

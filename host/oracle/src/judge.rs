@@ -5,8 +5,8 @@ use std::collections::HashSet;
 
 use crate::answers::{code, fault, Refusal};
 use crate::layout::{
-    self, entry, get16, get32, get64, root, superblock, Entry, Extent, FileIndex, Geometry, Sector,
-    LONGEST_JOURNAL, NO_FILE, SECTOR, TABLE_ENTRY,
+    self, entry, get16, get32, get64, root, superblock, Edition, Entry, Extent, FileIndex,
+    Geometry, Sector, LONGEST_JOURNAL, NO_FILE, SECTOR, TABLE_ENTRY,
 };
 
 /// What the journal length in the superblock says.
@@ -19,14 +19,27 @@ pub enum State {
     Unfinished,
 }
 
-/// An image that holds a volume of this geometry; its state and soundness are not said.
+/// What a superblock says.
+#[derive(Clone, Copy, Debug, PartialEq, Eq)]
+pub struct Superblock {
+    pub edition: Edition,
+    pub geometry: Geometry,
+    pub state: State,
+}
+
+/// An image that holds a volume of this edition and geometry; its state and soundness are not said.
 #[derive(Clone, Copy)]
 pub struct Volume<'i> {
     image: &'i [u8],
+    edition: Edition,
     geometry: Geometry,
 }
 
 impl<'i> Volume<'i> {
+    pub fn edition(&self) -> Edition {
+        self.edition
+    }
+
     pub fn geometry(&self) -> Geometry {
         self.geometry
     }
@@ -54,18 +67,22 @@ impl<'i> Volume<'i> {
     }
 
     pub fn entry(&self, file: FileIndex) -> Entry<'i> {
-        Entry(self.sector(self.geometry.entry_at(file)))
+        Entry {
+            sector: self.sector(self.geometry.entry_at(file)),
+            edition: self.edition,
+        }
     }
 
     /// All directory entries with their index.
     pub fn entries(self) -> impl Iterator<Item = (FileIndex, Entry<'i>)> {
         let directory = self.sectors(self.geometry.directory_at(), self.geometry.files());
         let sectors = directory.chunks_exact(SECTOR);
-        sectors.zip(0..).map(|(sector, index)| {
-            (
-                FileIndex(index),
-                Entry(sector.try_into().expect("a sector has 512 bytes")),
-            )
+        sectors.zip(0..).map(move |(sector, index)| {
+            let entry = Entry {
+                sector: sector.try_into().expect("a sector has 512 bytes"),
+                edition: self.edition,
+            };
+            (FileIndex(index), entry)
         })
     }
 
@@ -87,13 +104,11 @@ impl<'i> Volume<'i> {
 
 /// What a superblock says by itself: refusal 2, or 3 for the bounds. The image's length is not
 /// tested.
-pub fn read_superblock(sector: &[u8; SECTOR]) -> Result<(Geometry, State), Refusal> {
+pub fn read_superblock(sector: &[u8; SECTOR]) -> Result<Superblock, Refusal> {
     let magic = &sector[superblock::MAGIC..superblock::VERSION];
-    if magic != superblock::MAGIC_TEXT
-        || get16(sector, superblock::VERSION) != superblock::THIS_VERSION
-    {
-        return Err(Refusal::new(code::NOT_THIS_FORMAT));
-    }
+    let edition = Edition::of(u64::from(get16(sector, superblock::VERSION)))
+        .filter(|_| magic == superblock::MAGIC_TEXT)
+        .ok_or(Refusal::new(code::NOT_THIS_FORMAT))?;
     let files = u64::from(get16(sector, superblock::FILES));
     let extents = u64::from(get16(sector, superblock::EXTENTS));
     let extent_sectors = u64::from(get32(sector, superblock::EXTENT_SECTORS));
@@ -105,7 +120,11 @@ pub fn read_superblock(sector: &[u8; SECTOR]) -> Result<(Geometry, State), Refus
         length if u64::from(length) <= LONGEST_JOURNAL => State::Waiting(u64::from(length)),
         _ => State::Damaged,
     };
-    Ok((geometry, state))
+    Ok(Superblock {
+        edition,
+        geometry,
+        state,
+    })
 }
 
 /// Opens an image as a volume of any state: refusals 1 to 3.
@@ -113,11 +132,20 @@ pub fn open(image: &[u8]) -> Result<(Volume<'_>, State), Refusal> {
     if image.is_empty() || !image.len().is_multiple_of(SECTOR) {
         return Err(Refusal::new(code::NOT_WHOLE_SECTORS));
     }
-    let (geometry, state) = read_superblock(layout::sector(image, Sector(0)))?;
+    let Superblock {
+        edition,
+        geometry,
+        state,
+    } = read_superblock(layout::sector(image, Sector(0)))?;
     if geometry.end().0 > (image.len() / SECTOR) as u64 {
         return Err(Refusal::new(code::OUT_OF_BOUNDS));
     }
-    Ok((Volume { image, geometry }, state))
+    let volume = Volume {
+        image,
+        edition,
+        geometry,
+    };
+    Ok((volume, state))
 }
 
 /// Opens an image as a clean volume: refusals 1 to 6.
@@ -152,6 +180,10 @@ pub struct SoundVolume<'i> {
 impl<'i> SoundVolume<'i> {
     pub fn volume(&self) -> Volume<'i> {
         self.volume
+    }
+
+    pub fn edition(&self) -> Edition {
+        self.volume.edition
     }
 
     pub fn geometry(&self) -> Geometry {

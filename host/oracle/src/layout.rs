@@ -6,8 +6,6 @@
 pub const SECTOR: usize = 512;
 /// The largest span of one read or write, and the largest growth of one resize.
 pub const LONGEST_SPAN: u64 = 65_536;
-/// The longest name: what a directory sector holds from byte 36 on.
-pub const LONGEST_NAME: usize = 476;
 /// Sectors of the journal.
 pub const JOURNAL_SECTORS: u64 = 32;
 /// Bytes of a journal entry, and how many stand in a sector.
@@ -31,21 +29,20 @@ pub mod superblock {
     pub const JOURNAL_LENGTH: usize = 18;
 
     pub const MAGIC_TEXT: [u8; 8] = *b"/Goo/FS/";
-    pub const THIS_VERSION: u16 = 1;
     /// The journal length while a format is under way.
     pub const UNFINISHED: u16 = 65_535;
 }
 
-/// Byte offsets in the root record.
+/// Byte offsets in the root record; what follows the access time stands where the edition says.
 pub mod root {
     pub const VERSION: usize = 0;
     pub const ID: usize = 4;
     pub const MODE: usize = 12;
     pub const ACCESS_TIME: usize = 16;
-    pub const CHANGE_TIME: usize = 20;
 }
 
-/// Byte offsets in a directory entry, and the two values of its mark.
+/// Byte offsets in a directory entry, and the two values of its mark; what follows the access time
+/// stands where the edition says.
 pub mod entry {
     pub const MARK: usize = 0;
     pub const SIZE: usize = 2;
@@ -53,12 +50,102 @@ pub mod entry {
     pub const ID: usize = 14;
     pub const MODE: usize = 22;
     pub const ACCESS_TIME: usize = 26;
-    pub const CHANGE_TIME: usize = 30;
-    pub const NAME_LENGTH: usize = 34;
-    pub const NAME: usize = 36;
 
     pub const FREE: u16 = 0;
     pub const OCCUPIED: u16 = 65_535;
+}
+
+/// The volume's edition: how wide its times are, and so where the fields after them stand.
+#[derive(Clone, Copy, Debug, PartialEq, Eq)]
+pub enum Edition {
+    First,
+    Second,
+}
+
+impl Edition {
+    pub const BOTH: [Edition; 2] = [Edition::First, Edition::Second];
+
+    /// The edition of a superblock's version.
+    pub fn of(version: u64) -> Option<Edition> {
+        Edition::BOTH
+            .into_iter()
+            .find(|edition| edition.number() == version)
+    }
+
+    pub fn number(self) -> u64 {
+        match self {
+            Edition::First => 1,
+            Edition::Second => 2,
+        }
+    }
+
+    fn time_bytes(self) -> usize {
+        match self {
+            Edition::First => 4,
+            Edition::Second => 8,
+        }
+    }
+
+    pub fn root_change_time(self) -> usize {
+        root::ACCESS_TIME + self.time_bytes()
+    }
+
+    pub fn entry_change_time(self) -> usize {
+        entry::ACCESS_TIME + self.time_bytes()
+    }
+
+    pub fn name_length(self) -> usize {
+        self.entry_change_time() + self.time_bytes()
+    }
+
+    pub fn name(self) -> usize {
+        self.name_length() + 2
+    }
+
+    /// What a directory sector holds from the name's start on.
+    pub fn longest_name(self) -> usize {
+        SECTOR - self.name()
+    }
+
+    /// Whether a time given as an argument can be stored.
+    pub fn time_fits(self, time: u64) -> bool {
+        self == Edition::Second || time <= u64::from(u32::MAX)
+    }
+
+    pub fn get_time(self, bytes: &[u8], at: usize) -> u64 {
+        match self {
+            Edition::First => u64::from(get32(bytes, at)),
+            Edition::Second => get64(bytes, at),
+        }
+    }
+
+    /// Stores a time that fits.
+    pub fn put_time(self, bytes: &mut [u8], at: usize, time: u64) {
+        match self {
+            Edition::First => put32(bytes, at, time as u32),
+            Edition::Second => put64(bytes, at, time),
+        }
+    }
+
+    /// Stores the length of a name and the name; the rest of the sector stays.
+    pub fn put_name(self, sector: &mut [u8], name: &[u8]) {
+        put16(sector, self.name_length(), name.len() as u16);
+        sector[self.name()..self.name() + name.len()].copy_from_slice(name);
+    }
+
+    /// Whether a name given as an argument can stand in the directory.
+    pub fn name_is_good(self, name: &[u8]) -> bool {
+        (1..=self.longest_name()).contains(&name.len()) && !name.contains(&0)
+    }
+
+    /// Whether a file may be given the name: only bytes that can be typed, and no slash. Files with
+    /// other names stand on older volumes.
+    pub fn new_name_is_good(self, name: &[u8]) -> bool {
+        self.name_is_good(name)
+            && name
+                .iter()
+                .all(|byte| byte.is_ascii_graphic() && *byte != b'/')
+    }
 }
 
 /// A sector of the image, counted from its start.
@@ -209,11 +296,14 @@ pub fn sector(image: &[u8], sector: Sector) -> &[u8; SECTOR] {
 
 /// A directory entry, read in place.
 #[derive(Clone, Copy)]
-pub struct Entry<'i>(pub &'i [u8; SECTOR]);
+pub struct Entry<'i> {
+    pub sector: &'i [u8; SECTOR],
+    pub edition: Edition,
+}
 
 impl<'i> Entry<'i> {
     pub fn mark(self) -> u16 {
-        get16(self.0, entry::MARK)
+        get16(self.sector, entry::MARK)
     }
 
     pub fn is_occupied(self) -> bool {
@@ -221,57 +311,44 @@ impl<'i> Entry<'i> {
     }
 
     pub fn size(self) -> u64 {
-        get64(self.0, entry::SIZE)
+        get64(self.sector, entry::SIZE)
     }
 
     pub fn version(self) -> u32 {
-        get32(self.0, entry::VERSION)
+        get32(self.sector, entry::VERSION)
     }
 
     pub fn id(self) -> u64 {
-        get64(self.0, entry::ID)
+        get64(self.sector, entry::ID)
     }
 
     pub fn mode(self) -> u32 {
-        get32(self.0, entry::MODE)
+        get32(self.sector, entry::MODE)
     }
 
-    pub fn access_time(self) -> u32 {
-        get32(self.0, entry::ACCESS_TIME)
+    pub fn access_time(self) -> u64 {
+        self.edition.get_time(self.sector, entry::ACCESS_TIME)
     }
 
-    pub fn change_time(self) -> u32 {
-        get32(self.0, entry::CHANGE_TIME)
+    pub fn change_time(self) -> u64 {
+        self.edition
+            .get_time(self.sector, self.edition.entry_change_time())
     }
 
     pub fn name_length(self) -> usize {
-        usize::from(get16(self.0, entry::NAME_LENGTH))
+        usize::from(get16(self.sector, self.edition.name_length()))
     }
 
-    /// The name, or nothing if its length is not 1 to 476.
+    /// The name, or nothing if its length is 0 or above the edition's longest.
     pub fn name(self) -> Option<&'i [u8]> {
         let length = self.name_length();
-        let name_area = &self.0[entry::NAME..];
+        let name_area = &self.sector[self.edition.name()..];
         if length == 0 {
             None
         } else {
             name_area.get(..length)
         }
     }
-}
-
-/// Whether a name given as an argument can stand in the directory.
-pub fn name_is_good(name: &[u8]) -> bool {
-    (1..=LONGEST_NAME).contains(&name.len()) && !name.contains(&0)
-}
-
-/// Whether a file may be given the name: only bytes that can be typed, and no slash. Files with
-/// other names stand on older volumes.
-pub fn new_name_is_good(name: &[u8]) -> bool {
-    name_is_good(name)
-        && name
-            .iter()
-            .all(|byte| byte.is_ascii_graphic() && *byte != b'/')
 }
 
 pub fn get16(bytes: &[u8], at: usize) -> u16 {

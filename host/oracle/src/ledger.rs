@@ -18,8 +18,8 @@ pub struct Root {
     pub version: u32,
     pub id: u64,
     pub mode: u32,
-    pub access_time: u32,
-    pub change_time: u32,
+    pub access_time: u64,
+    pub change_time: u64,
 }
 
 /// A file: its entry's fields, its bytes (the size is their number) and its extents in order.
@@ -29,8 +29,8 @@ pub struct File {
     pub version: u32,
     pub id: u64,
     pub mode: u32,
-    pub access_time: u32,
-    pub change_time: u32,
+    pub access_time: u64,
+    pub change_time: u64,
     pub bytes: Vec<u8>,
     pub extents: Vec<Extent>,
 }
@@ -53,6 +53,7 @@ pub struct Told {
 
 #[derive(Clone, Debug, PartialEq, Eq)]
 pub struct Ledger {
+    edition: u64,
     geometry: Geometry,
     root: Root,
     slots: Vec<Option<File>>,
@@ -67,26 +68,26 @@ enum Change {
     },
     Delete {
         slot: usize,
-        time: u32,
+        time: u64,
     },
     Shrink {
         slot: usize,
         size: usize,
         kept: usize,
-        time: u32,
+        time: u64,
     },
     Write {
         slot: usize,
         offset: usize,
         data: Vec<u8>,
         extent: Option<Extent>,
-        time: u32,
+        time: u64,
     },
     Rename {
         slot: usize,
         name: Vec<u8>,
         replaced: Option<usize>,
-        time: u32,
+        time: u64,
     },
 }
 
@@ -94,28 +95,31 @@ impl Ledger {
     /// The ledger after a format, or nothing if the format is refused.
     pub fn new(format: &FormatRequest) -> Option<Ledger> {
         let geometry = format.geometry()?;
-        Some(Ledger::with_geometry(
-            geometry,
-            format.id,
-            format.mode,
-            format.time,
-        ))
+        Ledger::with_geometry(geometry, format)
     }
 
-    /// The ledger of a fresh volume of any geometry, also one that no format gives.
-    pub fn with_geometry(geometry: Geometry, id: u64, mode: u32, time: u32) -> Ledger {
+    /// The ledger of a fresh volume of any geometry, also one that no format gives; edition and root
+    /// are the format's.
+    pub fn with_geometry(geometry: Geometry, format: &FormatRequest) -> Option<Ledger> {
         let root = Root {
             version: 0,
-            id,
-            mode,
-            access_time: time,
-            change_time: time,
+            id: format.id,
+            mode: format.mode,
+            access_time: format.time,
+            change_time: format.time,
         };
-        Ledger {
+        let ledger = Ledger {
+            edition: format.edition,
             geometry,
             root,
             slots: vec![None; geometry.files() as usize],
-        }
+        };
+        let refused = ![1, 2].contains(&format.edition) || ledger.bad_time(format.time);
+        (!refused).then_some(ledger)
+    }
+
+    pub fn edition(&self) -> u64 {
+        self.edition
     }
 
     pub fn geometry(&self) -> Geometry {
@@ -170,6 +174,7 @@ impl Ledger {
         let mut change = Change::Nothing;
         let answer = match request {
             Request::Summary => Answer::Summary(SummaryAnswer {
+                edition: self.edition,
                 files: self.geometry.files(),
                 extents: self.geometry.extents(),
                 extent_sectors: self.geometry.extent_sectors(),
@@ -217,6 +222,9 @@ impl Ledger {
 
     /// The list length of a changing call and what it does, or its refusal.
     fn change(&self, request: &Request, buffer_length: usize) -> Result<(usize, Change), Refusal> {
+        if request.time().is_some_and(|time| self.bad_time(time)) {
+            return Err(Refusal::new(code::BAD_ARGUMENT));
+        }
         let (length, change) = match request {
             Request::Create {
                 name,
@@ -243,7 +251,7 @@ impl Ledger {
     }
 
     fn find(&self, name: &[u8]) -> Result<(usize, &File), Refusal> {
-        if bad_name(name) {
+        if self.bad_name(name) {
             return Err(Refusal::new(code::BAD_ARGUMENT));
         }
         self.files()
@@ -279,7 +287,7 @@ impl Ledger {
         count: u64,
         buffer_length: usize,
     ) -> Result<&[u8], Refusal> {
-        if bad_name(name) || count > 65_536 {
+        if self.bad_name(name) || count > 65_536 {
             return Err(Refusal::new(code::BAD_ARGUMENT));
         }
         let (_, file) = self.find(name)?;
@@ -299,9 +307,9 @@ impl Ledger {
         name: &[u8],
         id: u64,
         mode: u32,
-        time: u32,
+        time: u64,
     ) -> Result<(usize, Change), Refusal> {
-        if bad_new_name(name) || id == 0 {
+        if self.bad_new_name(name) || id == 0 {
             return Err(Refusal::new(code::BAD_ARGUMENT));
         }
         if id == self.root.id
@@ -326,13 +334,13 @@ impl Ledger {
         Ok((length_by_groups(0, 2), Change::Create { slot, file }))
     }
 
-    fn delete(&self, name: &[u8], time: u32) -> Result<(usize, Change), Refusal> {
+    fn delete(&self, name: &[u8], time: u64) -> Result<(usize, Change), Refusal> {
         let (slot, file) = self.find(name)?;
         let targets = 2 + table_sectors_with(&file.extents);
         Ok((length_by_groups(0, targets), Change::Delete { slot, time }))
     }
 
-    fn resize(&self, name: &[u8], size: u64, time: u32) -> Result<(usize, Change), Refusal> {
+    fn resize(&self, name: &[u8], size: u64, time: u64) -> Result<(usize, Change), Refusal> {
         let (slot, file) = self.find(name)?;
         let old_size = file.bytes.len() as u64;
         if size == old_size {
@@ -366,9 +374,9 @@ impl Ledger {
         name: &[u8],
         offset: u64,
         data: &[u8],
-        time: u32,
+        time: u64,
     ) -> Result<(usize, Change), Refusal> {
-        if bad_name(name) || data.len() > 65_536 {
+        if self.bad_name(name) || data.len() > 65_536 {
             return Err(Refusal::new(code::BAD_ARGUMENT));
         }
         let (slot, file) = self.find(name)?;
@@ -381,8 +389,8 @@ impl Ledger {
         self.put(slot, file, offset as usize, data.to_vec(), time)
     }
 
-    fn rename(&self, old: &[u8], new: &[u8], time: u32) -> Result<(usize, Change), Refusal> {
-        if bad_name(old) || bad_new_name(new) {
+    fn rename(&self, old: &[u8], new: &[u8], time: u64) -> Result<(usize, Change), Refusal> {
+        if self.bad_name(old) || self.bad_new_name(new) {
             return Err(Refusal::new(code::BAD_ARGUMENT));
         }
         let (slot, _) = self.find(old)?;
@@ -407,7 +415,7 @@ impl Ledger {
         file: &File,
         offset: usize,
         data: Vec<u8>,
-        time: u32,
+        time: u64,
     ) -> Result<(usize, Change), Refusal> {
         let end = offset + data.len();
         let new_size = end.max(file.bytes.len());
@@ -433,6 +441,22 @@ impl Ledger {
                 time,
             },
         ))
+    }
+
+    fn bad_name(&self, name: &[u8]) -> bool {
+        let longest = if self.edition == 2 { 468 } else { 476 };
+        name.is_empty() || name.len() > longest || name.contains(&0)
+    }
+
+    /// For create and the new name of a rename.
+    fn bad_new_name(&self, name: &[u8]) -> bool {
+        let typed = |byte| matches!(byte, 33..=46 | 48..=126);
+        self.bad_name(name) || name.iter().any(|byte| !typed(*byte))
+    }
+
+    /// The first edition's times have four bytes.
+    fn bad_time(&self, time: u64) -> bool {
+        self.edition == 1 && time > 4_294_967_295
     }
 
     /// C for this size.
@@ -526,12 +550,12 @@ impl Ledger {
         }
     }
 
-    fn change_root(&mut self, time: u32) {
+    fn change_root(&mut self, time: u64) {
         self.root.version = self.root.version.wrapping_add(1);
         self.root.change_time = time;
     }
 
-    fn changed_file(&mut self, slot: usize, time: u32) -> &mut File {
+    fn changed_file(&mut self, slot: usize, time: u64) -> &mut File {
         let file = self.slots[slot]
             .as_mut()
             .expect("the slot of a planned change holds a file");
@@ -539,15 +563,6 @@ impl Ledger {
         file.change_time = time;
         file
     }
-}
-
-fn bad_name(name: &[u8]) -> bool {
-    name.is_empty() || name.len() > 476 || name.contains(&0)
-}
-
-/// For create and the new name of a rename.
-fn bad_new_name(name: &[u8]) -> bool {
-    bad_name(name) || name.iter().any(|byte| !matches!(byte, 33..=46 | 48..=126))
 }
 
 /// How many table sectors hold the entries of these extents.
@@ -575,8 +590,8 @@ fn find_answer(slot: usize, file: &File) -> FindAnswer {
         version: u64::from(file.version),
         id: file.id,
         mode: u64::from(file.mode),
-        access_time: u64::from(file.access_time),
-        change_time: u64::from(file.change_time),
+        access_time: file.access_time,
+        change_time: file.change_time,
         name_length: file.name.len() as u64,
         ..FindAnswer::default()
     }
@@ -588,8 +603,8 @@ fn list_answer(file: &File) -> ListAnswer {
         version: u64::from(file.version),
         id: file.id,
         mode: u64::from(file.mode),
-        access_time: u64::from(file.access_time),
-        change_time: u64::from(file.change_time),
+        access_time: file.access_time,
+        change_time: file.change_time,
         name_length: file.name.len() as u64,
         ..ListAnswer::default()
     }

@@ -1,15 +1,13 @@
 //! Rename: an entry gets a new name; a file that had it is deleted in the same transaction.
 
 use crate::answers::{code, ChangeAnswer, Refusal};
-use crate::changes::{answer, changed_root, freed_table, transaction};
+use crate::changes::{answer, changed_entry, changed_root, freed_table, transaction};
 use crate::judge::{open_sound, Volume};
-use crate::layout::{
-    entry, name_is_good, new_name_is_good, put16, put32, Entry, FileIndex, SECTOR,
-};
+use crate::layout::{FileIndex, SECTOR};
 use crate::lists::Target;
 
 /// Gives the file another name, which may be another file's: that one is then deleted.
-pub fn rename(image: &[u8], old: &[u8], new: &[u8], time: u32, list: &mut [u8]) -> ChangeAnswer {
+pub fn rename(image: &[u8], old: &[u8], new: &[u8], time: u64, list: &mut [u8]) -> ChangeAnswer {
     answer(rename_file(image, old, new, time, list))
 }
 
@@ -17,11 +15,12 @@ fn rename_file(
     image: &[u8],
     old: &[u8],
     new: &[u8],
-    time: u32,
+    time: u64,
     list: &mut [u8],
 ) -> Result<u64, Refusal> {
     let sound = open_sound(image)?;
-    if !name_is_good(old) || !new_name_is_good(new) {
+    let edition = sound.edition();
+    if !edition.name_is_good(old) || !edition.new_name_is_good(new) || !edition.time_fits(time) {
         return Err(Refusal::new(code::BAD_ARGUMENT));
     }
     let (file, _) = sound.find(old).ok_or(Refusal::new(code::NOT_THERE))?;
@@ -45,21 +44,9 @@ fn rename_file(
 }
 
 /// The file's entry with its new name and zeros after it.
-fn renamed_entry(volume: Volume, file: FileIndex, name: &[u8], time: u32) -> Target {
-    let Entry(old) = volume.entry(file);
-    let mut contents = *old;
-    put32(
-        &mut contents,
-        entry::VERSION,
-        Entry(old).version().wrapping_add(1),
-    );
-    put32(&mut contents, entry::CHANGE_TIME, time);
-    put16(&mut contents, entry::NAME_LENGTH, name.len() as u16);
-    let (name_area, unused) = contents[entry::NAME..].split_at_mut(name.len());
-    name_area.copy_from_slice(name);
-    unused.fill(0);
-    Target {
-        sector: volume.geometry().entry_at(file),
-        contents,
-    }
+fn renamed_entry(volume: Volume, file: FileIndex, name: &[u8], time: u64) -> Target {
+    let mut target = changed_entry(volume, file, time);
+    target.contents[volume.edition().name()..].fill(0);
+    volume.edition().put_name(&mut target.contents, name);
+    target
 }

@@ -2,7 +2,7 @@
 //! only a short input, the magic, the version and the bounds can refuse it.
 
 use crate::answers::code;
-use crate::judge::{read_superblock, State};
+use crate::judge::{read_superblock, State, Superblock};
 use crate::layout::SECTOR;
 
 /// What the small program prints for this input; bytes after the first sector are ignored.
@@ -10,7 +10,9 @@ pub fn report(input: &[u8]) -> String {
     let Some(sector) = input.first_chunk::<SECTOR>() else {
         return refused(code::NOT_WHOLE_SECTORS);
     };
-    let (geometry, state) = match read_superblock(sector) {
+    let Superblock {
+        geometry, state, ..
+    } = match read_superblock(sector) {
         Ok(read) => read,
         Err(refusal) => return refused(refusal.code),
     };

@@ -26,27 +26,27 @@ pub enum Request {
         name: Vec<u8>,
         id: u64,
         mode: u32,
-        time: u32,
+        time: u64,
     },
     Delete {
         name: Vec<u8>,
-        time: u32,
+        time: u64,
     },
     Resize {
         name: Vec<u8>,
         size: u64,
-        time: u32,
+        time: u64,
     },
     Write {
         name: Vec<u8>,
         offset: u64,
         data: Vec<u8>,
-        time: u32,
+        time: u64,
     },
     Rename {
         old: Vec<u8>,
         new: Vec<u8>,
-        time: u32,
+        time: u64,
     },
 }
 
@@ -61,6 +61,22 @@ pub enum Answer {
 }
 
 impl Request {
+    /// The time that the call stores.
+    pub fn time(&self) -> Option<u64> {
+        match self {
+            Request::Summary
+            | Request::Check
+            | Request::Find { .. }
+            | Request::List { .. }
+            | Request::Read { .. } => None,
+            Request::Create { time, .. }
+            | Request::Delete { time, .. }
+            | Request::Resize { time, .. }
+            | Request::Write { time, .. }
+            | Request::Rename { time, .. } => Some(*time),
+        }
+    }
+
     /// The name of the file that the call is about; of a rename the old one.
     pub fn name(&self) -> Option<&[u8]> {
         match self {

@@ -14,6 +14,9 @@ struct Superblock {
 const SAMPLE: Superblock =
     Superblock { files: 255, extents: 4, extent_sectors: 128, magic: *b"/Goo/FS/", version: 1, journal_length: 0 };
 
+/// The versions of the two editions.
+const EDITIONS: [u16; 2] = [1, 2];
+
 impl Superblock {
     fn bytes(&self) -> Vec<u8> {
         let mut s = Vec::new();
@@ -48,7 +51,9 @@ impl Superblock {
 #[test]
 fn sample() {
     let nine = "files 255\nextents 4\nextent-sectors 128\ntable-sectors 1\njournal-at 257\ntable-at 289\ndata-at 290\nreserve-extents 1\nstate clean\n";
-    assert_eq!(SAMPLE.printed(), nine);
+    for version in EDITIONS {
+        assert_eq!(Superblock { version, ..SAMPLE }.printed(), nine);
+    }
 }
 
 #[test]
@@ -57,8 +62,10 @@ fn geometries_at_their_bounds() {
     for files in [255, 256, 1024, 1025, 65534, 65535] {
         for extents in [2, 127, 128, 129, 65535] {
             for extent_sectors in sizes {
-                let s = Superblock { files, extents, extent_sectors, ..SAMPLE };
-                assert_eq!(s.printed(), s.expected("clean"));
+                for version in EDITIONS {
+                    let s = Superblock { files, extents, extent_sectors, version, ..SAMPLE };
+                    assert_eq!(s.printed(), s.expected("clean"));
+                }
             }
         }
     }
@@ -66,14 +73,16 @@ fn geometries_at_their_bounds() {
 
 #[test]
 fn states() {
-    let with = |journal_length| Superblock { journal_length, ..SAMPLE };
-    for n in [1, 2, 513, 1023, 1024] {
-        assert_eq!(with(n).printed(), SAMPLE.expected(&format!("waiting {n}")));
+    for version in EDITIONS {
+        let with = |journal_length| Superblock { journal_length, version, ..SAMPLE };
+        for n in [1, 2, 513, 1023, 1024] {
+            assert_eq!(with(n).printed(), SAMPLE.expected(&format!("waiting {n}")));
+        }
+        for n in [1025, 1026, 32768, 65533, 65534] {
+            assert_eq!(with(n).printed(), SAMPLE.expected("damaged"));
+        }
+        assert_eq!(with(65535).printed(), SAMPLE.expected("unfinished"));
     }
-    for n in [1025, 1026, 32768, 65533, 65534] {
-        assert_eq!(with(n).printed(), SAMPLE.expected("damaged"));
-    }
-    assert_eq!(with(65535).printed(), SAMPLE.expected("unfinished"));
 }
 
 #[test]
@@ -90,7 +99,7 @@ fn refused_2_for_the_magic_or_the_version() {
         magic[k] ^= 1;
         assert_eq!(Superblock { magic, ..SAMPLE }.printed(), "refused 2\n");
     }
-    for version in [0, 2, 256, 257, 65535] {
+    for version in [0, 3, 256, 257, 258, 512, 65535] {
         assert_eq!(Superblock { version, ..SAMPLE }.printed(), "refused 2\n");
     }
 }
@@ -104,7 +113,9 @@ fn refused_3_for_the_bounds() {
         assert_eq!(Superblock { extents, ..SAMPLE }.printed(), "refused 3\n");
     }
     for extent_sectors in [0, 1, 127] {
-        assert_eq!(Superblock { extent_sectors, ..SAMPLE }.printed(), "refused 3\n");
+        for version in EDITIONS {
+            assert_eq!(Superblock { extent_sectors, version, ..SAMPLE }.printed(), "refused 3\n");
+        }
     }
 }
 

@@ -2,12 +2,12 @@
 //! one extent, every number of files, images of exactly the volume and one sector less.
 
 use crate::counts::{count, Compared};
-use crate::shared::{alike, calls, with_each_buffer, Both};
+use crate::shared::{alike, calls, on_both, with_each_buffer, Both};
 use oracle::draw::Draw;
-use oracle::layout::{put16, put64, Geometry, SECTOR};
+use oracle::layout::{put16, put64, Edition, Geometry, SECTOR};
 use oracle::power::{draw_cut, groups};
 use oracle::testing::cuts::recovery_length;
-use oracle::testing::images::{blank, put_file, table_entry};
+use oracle::testing::images::{blank_of, put_file, table_entry};
 use oracle::testing::requests::{create, delete, find, read, rename, resize, write};
 use oracle::testing::volumes::ANY_LIST;
 use oracle::testing::Subject;
@@ -160,11 +160,16 @@ fn edges_alike(image: &mut [u8], geometry: Geometry) {
     try_field((1 + geometry.files() as usize) * SECTOR, 2, 7);
 }
 
-fn one_geometry(files: u64, extents: u64, extent_sectors: u64, reserve: u64, seed: u64) {
+fn one_geometry(
+    edition: Edition,
+    (files, extents, extent_sectors): (u64, u64, u64),
+    reserve: u64,
+    seed: u64,
+) {
     let geometry = Geometry::new(files, extents, extent_sectors).expect("within the bounds");
     assert_eq!(geometry.reserve_extents(), reserve);
     let mut draw = Draw::new(seed);
-    let mut image = blank(geometry, geometry.end().0);
+    let mut image = blank_of(edition, geometry, geometry.end().0);
     let empty = [(b"none".to_vec(), 0)];
     all_alike(&image, geometry, &empty, &mut draw);
     let files = fill(&mut image, geometry, &mut draw);
@@ -181,70 +186,76 @@ fn one_geometry(files: u64, extents: u64, extent_sectors: u64, reserve: u64, see
 
 #[test]
 fn odd_extent_sectors() {
-    for (seed, extent_sectors) in [129, 131, 257, 255, 300, 1_001].into_iter().enumerate() {
-        one_geometry(255, 9, extent_sectors, 1, seed as u64);
-        one_geometry(
-            700 + extent_sectors % 300,
-            40,
-            extent_sectors,
-            1,
-            seed as u64,
-        );
-    }
+    on_both(|edition| {
+        for (seed, extent_sectors) in [129, 131, 257, 255, 300, 1_001].into_iter().enumerate() {
+            let files = 700 + extent_sectors % 300;
+            one_geometry(edition, (255, 9, extent_sectors), 1, seed as u64);
+            one_geometry(edition, (files, 40, extent_sectors), 1, seed as u64);
+        }
+    });
 }
 
 #[test]
 fn few_extents() {
-    for (seed, extents) in [2, 3, 127, 128, 129, 256, 257].into_iter().enumerate() {
-        one_geometry(255, extents, 128, 1, seed as u64);
-    }
+    on_both(|edition| {
+        for (seed, extents) in [2, 3, 127, 128, 129, 256, 257].into_iter().enumerate() {
+            one_geometry(edition, (255, extents, 128), 1, seed as u64);
+        }
+    });
 }
 
 #[test]
 fn every_number_of_files() {
-    for files in [255, 256, 257, 511, 512, 767, 1_023, 1_024, 1_025, 4_096] {
-        one_geometry(files, 12, 128, 1, files);
-    }
+    on_both(|edition| {
+        for files in [255, 256, 257, 511, 512, 767, 1_023, 1_024, 1_025, 4_096] {
+            one_geometry(edition, (files, 12, 128), 1, files);
+        }
+    });
 }
 
 /// T + 3 sectors to stage and S in an extent: the reserve has one extent up to 125 table sectors
 /// of extents of 128 sectors, then two.
 #[test]
 fn reserves_of_several_extents() {
-    one_geometry(255, 125 * 128, 128, 1, 1);
-    one_geometry(255, 125 * 128 + 1, 128, 2, 2);
-    one_geometry(300, 126 * 128, 129, 1, 3);
-    one_geometry(300, 126 * 128 + 1, 129, 2, 4);
-    one_geometry(1_024, 253 * 128, 128, 2, 5);
-    one_geometry(1_024, 253 * 128 + 1, 128, 3, 6);
+    on_both(|edition| {
+        one_geometry(edition, (255, 125 * 128, 128), 1, 1);
+        one_geometry(edition, (255, 125 * 128 + 1, 128), 2, 2);
+        one_geometry(edition, (300, 126 * 128, 129), 1, 3);
+        one_geometry(edition, (300, 126 * 128 + 1, 129), 2, 4);
+        one_geometry(edition, (1_024, 253 * 128, 128), 2, 5);
+        one_geometry(edition, (1_024, 253 * 128 + 1, 128), 3, 6);
+    });
 }
 
 /// Volumes far longer than any image are refused, and no product overflows.
 #[test]
 fn geometries_too_large_for_the_image() {
-    for (files, extents, extent_sectors) in [
-        (255, 2, u64::from(u32::MAX)),
-        (1_024, 65_535, u64::from(u32::MAX)),
-        (1_024, 65_535, 1 << 31),
-        (65_535, 65_535, u64::from(u32::MAX)),
-        (65_535, 65_535, 1 << 31),
-        (255, 65_535, 128),
-        (255, 32_768, 1 << 25),
-    ] {
-        let geometry = Geometry::new(files, extents, extent_sectors).expect("within the bounds");
-        let image = blank_start(geometry);
-        count(Compared::DamagedImages, 1);
-        for request in calls() {
-            let (answer, _) = alike(&request, &image, ANY_LIST);
-            assert_eq!(answer.code(), 3);
+    on_both(|edition| {
+        for (files, extents, extent_sectors) in [
+            (255, 2, u64::from(u32::MAX)),
+            (1_024, 65_535, u64::from(u32::MAX)),
+            (1_024, 65_535, 1 << 31),
+            (65_535, 65_535, u64::from(u32::MAX)),
+            (65_535, 65_535, 1 << 31),
+            (255, 65_535, 128),
+            (255, 32_768, 1 << 25),
+        ] {
+            let geometry =
+                Geometry::new(files, extents, extent_sectors).expect("within the bounds");
+            let image = blank_start(edition, geometry);
+            count(Compared::DamagedImages, 1);
+            for request in calls() {
+                let (answer, _) = alike(&request, &image, ANY_LIST);
+                assert_eq!(answer.code(), 3);
+            }
         }
-    }
+    });
 }
 
 /// The first sectors of a volume that is much longer.
-fn blank_start(geometry: Geometry) -> Vec<u8> {
+fn blank_start(edition: Edition, geometry: Geometry) -> Vec<u8> {
     let small = Geometry::new(255, 2, 128).expect("within the bounds");
-    let mut image = blank(small, 2_000);
+    let mut image = blank_of(edition, small, 2_000);
     put16(&mut image, 0, geometry.files() as u16);
     put16(&mut image, 2, geometry.extents() as u16);
     image[4..8].copy_from_slice(&(geometry.extent_sectors() as u32).to_be_bytes());

@@ -3,50 +3,52 @@
 //! reserve.
 
 use crate::full_volume::{alone, geometry, one_file};
-use crate::shared::{alike, Both};
-use oracle::layout::{Geometry, SECTOR};
+use crate::shared::{alike, on_both, Both};
+use oracle::layout::{Edition, Geometry, SECTOR};
 use oracle::lists::RECORD;
 use oracle::power::{groups, Cut};
-use oracle::testing::images::{blank, put_file};
+use oracle::testing::images::{blank_of, put_file};
 use oracle::testing::requests::{delete, rename, resize, write};
 use oracle::testing::Subject;
 use oracle::Request;
 
 #[test]
 fn longest_delete() {
-    let _alone = alone();
-    let geometry = geometry();
-    let mut image = one_file();
-    let size = geometry.largest_size();
+    on_both(|edition| {
+        let _alone = alone();
+        let geometry = geometry();
+        let mut image = one_file(edition);
+        let size = geometry.largest_size();
 
-    let request = delete(b"all");
-    let length = 1_051 * RECORD;
-    let (answer, list) = alike(&request, &image, length);
-    assert_eq!((answer.code(), list.len()), (0, length));
-    alike(&request, &image, length + 1);
-    assert_eq!(alike(&request, &image, length - 1).0.code(), 14);
-    let groups = groups(&list);
-    let sizes: Vec<usize> = groups.iter().map(Vec::len).collect();
-    assert_eq!(sizes, [514 + 17, 1, 514, 1]);
+        let request = delete(b"all");
+        let length = 1_051 * RECORD;
+        let (answer, list) = alike(&request, &image, length);
+        assert_eq!((answer.code(), list.len()), (0, length));
+        alike(&request, &image, length + 1);
+        assert_eq!(alike(&request, &image, length - 1).0.code(), 14);
+        let groups = groups(&list);
+        let sizes: Vec<usize> = groups.iter().map(Vec::len).collect();
+        assert_eq!(sizes, [514 + 17, 1, 514, 1]);
 
-    // The next longest, a resize, and a write that finds no room.
-    for new_size in [0, 1, 65_536, 128 * 65_536, size - 65_536, size - 1, size] {
-        alike(&resize(b"all", new_size), &image, length);
-    }
-    assert_eq!(
-        alike(&resize(b"all", size + 1), &image, length).0.code(),
-        13
-    );
-    alike(
-        &write(b"all", size - 70_000, vec![3; 65_536]),
-        &image,
-        length,
-    );
+        // The next longest, a resize, and a write that finds no room.
+        for new_size in [0, 1, 65_536, 128 * 65_536, size - 65_536, size - 1, size] {
+            alike(&resize(b"all", new_size), &image, length);
+        }
+        assert_eq!(
+            alike(&resize(b"all", size + 1), &image, length).0.code(),
+            13
+        );
+        alike(
+            &write(b"all", size - 70_000, vec![3; 65_536]),
+            &image,
+            length,
+        );
 
-    cut_and_recovered(&mut image, geometry, &list, 514);
-    let mut expected = one_file();
-    assert_eq!(oracle::carry_out(&mut expected, &list), 0);
-    same_where_written(&image, &expected, geometry);
+        cut_and_recovered(&mut image, geometry, &list, 514);
+        let mut expected = one_file(edition);
+        assert_eq!(oracle::carry_out(&mut expected, &list), 0);
+        same_where_written(&image, &expected, geometry);
+    });
 }
 
 /// The power fails in the middle of the targets; recovery ends the change.
@@ -87,37 +89,39 @@ fn same_where_written(image: &[u8], expected: &[u8], geometry: Geometry) {
 /// Onto the file with all usable extents, from an entry below it and from one above it.
 #[test]
 fn longest_rename() {
-    let _alone = alone();
-    let geometry = geometry();
-    for (index, replaced) in [(0, 1_023), (1_023, 0)] {
-        let before = two_files(geometry, index, replaced);
-        let request = rename(b"new", b"all");
-        let length = 1_053 * RECORD;
-        let (answer, list) = alike(&request, &before, length);
-        assert_eq!((answer.code(), list.len()), (0, length));
-        alike(&request, &before, length + 1);
-        assert_eq!(alike(&request, &before, length - 1).0.code(), 14);
-        let sizes: Vec<usize> = groups(&list).iter().map(Vec::len).collect();
-        assert_eq!(sizes, [515 + 17, 1, 515, 1]);
-        // Away from the full file only root and entry move.
-        let (away, list_away) = alike(&rename(b"all", b"old"), &before, length);
-        assert_eq!((away.code(), list_away.len()), (0, 11 * RECORD));
-        let (onto, list_onto) = alike(&rename(b"all", b"new"), &before, length);
-        assert_eq!((onto.code(), list_onto.len()), (0, 13 * RECORD));
+    on_both(|edition| {
+        let _alone = alone();
+        let geometry = geometry();
+        for (index, replaced) in [(0, 1_023), (1_023, 0)] {
+            let before = two_files(edition, geometry, index, replaced);
+            let request = rename(b"new", b"all");
+            let length = 1_053 * RECORD;
+            let (answer, list) = alike(&request, &before, length);
+            assert_eq!((answer.code(), list.len()), (0, length));
+            alike(&request, &before, length + 1);
+            assert_eq!(alike(&request, &before, length - 1).0.code(), 14);
+            let sizes: Vec<usize> = groups(&list).iter().map(Vec::len).collect();
+            assert_eq!(sizes, [515 + 17, 1, 515, 1]);
+            // Away from the full file only root and entry move.
+            let (away, list_away) = alike(&rename(b"all", b"old"), &before, length);
+            assert_eq!((away.code(), list_away.len()), (0, 11 * RECORD));
+            let (onto, list_onto) = alike(&rename(b"all", b"new"), &before, length);
+            assert_eq!((onto.code(), list_onto.len()), (0, 13 * RECORD));
 
-        let mut image = before;
-        cut_and_recovered(&mut image, geometry, &list, 515);
-        let mut expected = two_files(geometry, index, replaced);
-        assert_eq!(oracle::carry_out(&mut expected, &list), 0);
-        same_where_written(&image, &expected, geometry);
-        let found = oracle::find(&image, b"all");
-        assert_eq!((found.code, found.index, found.size), (0, index, 0));
-    }
+            let mut image = before;
+            cut_and_recovered(&mut image, geometry, &list, 515);
+            let mut expected = two_files(edition, geometry, index, replaced);
+            assert_eq!(oracle::carry_out(&mut expected, &list), 0);
+            same_where_written(&image, &expected, geometry);
+            let found = oracle::find(&image, b"all");
+            assert_eq!((found.code, found.index, found.size), (0, index, 0));
+        }
+    });
 }
 
 /// "new" is empty, "all" has all usable extents.
-fn two_files(geometry: Geometry, new: u64, all: u64) -> Vec<u8> {
-    let mut image = blank(geometry, geometry.end().0);
+fn two_files(edition: Edition, geometry: Geometry, new: u64, all: u64) -> Vec<u8> {
+    let mut image = blank_of(edition, geometry, geometry.end().0);
     let extents: Vec<u64> = (0..geometry.usable_extents()).collect();
     let size = geometry.largest_size();
     put_file(&mut image, geometry, new, b"new", 0, &[]);
@@ -130,32 +134,34 @@ fn two_files(geometry: Geometry, new: u64, all: u64) -> Vec<u8> {
 /// and, made by hand, of 129.
 #[test]
 fn renames_that_need_the_whole_reserve() {
-    let _alone = alone();
-    for (table_sectors, extent_sectors, reserve, unused) in [
-        (125, 128, 1, 0),
-        (126, 128, 2, 127),
-        (253, 128, 2, 0),
-        (254, 128, 3, 127),
-        (509, 128, 4, 0),
-        (510, 128, 5, 127),
-        (126, 129, 1, 0),
-        (127, 129, 2, 128),
-    ] {
-        // The last table sector has an entry before the reserve's.
-        let extents = table_sectors * 128;
-        let geometry = Geometry::new(255, extents, extent_sectors).expect("within the bounds");
-        assert_eq!(geometry.reserve_extents(), reserve);
-        let mut image = two_files(geometry, 0, 254);
-        let targets = table_sectors as usize + 3;
-        let length = (2 * targets + targets.div_ceil(32) + 6) * RECORD;
-        let request = rename(b"new", b"all");
-        let (answer, list) = alike(&request, &image, length);
-        assert_eq!((answer.code(), list.len()), (0, length));
-        assert_eq!(alike(&request, &image, length - 1).0.code(), 14);
-        let last_copy = groups(&list)[0][targets - 1].sector;
-        assert_eq!(last_copy + 1 + unused, geometry.end().0);
-        cut_and_recovered(&mut image, geometry, &list, targets);
-        assert_eq!(oracle::find(&image, b"all").size, 0);
-        assert_eq!(oracle::find(&image, b"new").code, 9);
-    }
+    on_both(|edition| {
+        let _alone = alone();
+        for (table_sectors, extent_sectors, reserve, unused) in [
+            (125, 128, 1, 0),
+            (126, 128, 2, 127),
+            (253, 128, 2, 0),
+            (254, 128, 3, 127),
+            (509, 128, 4, 0),
+            (510, 128, 5, 127),
+            (126, 129, 1, 0),
+            (127, 129, 2, 128),
+        ] {
+            // The last table sector has an entry before the reserve's.
+            let extents = table_sectors * 128;
+            let geometry = Geometry::new(255, extents, extent_sectors).expect("within the bounds");
+            assert_eq!(geometry.reserve_extents(), reserve);
+            let mut image = two_files(edition, geometry, 0, 254);
+            let targets = table_sectors as usize + 3;
+            let length = (2 * targets + targets.div_ceil(32) + 6) * RECORD;
+            let request = rename(b"new", b"all");
+            let (answer, list) = alike(&request, &image, length);
+            assert_eq!((answer.code(), list.len()), (0, length));
+            assert_eq!(alike(&request, &image, length - 1).0.code(), 14);
+            let last_copy = groups(&list)[0][targets - 1].sector;
+            assert_eq!(last_copy + 1 + unused, geometry.end().0);
+            cut_and_recovered(&mut image, geometry, &list, targets);
+            assert_eq!(oracle::find(&image, b"all").size, 0);
+            assert_eq!(oracle::find(&image, b"new").code, 9);
+        }
+    });
 }

@@ -13,6 +13,7 @@ mod counts;
 mod cut_short;
 mod cuts;
 mod damage;
+mod editions;
 mod faults;
 mod formats;
 mod full_volume;

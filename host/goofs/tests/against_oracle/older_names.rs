@@ -2,14 +2,16 @@
 //! read, written, resized, deleted and renamed away; no call gives such a name again.
 
 use crate::counts::{count, Compared};
-use crate::shared::{with_each_buffer, Both};
+use crate::shared::{on_both, with_each_buffer, Both};
 use oracle::draw::Draw;
+use oracle::layout::Edition;
 use oracle::testing::requests::{create, delete, find, read, rename, resize, shortened, write};
-use oracle::testing::volumes::{some_files, Volume};
+use oracle::testing::volumes::{some_files_of, Volume};
 use oracle::Request;
 
 /// Each has one byte that a new name can't have: 32, 47, 127, 1, 10, 128, 255, at an end or inside.
-fn older_names() -> Vec<Vec<u8>> {
+fn older_names(edition: Edition) -> Vec<Vec<u8>> {
+    let longest = edition.longest_name();
     vec![
         b" ".to_vec(),
         b"/".to_vec(),
@@ -21,15 +23,15 @@ fn older_names() -> Vec<Vec<u8>> {
         b"dir/file".to_vec(),
         b"line\n".to_vec(),
         b"\x80".to_vec(),
-        vec![255; 476],
-        [&[b'x'; 475][..], b" "].concat(),
+        vec![255; longest],
+        [&vec![b'x'; longest - 1][..], b" "].concat(),
     ]
 }
 
 /// "abc" and "cab" are gone; the file of this name has the entry and the extent of "cab", and one
 /// extent is free.
-fn with_older_file(name: &[u8]) -> Volume {
-    let mut volume = some_files();
+fn with_older_file(edition: Edition, name: &[u8]) -> Volume {
+    let mut volume = some_files_of(edition);
     volume.done(&delete(b"abc"));
     volume.done(&delete(b"cab"));
     volume.put_file(5, name, 700, &[4]);
@@ -40,60 +42,64 @@ fn with_older_file(name: &[u8]) -> Volume {
 
 #[test]
 fn every_call() {
-    for name in older_names() {
-        let volume = with_older_file(&name);
-        let data = Draw::new(62).bytes(900);
-        for (expected, request) in [
-            (0, Request::Check),
-            (0, find(&name)),
-            (0, Request::List { index: 5 }),
-            (0, read(&name, 0, 65_536)),
-            (0, read(&name, 699, 9)),
-            (12, read(&name, 701, 9)),
-            (0, write(&name, 0, data.clone())),
-            (0, write(&name, 700, data.clone())),
-            (0, write(&name, 5, Vec::new())),
-            (0, resize(&name, 0)),
-            (0, resize(&name, 700)),
-            (0, resize(&name, 701)),
-            (0, delete(&name)),
-            (0, rename(&name, b"typed")),
-            (0, rename(&name, b"ab")),
-            (0, rename(&name, b"a")),
-            // 8 goes before 10, and before a rename to itself is done.
-            (8, create(&name, 77)),
-            (8, create(&name, 1)),
-            (8, rename(&name, &name)),
-            (8, rename(b"ab", &name)),
-            (8, rename(b"none", &name)),
-        ] {
-            count(Compared::ArgumentEdges, 1);
-            let (code, _) = with_each_buffer(&request, &volume.image);
-            assert_eq!(code, expected, "{}", shortened(&request));
+    on_both(|edition| {
+        for name in older_names(edition) {
+            let volume = with_older_file(edition, &name);
+            let data = Draw::new(62).bytes(900);
+            for (expected, request) in [
+                (0, Request::Check),
+                (0, find(&name)),
+                (0, Request::List { index: 5 }),
+                (0, read(&name, 0, 65_536)),
+                (0, read(&name, 699, 9)),
+                (12, read(&name, 701, 9)),
+                (0, write(&name, 0, data.clone())),
+                (0, write(&name, 700, data.clone())),
+                (0, write(&name, 5, Vec::new())),
+                (0, resize(&name, 0)),
+                (0, resize(&name, 700)),
+                (0, resize(&name, 701)),
+                (0, delete(&name)),
+                (0, rename(&name, b"typed")),
+                (0, rename(&name, b"ab")),
+                (0, rename(&name, b"a")),
+                // 8 goes before 10, and before a rename to itself is done.
+                (8, create(&name, 77)),
+                (8, create(&name, 1)),
+                (8, rename(&name, &name)),
+                (8, rename(b"ab", &name)),
+                (8, rename(b"none", &name)),
+            ] {
+                count(Compared::ArgumentEdges, 1);
+                let (code, _) = with_each_buffer(&request, &volume.image);
+                assert_eq!(code, expected, "{}", shortened(&request));
+            }
         }
-    }
+    });
 }
 
 /// The same, each list landed, with the ledger of the calls.
 #[test]
 fn a_life_of_each() {
-    for name in older_names() {
-        let mut volume = with_older_file(&name);
-        let bytes = Draw::new(63).bytes(65_536);
-        for request in [
-            write(&name, 700, bytes.clone()),
-            resize(&name, 65_000),
-            rename(&name, b"typed"),
-            write(b"typed", 65_000, bytes),
-            rename(b"ab", b"typed"),
-        ] {
-            assert_eq!(volume.call(&Both, &request).0, 0, "{}", shortened(&request));
+    on_both(|edition| {
+        for name in older_names(edition) {
+            let mut volume = with_older_file(edition, &name);
+            let bytes = Draw::new(63).bytes(65_536);
+            for request in [
+                write(&name, 700, bytes.clone()),
+                resize(&name, 65_000),
+                rename(&name, b"typed"),
+                write(b"typed", 65_000, bytes),
+                rename(b"ab", b"typed"),
+            ] {
+                assert_eq!(volume.call(&Both, &request).0, 0, "{}", shortened(&request));
+            }
+            assert_eq!(volume.call(&Both, &find(&name)).0, 9);
+            assert_eq!(volume.call(&Both, &rename(b"typed", &name)).0, 8);
+            let mut volume = with_older_file(edition, &name);
+            assert_eq!(volume.call(&Both, &delete(&name)).0, 0);
+            assert_eq!(volume.call(&Both, &create(&name, 77)).0, 8);
+            assert_eq!(volume.call(&Both, &find(&name)).0, 9);
         }
-        assert_eq!(volume.call(&Both, &find(&name)).0, 9);
-        assert_eq!(volume.call(&Both, &rename(b"typed", &name)).0, 8);
-        let mut volume = with_older_file(&name);
-        assert_eq!(volume.call(&Both, &delete(&name)).0, 0);
-        assert_eq!(volume.call(&Both, &create(&name, 77)).0, 8);
-        assert_eq!(volume.call(&Both, &find(&name)).0, 9);
-    }
+    });
 }

@@ -1,10 +1,11 @@
 //! The reading calls on the sample volume, empty and with files.
 
-use crate::shared::{alike, calls_alike};
+use crate::shared::{alike, calls_alike, on_both};
 use oracle::draw::Draw;
 use oracle::layout::SECTOR;
 use oracle::testing::requests::{create, delete, find, read, write};
-use oracle::testing::volumes::{some_files, Volume, SAMPLE};
+use oracle::testing::volumes::{sample_of, some_files_of, Volume, SAMPLE};
+use oracle::testing::Oracle;
 use oracle::{Answer, Request};
 
 /// Summary, check, every list index and, of every file, find and some reads.
@@ -33,54 +34,63 @@ fn everything_alike(volume: &Volume) {
 
 #[test]
 fn empty() {
-    let volume = Volume::sample();
-    everything_alike(&volume);
-    let (answer, _) = alike(&Request::Summary, &volume.image, 0);
-    let Answer::Summary(told) = answer else {
-        panic!("a summary's answer");
-    };
-    assert_eq!(
-        (told.files, told.extents, told.extent_sectors, told.state),
-        (255, 4, 128, 0)
-    );
+    on_both(|edition| {
+        let volume = Volume::formatted(&Oracle, &sample_of(edition));
+        everything_alike(&volume);
+        let (answer, _) = alike(&Request::Summary, &volume.image, 0);
+        let Answer::Summary(told) = answer else {
+            panic!("a summary's answer");
+        };
+        assert_eq!(told.edition, edition.number());
+        assert_eq!(
+            (told.files, told.extents, told.extent_sectors, told.state),
+            (255, 4, 128, 0)
+        );
+    });
 }
 
 #[test]
 fn with_files() {
-    let mut volume = Volume::sample();
-    let mut draw = Draw::new(1);
-    volume.done(&create(b"alpha", 1));
-    volume.done(&create(&[b'x'; 476], u64::MAX));
-    volume.done(&create(b"beta", 3));
-    everything_alike(&volume);
-    volume.done(&write(b"beta", 0, draw.bytes(65_536)));
-    volume.done(&write(b"alpha", 0, draw.bytes(10)));
-    volume.done(&write(b"beta", 65_536, draw.bytes(65_535)));
-    everything_alike(&volume);
-    // The file's second extent then stands before its first.
-    volume.done(&delete(b"alpha"));
-    volume.done(&write(b"beta", 131_071, draw.bytes(1)));
-    volume.done(&create(b"gamma", 1));
-    everything_alike(&volume);
-    everything_alike(&some_files());
+    on_both(|edition| {
+        let mut volume = Volume::formatted(&Oracle, &sample_of(edition));
+        let mut draw = Draw::new(1);
+        volume.done(&create(b"alpha", 1));
+        volume.done(&create(&vec![b'x'; edition.longest_name()], u64::MAX));
+        volume.done(&create(b"beta", 3));
+        everything_alike(&volume);
+        volume.done(&write(b"beta", 0, draw.bytes(65_536)));
+        volume.done(&write(b"alpha", 0, draw.bytes(10)));
+        volume.done(&write(b"beta", 65_536, draw.bytes(65_535)));
+        everything_alike(&volume);
+        // The file's second extent then stands before its first.
+        volume.done(&delete(b"alpha"));
+        volume.done(&write(b"beta", 131_071, draw.bytes(1)));
+        volume.done(&create(b"gamma", 1));
+        everything_alike(&volume);
+        everything_alike(&some_files_of(edition));
+    });
 }
 
 #[test]
 fn a_full_directory() {
-    let mut volume = Volume::sample();
-    for number in 0..SAMPLE.files {
-        // From 1 to 255 bytes; each name is the start of the next.
-        let name = vec![b'n'; number as usize + 1];
-        volume.done(&create(&name, 1_000 - number % 100 + 1_000 * number));
-    }
-    everything_alike(&volume);
-    alike(&find(&[b'n'; 256]), &volume.image, 0);
+    on_both(|edition| {
+        let mut volume = Volume::formatted(&Oracle, &sample_of(edition));
+        for number in 0..SAMPLE.files {
+            // From 1 to 255 bytes; each name is the start of the next.
+            let name = vec![b'n'; number as usize + 1];
+            volume.done(&create(&name, 1_000 - number % 100 + 1_000 * number));
+        }
+        everything_alike(&volume);
+        alike(&find(&[b'n'; 256]), &volume.image, 0);
+    });
 }
 
 #[test]
 fn an_image_longer_than_its_volume() {
-    let mut volume = some_files();
-    let noise = Draw::new(2).bytes(7 * SECTOR);
-    volume.image.extend(noise);
-    everything_alike(&volume);
+    on_both(|edition| {
+        let mut volume = some_files_of(edition);
+        let noise = Draw::new(2).bytes(7 * SECTOR);
+        volume.image.extend(noise);
+        everything_alike(&volume);
+    });
 }

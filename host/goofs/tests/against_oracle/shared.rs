@@ -3,6 +3,7 @@
 
 use crate::counts::{count, Compared};
 use oracle::answers::{code, CheckAnswer, FormatRecordAnswer, RecoverAnswer, SliceAnswer};
+use oracle::layout::Edition;
 use oracle::testing::buffers::{LentBuffer, LentScratch};
 use oracle::testing::requests::{create, delete, find, read, rename, resize, shortened, write};
 use oracle::testing::volumes::ANY_LIST;
@@ -29,6 +30,7 @@ pub fn ask(request: &Request, image: &[u8], buffer: &mut [u8]) -> Answer {
                 extent_sectors,
                 state,
                 entries,
+                edition,
             }
         )),
         Request::Check => Answer::Check(as_oracle!(
@@ -185,6 +187,7 @@ impl Subject for Both {
         let expected = Oracle.format_record(format, position, output_length);
         let mut output = LentBuffer::new(output_length);
         let FormatRequest {
+            edition,
             sectors,
             files,
             id,
@@ -192,7 +195,16 @@ impl Subject for Both {
             time,
         } = *format;
         let answer = as_oracle!(
-            goofs::format_record(sectors, files, id, mode, time, position, output.lent()),
+            goofs::format_record(
+                sectors,
+                files,
+                edition,
+                id,
+                mode,
+                time,
+                position,
+                output.lent()
+            ),
             FormatRecordAnswer { code, length }
         );
         let filled = answer.length as usize;
@@ -247,6 +259,22 @@ fn same_bytes(found: &[u8], expected: &[u8], what: impl Fn() -> String) {
         let at = at.expect("they differ somewhere");
         let (found, expected) = (found[at], expected[at]);
         panic!("{}: byte {at} is {found}, not {expected}", what());
+    }
+}
+
+/// The latest time that the edition stores.
+pub fn latest_time(edition: Edition) -> u64 {
+    match edition {
+        Edition::First => 0xffff_ffff,
+        Edition::Second => u64::MAX,
+    }
+}
+
+/// Runs a test on each edition; the last line that it printed says on which one it failed.
+pub fn on_both(test: impl Fn(Edition)) {
+    for edition in Edition::BOTH {
+        println!("edition {}", edition.number());
+        test(edition);
     }
 }
 

@@ -164,20 +164,22 @@ fn owners(ledger: &Ledger) -> Vec<Option<(u16, u16)>> {
 fn expected_target(before: &Ledger, after: &Ledger, image: &[u8], sector: u64) -> [u8; SECTOR] {
     let geometry = before.geometry();
     let mut contents = old_sector(image, sector);
+    let places = places(before.edition());
     if sector == 1 {
         put32(&mut contents, 0, before.root().version.wrapping_add(1));
-        put32(&mut contents, 20, after.root().change_time);
+        let change_time = after.root().change_time;
+        put_time(&mut contents, places.root_change_time, change_time, places);
     } else if sector < geometry.journal_at().0 {
         let index = (sector - 2) as usize;
         match (&before.slots()[index], &after.slots()[index]) {
             (_, None) => contents = [0; SECTOR],
-            (None, Some(file)) => contents = fresh_entry(file),
+            (None, Some(file)) => contents = fresh_entry(file, places),
             (Some(old), Some(file)) => {
                 put64(&mut contents, 2, file.bytes.len() as u64);
                 put32(&mut contents, 10, file.version);
-                put32(&mut contents, 30, file.change_time);
+                put_time(&mut contents, places.change_time, file.change_time, places);
                 if old.name != file.name {
-                    put_name(&mut contents, &file.name);
+                    put_name(&mut contents, &file.name, places);
                 }
             }
         }
@@ -195,22 +197,53 @@ fn expected_target(before: &Ledger, after: &Ledger, image: &[u8], sector: u64) -
     contents
 }
 
-fn fresh_entry(file: &File) -> [u8; SECTOR] {
+/// Where the edition puts the fields after an access time.
+#[derive(Clone, Copy)]
+struct Places {
+    time_bytes: usize,
+    root_change_time: usize,
+    change_time: usize,
+    name_length: usize,
+    name: usize,
+}
+
+fn places(edition: u64) -> Places {
+    let [time_bytes, root_change_time, change_time, name_length, name] = match edition {
+        1 => [4, 20, 30, 34, 36],
+        _ => [8, 24, 34, 42, 44],
+    };
+    Places {
+        time_bytes,
+        root_change_time,
+        change_time,
+        name_length,
+        name,
+    }
+}
+
+fn put_time(contents: &mut [u8; SECTOR], at: usize, time: u64, places: Places) {
+    let bytes = time.to_be_bytes();
+    let narrowed = &bytes[8 - places.time_bytes..];
+    contents[at..at + places.time_bytes].copy_from_slice(narrowed);
+}
+
+fn fresh_entry(file: &File, places: Places) -> [u8; SECTOR] {
     let mut contents = [0; SECTOR];
     put16(&mut contents, 0, 65_535);
     put64(&mut contents, 14, file.id);
     put32(&mut contents, 22, file.mode);
-    put32(&mut contents, 26, file.access_time);
-    put32(&mut contents, 30, file.change_time);
-    put_name(&mut contents, &file.name);
+    put_time(&mut contents, 26, file.access_time, places);
+    put_time(&mut contents, places.change_time, file.change_time, places);
+    put_name(&mut contents, &file.name, places);
     contents
 }
 
 /// A new name; the bytes after it are zero.
-fn put_name(contents: &mut [u8; SECTOR], name: &[u8]) {
-    contents[36..].fill(0);
-    put16(contents, 34, name.len() as u16);
-    contents[36..36 + name.len()].copy_from_slice(name);
+fn put_name(contents: &mut [u8; SECTOR], name: &[u8], places: Places) {
+    put16(contents, places.name_length, name.len() as u16);
+    let (start, unused) = contents[places.name..].split_at_mut(name.len());
+    start.copy_from_slice(name);
+    unused.fill(0);
 }
 
 fn old_sector(image: &[u8], sector: u64) -> [u8; SECTOR] {

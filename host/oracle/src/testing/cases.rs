@@ -1,11 +1,11 @@
-//! The sample's cases P2 to P10 and a full directory, put to a subject.
+//! The sample's cases P2 to P10 and a full directory, put to a subject in both editions.
 
 use super::requests::{create, delete, find, resize, write};
-use super::volumes::{Volume, SAMPLE};
+use super::volumes::{sample_of, Volume};
 use super::Subject;
 use crate::answers::code;
 use crate::draw::Draw;
-use crate::layout::{get16, get32, superblock, SECTOR};
+use crate::layout::{get16, get32, superblock, Edition, SECTOR};
 use crate::lists::{BARRIER, CONTENTS, RECORD};
 use crate::power::sector_numbers;
 use crate::request::{Answer, Request};
@@ -18,10 +18,10 @@ struct Sample<'s> {
 }
 
 impl Sample<'_> {
-    fn new(subject: &dyn Subject) -> Sample<'_> {
+    fn new(subject: &dyn Subject, edition: Edition) -> Sample<'_> {
         Sample {
             subject,
-            volume: Volume::formatted(subject, &SAMPLE),
+            volume: Volume::formatted(subject, &sample_of(edition)),
         }
     }
 
@@ -44,8 +44,17 @@ impl Sample<'_> {
 }
 
 pub fn p2_to_p5_formats(subject: &dyn Subject) {
+    for edition in Edition::BOTH {
+        p2_to_p5_formats_of(subject, edition);
+    }
+}
+
+fn p2_to_p5_formats_of(subject: &dyn Subject, edition: Edition) {
     let first_record = |sectors| {
-        let format = FormatRequest { sectors, ..SAMPLE };
+        let format = FormatRequest {
+            sectors,
+            ..sample_of(edition)
+        };
         subject.format_record(&format, 0, RECORD)
     };
     for (sectors, extent_sectors, extents) in [
@@ -66,7 +75,13 @@ pub fn p2_to_p5_formats(subject: &dyn Subject) {
 }
 
 pub fn p6_first_create(subject: &dyn Subject) {
-    let mut sample = Sample::new(subject);
+    for edition in Edition::BOTH {
+        p6_first_create_of(subject, edition);
+    }
+}
+
+fn p6_first_create_of(subject: &dyn Subject, edition: Edition) {
+    let mut sample = Sample::new(subject, edition);
     let list = sample.call(0, &create(b"first", 1));
     assert_eq!(list.len(), 5_808);
     let expected = [
@@ -76,7 +91,13 @@ pub fn p6_first_create(subject: &dyn Subject) {
 }
 
 pub fn p7_to_p9_full_files(subject: &dyn Subject) {
-    let mut sample = Sample::new(subject);
+    for edition in Edition::BOTH {
+        p7_to_p9_full_files_of(subject, edition);
+    }
+}
+
+fn p7_to_p9_full_files_of(subject: &dyn Subject, edition: Edition) {
+    let mut sample = Sample::new(subject, edition);
     let mut draw = Draw::new(7);
     sample.call(0, &create(b"one", 1));
     sample.call(code::BAD_ARGUMENT, &write(b"one", 0, draw.bytes(65_537)));
@@ -108,14 +129,22 @@ pub fn p7_to_p9_full_files(subject: &dyn Subject) {
 }
 
 pub fn p10_longest_name(subject: &dyn Subject) {
-    let mut sample = Sample::new(subject);
-    sample.call(0, &create(&[b'n'; 476], 1));
-    sample.call(code::BAD_ARGUMENT, &create(&[b'm'; 477], 2));
+    for (edition, longest) in [(Edition::First, 476), (Edition::Second, 468)] {
+        let mut sample = Sample::new(subject, edition);
+        sample.call(0, &create(&vec![b'n'; longest], 1));
+        sample.call(code::BAD_ARGUMENT, &create(&vec![b'm'; longest + 1], 2));
+    }
 }
 
 /// All 255 entries are taken; then some are free again, and so are their ids.
 pub fn full_directory(subject: &dyn Subject) {
-    let mut sample = Sample::new(subject);
+    for edition in Edition::BOTH {
+        full_directory_of(subject, edition);
+    }
+}
+
+fn full_directory_of(subject: &dyn Subject, edition: Edition) {
+    let mut sample = Sample::new(subject, edition);
     let name = |number: u64| format!("file-{number}").into_bytes();
     for number in 1..=255 {
         sample.call(0, &create(&name(number), number));

@@ -4,11 +4,11 @@
 use super::audit::audit;
 use super::requests::{create, delete, rename, resize, write};
 use super::slices::{differing, expected_slice};
-use super::volumes::{format_list, Volume, ANY_LIST, SAMPLE};
+use super::volumes::{format_list, sample_of, Volume, ANY_LIST};
 use super::{Counts, Oracle, Subject};
 use crate::answers::{code, state, Refusal, SliceAnswer, SummaryAnswer};
 use crate::draw::Draw;
-use crate::layout::superblock;
+use crate::layout::{superblock, Edition};
 use crate::ledger::Ledger;
 use crate::lists::RECORD;
 use crate::power::{draw_cut, every_cut, groups, Cut, Group};
@@ -16,8 +16,8 @@ use crate::request::{Answer, Request};
 use crate::FormatRequest;
 
 /// The sample: "alpha" has two of the three usable extents, "beta" is empty.
-pub fn two_files() -> Volume {
-    let mut volume = Volume::sample();
+pub fn two_files(edition: Edition) -> Volume {
+    let mut volume = Volume::formatted(&Oracle, &sample_of(edition));
     let mut draw = Draw::new(11);
     volume.done(&create(b"alpha", 1));
     volume.done(&create(b"beta", 2));
@@ -55,17 +55,17 @@ fn calls_with_lists(draw: &mut Draw) -> Vec<Request> {
 }
 
 /// Cuts each kind of call on the sample everywhere.
-pub fn cut_each_kind_of_call(subject: &dyn Subject) -> Counts {
+pub fn cut_each_kind_of_call(subject: &dyn Subject, edition: Edition) -> Counts {
     let mut draw = Draw::new(12);
     let requests = calls_with_lists(&mut draw);
-    cut_everywhere(subject, &two_files(), &requests, &mut draw)
+    cut_everywhere(subject, &two_files(edition), &requests, &mut draw)
 }
 
 /// Cuts a delete, a resize and a rename everywhere whose freed extents stand in two table sectors.
-pub fn cut_over_two_table_sectors(subject: &dyn Subject) -> Counts {
+pub fn cut_over_two_table_sectors(subject: &dyn Subject, edition: Edition) -> Counts {
     let format = FormatRequest {
         sectors: 546 + 255 + 130 * 128,
-        ..SAMPLE
+        ..sample_of(edition)
     };
     let mut volume = Volume::formatted(&Oracle, &format);
     volume.done(&create(b"all", 1));
@@ -271,10 +271,18 @@ fn finished(subject: &dyn Subject, image: &[u8], ledger: &Ledger, cut: &Cut) {
         .unwrap_or_else(|difference| panic!("{difference} after {cut:?}"));
 }
 
-/// Cuts the sample's format everywhere: from its first record to its last it leaves an unfinished
-/// volume, whatever subset of its middle landed. Gives the number of cuts.
+/// Cuts the sample's format everywhere, in both editions: from its first record to its last it leaves
+/// an unfinished volume, whatever subset of its middle landed. Gives the number of cuts.
 pub fn cut_the_format(subject: &dyn Subject) -> usize {
-    let list = format_list(subject, &SAMPLE);
+    let formats = Edition::BOTH.map(sample_of);
+    formats
+        .iter()
+        .map(|format| cut_a_format(subject, format))
+        .sum()
+}
+
+fn cut_a_format(subject: &dyn Subject, format: &FormatRequest) -> usize {
+    let list = format_list(subject, format);
     let format_groups = groups(&list);
     let mut draw = Draw::new(13);
     // An older volume of another geometry stands there.
@@ -289,7 +297,7 @@ pub fn cut_the_format(subject: &dyn Subject) -> usize {
             assert_eq!(told, summary(subject, &older));
         } else if cut.landed_whole(&format_groups) {
             assert_eq!((told.state, told.extents), (state::CLEAN, 4));
-            let ledger = Ledger::new(&SAMPLE).expect("the sample has a geometry");
+            let ledger = Ledger::new(format).expect("the sample has a geometry");
             finished(subject, &image, &ledger, cut);
         } else {
             assert_eq!((told.state, told.extents), (state::UNFINISHED, 4));

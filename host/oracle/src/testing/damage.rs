@@ -3,10 +3,11 @@
 
 use std::collections::BTreeMap;
 
-use super::volumes::some_files;
+use super::images::edition_of;
+use super::volumes::some_files_of;
 use crate::answers::CheckAnswer;
 use crate::draw::Draw;
-use crate::layout::{put16, put32, put64, superblock, SECTOR};
+use crate::layout::{get16, put16, put32, put64, superblock, Edition, SECTOR};
 
 /// Where the data area starts: what stands before it is judged.
 pub const METADATA: usize = 290 * SECTOR;
@@ -17,6 +18,28 @@ pub fn entry_field(index: u64, field: usize) -> usize {
     (2 + index as usize) * SECTOR + field
 }
 
+/// The byte offsets in the image of an entry's name length and of a byte of its name, by the
+/// volume's edition.
+pub fn name_length_field(image: &[u8], index: u64) -> usize {
+    entry_field(index, edition_of(image).name_length())
+}
+
+pub fn name_field(image: &[u8], index: u64, byte: usize) -> usize {
+    entry_field(index, edition_of(image).name() + byte)
+}
+
+fn set_name_length(image: &mut [u8], index: u64, length: usize) {
+    let at = name_length_field(image, index);
+    put16(image, at, length as u16);
+}
+
+/// Gives the entry the other one's name and what follows it.
+fn copy_name(image: &mut [u8], from: u64, to: u64) {
+    let start = name_length_field(image, from);
+    let at = name_length_field(image, to);
+    image.copy_within(start..entry_field(from, SECTOR), at);
+}
+
 /// The byte offset in the image of a field of a table entry.
 pub fn table_field(extent: u64, field: usize) -> usize {
     289 * SECTOR + 4 * extent as usize + field
@@ -24,7 +47,8 @@ pub fn table_field(extent: u64, field: usize) -> usize {
 
 pub type Spoil = fn(&mut [u8]);
 
-/// Each spoils `some_files`, and beside it stands the fault with its place; (0, 0) for none.
+/// Each spoils `some_files` of either edition, and beside it stands the fault with its place; (0, 0)
+/// for none.
 pub const FAULTS: [((u64, u64), Spoil); 37] = [
     // Also an entry that was free.
     ((21, 254), |image| put16(image, entry_field(254, 0), 1)),
@@ -35,14 +59,16 @@ pub const FAULTS: [((u64, u64), Spoil); 37] = [
     ((21, 3), |image| {
         put16(image, entry_field(9, 0), 65_534);
         put16(image, entry_field(3, 0), 1);
-        put16(image, entry_field(0, 34), 0);
+        set_name_length(image, 0, 0);
     }),
     // Length, a zero in the name, size; a free entry is not judged.
-    ((22, 2), |image| put16(image, entry_field(2, 34), 0)),
-    ((22, 2), |image| put16(image, entry_field(2, 34), 477)),
-    ((22, 5), |image| put16(image, entry_field(5, 34), 65_535)),
-    ((22, 0), |image| image[entry_field(0, 36)] = 0),
-    ((22, 2), |image| image[entry_field(2, 38)] = 0),
+    ((22, 2), |image| set_name_length(image, 2, 0)),
+    ((22, 2), |image| {
+        set_name_length(image, 2, edition_of(image).longest_name() + 1)
+    }),
+    ((22, 5), |image| set_name_length(image, 5, 65_535)),
+    ((22, 0), |image| image[name_field(image, 0, 0)] = 0),
+    ((22, 2), |image| image[name_field(image, 2, 2)] = 0),
     ((22, 2), |image| {
         put64(image, entry_field(2, 2), 5 * 65_536 + 1)
     }),
@@ -54,14 +80,11 @@ pub const FAULTS: [((u64, u64), Spoil); 37] = [
     ((0, 0), |image| {
         image[entry_field(3, 2)..entry_field(4, 0)].fill(255)
     }),
-    // Names are compared over their whole length, from byte 36 on.
-    ((23, 2), |image| put16(image, entry_field(2, 34), 2)),
-    ((23, 2), |image| put16(image, entry_field(2, 34), 1)),
-    ((23, 5), |image| {
-        let name = image[entry_field(4, 34)..entry_field(5, 0)].to_vec();
-        image[entry_field(5, 34)..entry_field(6, 0)].copy_from_slice(&name);
-    }),
-    ((0, 0), |image| image[entry_field(2, 39)] = b'x'),
+    // Names are compared over their whole length and no further.
+    ((23, 2), |image| set_name_length(image, 2, 2)),
+    ((23, 2), |image| set_name_length(image, 2, 1)),
+    ((23, 5), |image| copy_name(image, 4, 5)),
+    ((0, 0), |image| image[name_field(image, 2, 3)] = b'x'),
     // Zero, the root's, a lower entry's; not a free entry's.
     ((24, 4), |image| put64(image, entry_field(4, 14), 0)),
     ((24, 4), |image| put64(image, entry_field(4, 14), 900)),
@@ -92,15 +115,15 @@ pub const FAULTS: [((u64, u64), Spoil); 37] = [
     ((26, 0), |image| put16(image, table_field(0, 0), 0)),
 ];
 
-/// Spoils up to three fields of `some_files`, so often, each time anew, and has the image judged.
-/// Makes sure that every fault and state was met many times.
+/// Spoils up to three fields of `some_files`, of both editions in turn, so often, each time anew, and
+/// has the image judged. Makes sure that every fault and state was met many times.
 pub fn spoil_fields(rounds: usize, judge: fn(&[u8]) -> CheckAnswer) {
-    let sound = some_files().image;
-    let mut image = sound.clone();
+    let sound = Edition::BOTH.map(|edition| some_files_of(edition).image);
+    let mut image = sound[0].clone();
     let mut draw = Draw::new(21);
     let mut seen = BTreeMap::new();
-    for _ in 0..rounds {
-        image[..METADATA].copy_from_slice(&sound[..METADATA]);
+    for round in 0..rounds {
+        image[..METADATA].copy_from_slice(&sound[round % 2][..METADATA]);
         for _ in 0..draw.between(1, 3) {
             spoil_a_field(&mut image, &mut draw);
         }
@@ -108,7 +131,7 @@ pub fn spoil_fields(rounds: usize, judge: fn(&[u8]) -> CheckAnswer) {
         *seen.entry((answer.code, answer.fault)).or_insert(0) += 1;
     }
     let faults = (21..=26).map(|fault| (7, fault));
-    for kind in faults.chain([(0, 0), (3, 0), (4, 0), (5, 0), (6, 0)]) {
+    for kind in faults.chain([(0, 0), (2, 0), (3, 0), (4, 0), (5, 0), (6, 0)]) {
         let times = seen.get(&kind).copied().unwrap_or(0);
         assert!(times > 100, "{kind:?} is too rare: {seen:?}");
     }
@@ -119,7 +142,12 @@ fn spoil_a_field(image: &mut [u8], draw: &mut Draw) {
     let index = *draw.pick(&[0, 1, 2, 3, 4, 5, 6, 254]);
     let other = draw.below(8);
     let extent = draw.below(6);
-    match draw.below(20) {
+    // A version that was spoilt before may be no edition's.
+    let name_length = match get16(image, superblock::VERSION) {
+        2 => 42,
+        _ => 34,
+    };
+    match draw.below(21) {
         0 => put16(
             image,
             entry_field(index, 0),
@@ -141,13 +169,16 @@ fn spoil_a_field(image: &mut [u8], draw: &mut Draw) {
         6 => put64(image, entry_field(index, 26), draw.number()),
         7 => put16(
             image,
-            entry_field(index, 34),
-            *draw.pick(&[0, 1, 2, 3, 476, 477, 65_535]),
+            entry_field(index, name_length),
+            *draw.pick(&[0, 1, 2, 3, 468, 469, 476, 477, 65_535]),
         ),
-        8 => image[entry_field(index, 36 + draw.below(4) as usize)] = *draw.pick(b"\0abc"),
+        8 => {
+            let byte = draw.below(4) as usize;
+            image[entry_field(index, name_length + 2 + byte)] = *draw.pick(b"\0abc");
+        }
         9 => {
-            let name = image[entry_field(other, 34)..entry_field(other, SECTOR)].to_vec();
-            image[entry_field(index, 34)..entry_field(index, SECTOR)].copy_from_slice(&name);
+            let name = entry_field(other, name_length)..entry_field(other, SECTOR);
+            image.copy_within(name, entry_field(index, name_length));
         }
         10 | 11 => put16(
             image,
@@ -181,6 +212,11 @@ fn spoil_a_field(image: &mut [u8], draw: &mut Draw) {
             image,
             superblock::EXTENT_SECTORS,
             *draw.pick(&[127, 128, 129, 150, 153, 154, u32::MAX]),
+        ),
+        19 => put16(
+            image,
+            superblock::VERSION,
+            *draw.pick(&[0, 1, 1, 2, 2, 3, 256, 258]),
         ),
         _ => {
             let at = draw.below(METADATA as u64) as usize;

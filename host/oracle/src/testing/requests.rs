@@ -57,6 +57,19 @@ pub fn find(name: &[u8]) -> Request {
     }
 }
 
+/// The call at another time.
+pub fn at_time(mut request: Request, new: u64) -> Request {
+    match &mut request {
+        Request::Create { time, .. }
+        | Request::Delete { time, .. }
+        | Request::Resize { time, .. }
+        | Request::Write { time, .. }
+        | Request::Rename { time, .. } => *time = new,
+        _ => panic!("{request:?} takes no time"),
+    }
+    request
+}
+
 /// The request as text, without all of a long name or data.
 pub fn shortened(request: &Request) -> String {
     format!("{request:?}").chars().take(400).collect()

@@ -153,12 +153,15 @@ fn draw_small_geometry(draw: &mut Draw) -> Option<Geometry> {
 /// A fresh volume of this geometry on an image of noise. A format only gives extents of 128 sectors
 /// to small volumes; other lengths are put in the superblock by hand.
 fn draw_format(subject: &dyn Subject, geometry: Geometry, draw: &mut Draw) -> Volume {
+    let edition = draw.between(1, 2);
+    let time = draw.number();
     let format = FormatRequest {
+        edition,
         sectors: 546 + geometry.files() + 128 * geometry.extents() + draw.below(128),
         files: geometry.files(),
         id: *draw.pick(&[0, 3, 900, u64::MAX]),
         mode: draw.number() as u32,
-        time: draw.number() as u32,
+        time: if edition == 1 { time >> 32 } else { time },
     };
     let sectors = format.sectors.max(geometry.end().0) + draw.below(3);
     let mut image = draw.bytes(sectors as usize * SECTOR);
@@ -168,7 +171,7 @@ fn draw_format(subject: &dyn Subject, geometry: Geometry, draw: &mut Draw) -> Vo
     if geometry.extent_sectors() != 128 {
         let extent_sectors = geometry.extent_sectors() as u32;
         put32(&mut image, superblock::EXTENT_SECTORS, extent_sectors);
-        ledger = Ledger::with_geometry(geometry, format.id, format.mode, format.time);
+        ledger = Ledger::with_geometry(geometry, &format).expect("the format is not refused");
     }
     Volume { image, ledger }
 }
@@ -459,7 +462,7 @@ impl Run<'_> {
     }
 
     fn draw_request(&mut self) -> Request {
-        let time = self.draw.number() as u32;
+        let time = self.draw_time();
         let kind = self.draw.below(23);
         let name = self.draw_name(if (7..=9).contains(&kind) { 1 } else { 8 });
         match kind {
@@ -518,6 +521,17 @@ impl Run<'_> {
         }
     }
 
+    /// Any of the volume's times, its edges, or, once in so many times, any at all.
+    fn draw_time(&mut self) -> u64 {
+        let narrow = u64::from(u32::MAX);
+        match self.draw.below(32) {
+            0 => self.draw.number(),
+            1 => *self.draw.pick(&[0, narrow, narrow + 1, u64::MAX]),
+            _ if self.volume.ledger.edition() == 1 => self.draw.number() >> 32,
+            _ => self.draw.number(),
+        }
+    }
+
     /// The name of a file, or, once in so many times, any of a few names; some begin alike, some
     /// are bad.
     fn draw_name(&mut self, any_name_once_in: u64) -> Vec<u8> {
@@ -525,14 +539,20 @@ impl Run<'_> {
         if !existing.is_empty() && !self.draw.one_in(any_name_once_in) {
             return self.draw.pick(&existing).clone();
         }
+        let longest = self.volume.ledger.layout().longest_name();
         match self.draw.below(12) {
-            0 => vec![b'x'; 476],
-            1 => vec![b'x'; 475],
+            0 => vec![b'x'; longest],
+            1 => vec![b'x'; longest - 1],
             2 => self.draw.pick(&OLDER_NAMES).to_vec(),
             3 => self.draw.pick(&[b"!", b"~", b" ", b"\x7f", b"/"]).to_vec(),
             4 => self
                 .draw
-                .pick(&[Vec::new(), vec![b'x'; 477], b"zero\0".to_vec(), vec![0]])
+                .pick(&[
+                    Vec::new(),
+                    vec![b'x'; longest + 1],
+                    vec![b'x'; 477],
+                    b"zero\0".to_vec(),
+                ])
                 .clone(),
             length => b"abcdefg"[..length as usize - 4].to_vec(),
         }

@@ -4,7 +4,7 @@
 use super::requests::{create, delete, shortened, write};
 use super::{images, Oracle, Subject};
 use crate::draw::Draw;
-use crate::layout::{put16, sector, Entry, Extent, FileIndex, SECTOR};
+use crate::layout::{put16, sector, Edition, Entry, Extent, FileIndex, SECTOR};
 use crate::ledger::{File, Ledger};
 use crate::lists::RECORD;
 use crate::request::{Answer, Request};
@@ -12,12 +12,21 @@ use crate::FormatRequest;
 
 /// The sample volume: 1,313 sectors and 255 files.
 pub const SAMPLE: FormatRequest = FormatRequest {
+    edition: 1,
     sectors: 1_313,
     files: 255,
     id: 900,
     mode: 0o755,
     time: 1_000,
 };
+
+/// The sample in this edition.
+pub fn sample_of(edition: Edition) -> FormatRequest {
+    FormatRequest {
+        edition: edition.number(),
+        ..SAMPLE
+    }
+}
 
 /// Long enough for every list of a volume with few table sectors.
 pub const ANY_LIST: usize = 200 * RECORD;
@@ -87,7 +96,10 @@ impl Volume {
     pub fn put_file(&mut self, index: u64, name: &[u8], size: u64, extents: &[u64]) {
         let geometry = self.ledger.geometry();
         images::put_file(&mut self.image, geometry, index, name, size, extents);
-        let entry = Entry(sector(&self.image, geometry.entry_at(FileIndex(index))));
+        let entry = Entry {
+            sector: sector(&self.image, geometry.entry_at(FileIndex(index))),
+            edition: self.ledger.layout(),
+        };
         let extents: Vec<Extent> = extents.iter().copied().map(Extent).collect();
         let mut bytes = Vec::new();
         for extent in &extents {
@@ -112,10 +124,14 @@ impl Volume {
     /// table's padding and in the offsets of free extents.
     pub fn disturb(&mut self, draw: &mut Draw) {
         let geometry = self.ledger.geometry();
+        let (root_end, name) = match self.ledger.layout() {
+            Edition::First => (24, 36),
+            Edition::Second => (32, 44),
+        };
         draw.fill(&mut self.image[20..SECTOR]);
-        draw.fill(&mut self.image[SECTOR + 24..2 * SECTOR]);
+        draw.fill(&mut self.image[SECTOR + root_end..2 * SECTOR]);
         for (index, slot) in self.ledger.slots().iter().enumerate() {
-            let unused = slot.as_ref().map_or(2, |file| 36 + file.name.len());
+            let unused = slot.as_ref().map_or(2, |file| name + file.name.len());
             let at = (2 + index) * SECTOR;
             draw.fill(&mut self.image[at + unused..at + SECTOR]);
         }
@@ -131,14 +147,19 @@ impl Volume {
     }
 }
 
+/// `some_files_of` the first edition.
+pub fn some_files() -> Volume {
+    some_files_of(Edition::First)
+}
+
 /// Six extents, five of them usable: "ab" has three, "abc" and "cab" one each. Entry 3 is free
 /// again between occupied ones.
-pub fn some_files() -> Volume {
+pub fn some_files_of(edition: Edition) -> Volume {
     let mut volume = Volume::formatted(
         &Oracle,
         &FormatRequest {
             sectors: 546 + 255 + 6 * 128,
-            ..SAMPLE
+            ..sample_of(edition)
         },
     );
     let mut draw = Draw::new(5);

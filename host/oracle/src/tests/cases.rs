@@ -16,6 +16,7 @@ fn p1_geometry_of_the_sample() {
     let answer = summary(&Volume::sample().image);
     let expected = SummaryAnswer {
         code: 0,
+        edition: 1,
         files: 255,
         extents: 4,
         extent_sectors: 128,
@@ -133,6 +134,16 @@ fn small_program() {
             report(&sample),
             clean.replace("state clean", &format!("state {text}"))
         );
+    }
+    put16(&mut sample, superblock::JOURNAL_LENGTH, 0);
+    for (version, text) in [
+        (2, clean),
+        (3, "refused 2\n"),
+        (0, "refused 2\n"),
+        (1, clean),
+    ] {
+        put16(&mut sample, superblock::VERSION, version);
+        assert_eq!(report(&sample), text);
     }
     assert_eq!(report(&sample[..SECTOR - 1]), "refused 1\n");
     put32(&mut sample, superblock::EXTENT_SECTORS, 127);

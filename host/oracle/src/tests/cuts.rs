@@ -1,6 +1,6 @@
 //! Power cuts: every cut of each kind of call and of the format, and what cuts report, by hand.
 
-use crate::layout::SECTOR;
+use crate::layout::{Edition, SECTOR};
 use crate::ledger::CutReport;
 use crate::power::{groups, Cut};
 use crate::request::Request;
@@ -13,12 +13,19 @@ use crate::testing::{Oracle, Subject};
 
 #[test]
 fn of_each_kind_of_call() {
-    cut_each_kind_of_call(&Oracle);
+    cut_each_kind_of_call(&Oracle, Edition::First);
+}
+
+#[test]
+fn of_each_kind_of_call_with_wide_times() {
+    cut_each_kind_of_call(&Oracle, Edition::Second);
 }
 
 #[test]
 fn over_two_table_sectors() {
-    cut_over_two_table_sectors(&Oracle);
+    for edition in Edition::BOTH {
+        cut_over_two_table_sectors(&Oracle, edition);
+    }
 }
 
 #[test]
@@ -29,7 +36,7 @@ fn of_the_format() {
 /// Reported by hand: what a cut says of the start mark and the data sectors.
 #[test]
 fn reports_of_cuts() {
-    let volume = two_files();
+    let volume = two_files(Edition::First);
     // Three data sectors, two copies, one journal sector.
     let (_, list) = Oracle.ask(&write(b"beta", 0, vec![1; 1_025]), &volume.image, ANY_LIST);
     let groups = groups(&list);
@@ -60,7 +67,7 @@ fn reports_of_cuts() {
 /// A write that is cut before its start mark leaves new bytes up to the old size and nothing else.
 #[test]
 fn undone_write_leaves_landed_sectors() {
-    let mut volume = two_files();
+    let mut volume = two_files(Edition::First);
     let old = volume.ledger.slots()[0].clone().expect("alpha");
     let request = write(b"alpha", 69_000, vec![170; 5_000]);
     let (_, list) = Oracle.ask(&request, &volume.image, ANY_LIST);
@@ -89,7 +96,7 @@ fn undone_write_leaves_landed_sectors() {
 /// A call whose list is empty can't be cut, and a refused one neither.
 #[test]
 fn calls_without_a_list_are_not_cut() {
-    let mut volume = two_files();
+    let mut volume = two_files(Edition::First);
     let before = volume.ledger.clone();
     let all = CutReport {
         start_mark: true,

@@ -3,11 +3,11 @@
 
 use crate::answers::{CheckAnswer, Refusal};
 use crate::draw::Draw;
-use crate::layout::{put16, put32, SECTOR};
+use crate::layout::{put16, put32, Edition, SECTOR};
 use crate::request::{Answer, Request};
 use crate::testing::damage::{spoil_fields, FAULTS};
 use crate::testing::requests::{create, delete, find, read, rename, resize, write};
-use crate::testing::volumes::{some_files, ANY_LIST};
+use crate::testing::volumes::{some_files_of, ANY_LIST};
 use crate::testing::{checks_alike, Oracle, Subject};
 use crate::{format_record, recover, summary, FormatRequest};
 
@@ -28,9 +28,15 @@ fn plain_check(image: &[u8]) -> CheckAnswer {
     if image.is_empty() || !image.len().is_multiple_of(512) {
         return refused(1);
     }
-    if image[8..16] != *b"/Goo/FS/" || number(image, 16, 2) != 1 {
+    let version = number(image, 16, 2);
+    if image[8..16] != *b"/Goo/FS/" || (version != 1 && version != 2) {
         return refused(2);
     }
+    let (name_length_at, name_at, longest_name) = if version == 1 {
+        (34, 36, 476)
+    } else {
+        (42, 44, 468)
+    };
     let [files, extents, extent_sectors] =
         [(0, 2), (2, 2), (4, 4)].map(|(at, n)| number(image, at, n));
     let bounds =
@@ -64,7 +70,8 @@ fn plain_check(image: &[u8]) -> CheckAnswer {
     let occupied: Vec<u128> = (0..files).filter(|file| mark(*file) == 65_535).collect();
     let size = |file| number(image, at(file, 2), 8);
     let id = |file| number(image, at(file, 14), 8);
-    let name = |file| &image[at(file, 36)..][..number(image, at(file, 34), 2) as usize];
+    let name_length = |file| number(image, at(file, name_length_at), 2);
+    let name = |file| &image[at(file, name_at)..][..name_length(file) as usize];
     let table_at = (34 + files) as usize * 512;
     let owner = |extent: u128| number(image, table_at + 4 * extent as usize, 2);
     let offset = |extent: u128| number(image, table_at + 4 * extent as usize + 2, 2);
@@ -73,8 +80,7 @@ fn plain_check(image: &[u8]) -> CheckAnswer {
         return not_sound(21, file);
     }
     for &file in &occupied {
-        let length = number(image, at(file, 34), 2);
-        let bad_length = !(1..=476).contains(&length);
+        let bad_length = !(1..=longest_name).contains(&name_length(file));
         if bad_length || name(file).contains(&0) || size(file) > usable * extent_bytes {
             return not_sound(22, file);
         }
@@ -160,17 +166,22 @@ fn judged_alike(image: &[u8]) -> CheckAnswer {
 
 #[test]
 fn each_fault_by_hand() {
-    let sound = some_files().image;
-    assert_eq!(judged_alike(&sound).code, 0);
+    for edition in Edition::BOTH {
+        each_fault_on(&some_files_of(edition).image);
+    }
+}
+
+fn each_fault_on(sound: &[u8]) {
+    assert_eq!(judged_alike(sound).code, 0);
     for request in judging_calls() {
         assert_eq!(
-            Oracle.ask(&request, &sound, ANY_LIST).0.code(),
+            Oracle.ask(&request, sound, ANY_LIST).0.code(),
             0,
             "{request:?}"
         );
     }
     for (number, (expected, spoil)) in FAULTS.iter().enumerate() {
-        let mut image = sound.clone();
+        let mut image = sound.to_vec();
         spoil(&mut image);
         let answer = judged_alike(&image);
         assert_eq!((answer.fault, answer.place), *expected, "fault {number}");
@@ -214,7 +225,7 @@ fn any_bytes() {
             if !draw.one_in(8) {
                 image[8..16].copy_from_slice(b"/Goo/FS/");
             }
-            put16(&mut image, 16, if draw.one_in(8) { 2 } else { 1 });
+            put16(&mut image, 16, *draw.pick(&[1, 1, 1, 2, 2, 2, 3]));
             put16(
                 &mut image,
                 18,
@@ -255,11 +266,12 @@ fn any_format() {
     let mut accepted = 0;
     for _ in 0..20_000 {
         let request = FormatRequest {
+            edition: *draw.pick(&[0, 1, 1, 1, 2, 2, 2, 3, 65_537, u64::MAX]),
             sectors: draw.number() >> draw.below(64),
             files: *draw.pick(&[0, 254, 255, 256, 1_025, 65_535, 65_536, u64::MAX]),
             id: draw.number(),
             mode: draw.number() as u32,
-            time: draw.number() as u32,
+            time: draw.number() >> draw.between(16, 40),
         };
         let mut record = [0; 528];
         let position = draw.number() >> draw.below(64);
@@ -271,8 +283,15 @@ fn any_format() {
         let size = (7..=31)
             .map(|power| 1_u64 << power)
             .find(|size| room / size <= 65_535);
+        let edition = match request.edition {
+            1 => request.time < 1 << 32,
+            2 => true,
+            _ => false,
+        };
         let expected = match size {
-            Some(size) if (255..=65_535).contains(&request.files) && room / size >= 2 => {
+            Some(size)
+                if (255..=65_535).contains(&request.files) && room / size >= 2 && edition =>
+            {
                 let extents = room / size;
                 let geometry = request.geometry().expect("there is one");
                 assert_eq!(

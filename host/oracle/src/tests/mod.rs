@@ -5,6 +5,7 @@ mod cases;
 mod comparison;
 mod cuts;
 mod directories;
+mod editions;
 mod journals;
 mod judging;
 mod names;

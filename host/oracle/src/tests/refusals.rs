@@ -47,7 +47,8 @@ fn images_that_are_no_volume() {
         (1, sample[..sample.len() - 1].to_vec()),
         (2, with(8, b"/goo/FS/")),
         (2, with(15, b" ")),
-        (2, with(16, &[0, 2])),
+        (2, with(16, &[0, 0])),
+        (2, with(16, &[0, 3])),
         (2, with(16, &[1, 1])),
         (3, with(0, &[0, 254])),
         (3, with(0, &[4, 1])),
@@ -351,6 +352,7 @@ fn positions_of_records() {
 #[test]
 fn format_records() {
     let request = FormatRequest {
+        edition: 1,
         sectors: 546 + 300 + 129 * 128,
         files: 300,
         id: 0,

@@ -10,5 +10,6 @@ pub mod Refusals
 pub mod Catalogue
 pub mod WriteList
 pub mod Repair
+pub mod Repaired
 pub mod Judged
 pub mod Named

@@ -42,6 +42,7 @@ use Rattle.model.specs.Repair.{isStray, strays, repaired, takenReserve, repairP
 use Rattle.laws.proofs.Booleans.{and-false, or-none}
 use Rattle.laws.proofs.Count.{countBelow-none}
 use Rattle.laws.proofs.Judged.{judged-sound}
+use Rattle.laws.proofs.Repaired.{strayBy, extent-repaired, stray-again, repaired-again, fault25-repaired, exact-repaired, exact-kept}
 use Rattle.laws.proofs.Search.{Hit, scan-hit, first-none, first-ext, first-missed, allBelow-yes, allBelow-at, anyBelow-no, tabulate-ext}
 use Rattle.laws.proofs.WriteList.{emit-nil}
 use Rattle.safety.specs.Naming.{contentsAt, fileOn}
@@ -54,7 +55,6 @@ use Rattle.safety.proofs.Changing.{earlier-done}
 use Rattle.safety.proofs.Bridge.{emitted-bytes}
 use Rattle.safety.proofs.Changing.{later-done}
 use Rattle.safety.proofs.Passes.{none-found, no-faults}
-use Rattle.safety.proofs.Repaired.{extent-repaired, stray-again, repaired-again, fault25-repaired, exact-repaired, exact-kept, sound-unstrayed}
 use Rattle.safety.proofs.RepairDone.{Passes, Leaves, passes, leaves, carries, long-enough, verdict-done, unstrayed-same}
 
 module _ (img : List ℕ) (room : ℕ) (bytes : OfBytes img) (accepted : Repairs img room) where
@@ -302,6 +302,24 @@ module _ (img list : List ℕ) (bytes : OfBytes img) (accepted : Repairs img (le
 
 -- ---- A SOUND VOLUME IS LEFT ALONE, and so is every volume of a run
 
+-- where there is no fault, none is stray
+sound-unstrayed : (c : Catalogue) → NoFaults c → ((i : ℕ) (x : Entry) → c .entries i ≡ some x → i < c .geometry .files) → (e : ℕ) → e < c .geometry .extents → isStray c e ≡ false
+unfolding fault25 fault26 isStray
+sound-unstrayed c h inside e l = by (c .table e) refl (h .f25 e l)
+  where
+    occupied : (o : Option Entry) → isFree o ≡ false → o ≡ some (entryOr o)
+    occupied none q = absurd (true≢false q)
+    occupied (some x) q = refl
+
+    by : (t : Option Owner) → c .table e ≡ t → holdsOf t (λ w. isFree (c .entries (w .file)) || leb (usable (c .geometry)) e) ≡ false → isStray c e ≡ false
+    by none z q = ap (λ (t : Option Owner). holdsOf t (strayBy c e)) z
+    by (some w) z q =
+        let has = occupied (c .entries (w .file)) (or-none (isFree (c .entries (w .file))) (leb (usable (c .geometry)) e) q .0) in
+        let x = entryOr (c .entries (w .file)) in
+        exact-kept c (w .file) x has
+        (not-false _ (sym (ap (λ (o : Option Entry). holdsOf o (λ y. not (exact c (w .file) (extentsFor (c .geometry) (y .size))))) has) ∙ h .f26 (w .file) (inside (w .file) x has)))
+        e l w z refl
+
 module _ (img : List ℕ) (room : ℕ) (checks : checkAnswer (length img) (view img) ≡ record { verdict = done }) where
   abbrev s : Catalogue
   s = catalogueOf (view img)
@@ -358,9 +376,9 @@ module _ (img : List ℕ) (room : ℕ) (checks : checkAnswer (length img) (view 
   sound-alone =
       let e = judged-sound (length img) (view img) (eqb-true (judged (length img) (view img) .number) 0 judged-done) in
       (λ i. given (decided-alone i .verdict)
-      (record { verdict = doneBut (faultsIn (fault21 (view img)) (equalBytes i)); freed = strays s; length = listLength (groupsFor (view img) (decided-alone i .plan)) }) notRepaired)
+      (record { verdict = doneBut (faultsIn (fault21 (view img)) (unchanged i)); freed = strays s; length = listLength (groupsFor (view img) (decided-alone i .plan)) }) notRepaired)
       ∙ ap (λ (f : Soundness). record { verdict = doneBut f; freed = strays s; length = 0 }) e
       ∙ ap (λ n. record { verdict = done; freed = n; length = 0 }) (countBelow-none (isStray s) (s .geometry .extents) unstrayed)
     where
-      equalBytes : repaired s ≡ s
-      equalBytes = unstrayed-same img unstrayed
+      unchanged : repaired s ≡ s
+      unchanged = unstrayed-same img unstrayed

@@ -1,0 +1,1 @@
+-- Laws of repair's arrays and of what it comes to.

@@ -32,6 +32,6 @@ module _ (freed : ExtentNumber → Bool) where
 pub record Mends (d : Disk) (list : List ℕ) (r : Mended) (after : List ℕ) : Type 0 where
   pub short : r .short ≡ ltb (length list) (listLength (groupsFor d (repairPlanned (catalogueOf d) d)))
   pub freed : r .short ≡ false → r .freed ≡ strays (catalogueOf d)
-  pub length : r .short ≡ false → r .length ≡ listLength (groupsFor d (repairPlanned (catalogueOf d) d))
+  pub bytes : r .short ≡ false → r .length ≡ listLength (groupsFor d (repairPlanned (catalogueOf d) d))
   pub lacking : r .short ≡ false → r .lacking ≡ first (fault26 (repaired (catalogueOf d))) (catalogueOf d .geometry .files)
-  pub list : after ≡ cond (r .short) list (emit list 0 (closed (groupsFor d (repairPlanned (catalogueOf d) d))))
+  pub leaves : after ≡ cond (r .short) list (emit list 0 (closed (groupsFor d (repairPlanned (catalogueOf d) d))))

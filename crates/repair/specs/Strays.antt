@@ -1,7 +1,7 @@
 -- Which extents are freed, and which files lack an extent then, by the arrays that a repair has.
 use Prim.Native.Nat.{ℕ, _+_, _*_, _/_, _≤_, _<_}
 use mathlib.Core.Path.{_≡_}
-use mathlib.Core.Bool.{Bool, not, _&&_}
+use mathlib.Core.Bool.{Bool, cond, not, _&&_}
 use mathlib.Core.List.{List}
 use lib.Dec.{eqb, ltb}
 use lib.ListN.{length, getD}
@@ -32,9 +32,9 @@ module _ (g : Geometry) (d : Disk) where
   abbrev pub samePart : ExtentNumber → ExtentNumber → Bool
   samePart e k = eqb (tableFile g d k) (tableFile g d e) && eqb (tableOffset g d k) (tableOffset g d e)
 
-  -- the bytes of the extents below e say which are freed
+  -- the bytes of the extents below e say which are freed, by 1
   abbrev pub Found : ExtentNumber → List ℕ → Type 0
-  Found e marks = (k : ExtentNumber) → k < e → eqb (getD marks k 0) 1 ≡ isStray (catalogueOf d) k
+  Found e marks = (k : ExtentNumber) → k < e → getD marks k 0 ≡ cond (isStray (catalogueOf d) k) 1 0
 
   -- extent k stays and is file i's
   abbrev pub keeps : (ExtentNumber → Bool) → FileNumber → ExtentNumber → Bool

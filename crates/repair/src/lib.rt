@@ -228,6 +228,24 @@ fn put_freed_sector(
     k
 }
 
+// The copies of all such table sectors, from record 0 on.
+fn put_freed(list: &mut [u8], numbers: &mut [u64], img: &[u8], g: Geometry, marks: &[u8]) -> usize
+    requires { ⌜ Opened (now img) g ⌝ }
+    requires { ⌜ g .extents ≤ length (now marks) ⌝ }
+    requires { ⌜ ((countBelow (holdsFreed (isMarked (now marks) (g .extents))) (tableSectors g) + 1) * recordSize ≤ length (now list)) × (tableSectors g ≤ length (now numbers)) ⌝ }
+    ensures { λ r. ⌜ Added g (now (numbers .entry)) (now (list .entry)) 0 (freeingPlan (isMarked (now (marks .entry)) (g .extents)) g (view (now (img .entry))) .targets) (now (numbers .exit)) (now (list .exit)) r ⌝ }
+    ensures { λ r. ⌜ (r ≡ countBelow (holdsFreed (isMarked (now (marks .entry)) (g .extents))) (tableSectors g)) × (r ≤ tableSectors g) ⌝ }
+{
+    let n = g.table_sectors();
+    let mut j: usize = 0;
+    let mut t: u64 = 0;
+    while t < n {
+        j = put_freed_sector(list, j, numbers, img, g, marks, t);
+        t += 1;
+    }
+    j
+}
+
 // The whole list, which has room for it.
 fn put_repair(img: &[u8], g: Geometry, marks: &[u8], list: &mut [u8]) -> usize
     requires { ⌜ Opened (now img) g ⌝ }
@@ -236,14 +254,8 @@ fn put_repair(img: &[u8], g: Geometry, marks: &[u8], list: &mut [u8]) -> usize
     ensures { λ r. ⌜ Emitted (now (list .entry)) 0 (closed (groupsFor (view (now (img .entry))) (some (freeingPlan (isMarked (now (marks .entry)) (g .extents)) g (view (now (img .entry))))))) (now (list .exit)) r ⌝ }
 {
     let mut numbers = [0u64; 1024];
-    let n = g.table_sectors();
-    let mut j: usize = 0;
-    let mut t: u64 = 0;
-    while t < n {
-        j = put_freed_sector(list, j, &mut numbers, img, g, marks, t);
-        t += 1;
-    }
-    commit::put_commit(list, j, img, g, &numbers, j)
+    let n = put_freed(list, &mut numbers, img, g, marks);
+    commit::put_commit(list, n, img, g, &numbers, n)
 }
 
 // ---- files that lack an extent
@@ -384,6 +396,17 @@ fn mend_many(img: &[u8], g: Geometry, list: &mut [u8]) -> Mended
     mend_in(img, g, list, &mut numbers, &mut marks)
 }
 
+// The larger of F and N.
+fn most(g: Geometry) -> u64
+    requires { ⌜ Bounded g ⌝ }
+    ensures { λ r. ⌜ (g .files ≤ r) × (g .extents ≤ r) × (r ≤ 65535) ⌝ }
+{
+    if g.files <= g.extents {
+        return g.extents;
+    }
+    g.files
+}
+
 // By way of arrays for `room` files and extents, or for 16 times as many. It calls itself to keep the longer arrays out of the stack of
 // a volume that doesn't use them (docs/DECISIONS.md).
 fn mend_with(img: &[u8], g: Geometry, list: &mut [u8], room: u64) -> Mended
@@ -391,13 +414,11 @@ fn mend_with(img: &[u8], g: Geometry, list: &mut [u8], room: u64) -> Mended
     requires { ⌜ 0 < room ⌝ }
     ensures { λ r. ⌜ Mends (view (now (img .entry))) (now (list .entry)) r (now (list .exit)) ⌝ }
 {
-    if g.extents <= room {
-        if g.files <= room {
-            if room <= 4096 {
-                return mend_few(img, g, list);
-            }
-            return mend_many(img, g, list);
+    if most(g) <= room {
+        if room <= 4096 {
+            return mend_few(img, g, list);
         }
+        return mend_many(img, g, list);
     }
     mend_with(img, g, list, room * 16)
 }

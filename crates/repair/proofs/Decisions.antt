@@ -8,7 +8,7 @@ use mathlib.Core.Option.{Option, none, some}
 use native.Mathlib.Omega.{arith}
 use lib.Dec.{eqb, leb, ltb}
 use lib.ListN.{length}
-use borrow.Author.Tests.{le-ltb, lt-ltb, le-leb, ne-eqb, eq-eqb}
+use borrow.Author.Tests.{le-ltb, lt-ltb, le-leb, ne-eqb, eq-eqb, eqb-true}
 use Rattle.model.specs.declared.Geometry.{Geometry}
 use Rattle.model.specs.declared.Lowest.{Lowest}
 use Rattle.model.specs.declared.Lowest.the-variants.{At, Nowhere}
@@ -138,7 +138,7 @@ module _ (img list : List ℕ) where
   v = view img
 
   -- 1 to 6
-  abbrev early : Verdict
+  abbrev pub early : Verdict
   early = andThen (imageVerdict (length img) (view img)) (refusal (stateNumber (stateOn (view img))))
 
   -- 7 and 14
@@ -150,6 +150,14 @@ module _ (img list : List ℕ) where
   verdict-is : repairVerdict (length img) (view img) (length list) ≡ andThen early later
   unfolding repairVerdict
   verdict-is = then-then (imageVerdict l v) (refusal (stateNumber (stateOn v))) later
+
+  -- a clean volume's image passed 1 to 3
+  pub clean-image : early .number ≡ 0 → imageVerdict (length img) (view img) .number ≡ 0
+  clean-image h = go (isDone (imageVerdict l v)) refl
+    where
+      go : (b : Bool) → isDone (imageVerdict l v) ≡ b → imageVerdict l v .number ≡ 0
+      go true t = eqb-true (imageVerdict l v .number) 0 t
+      go false t = ap (λ (b : Bool). cond b (refusal (stateNumber (stateOn v))) (imageVerdict l v) .number) (sym t) ∙ h
 
   refused-by : (w : Verdict) → repairVerdict (length img) (view img) (length list) ≡ w → isDone w ≡ false → Comes img list (notRepaired w) list
   unfolding repairAnswer repairList repairDecision groupsFor

@@ -167,6 +167,61 @@ impl Image {
         Ok(List { bytes })
     }
 
+    /// What a repair does to this volume, which is clean but may have faults.
+    pub fn repair(&self) -> Result<Repair, Refusal> {
+        let mut bytes = vec![0; records(0, MOST_TABLE_SECTORS) * RECORD];
+        let answer = crate::repair(&self.bytes, &mut bytes);
+        Refusal::judge(answer.code, answer.fault, answer.place)?;
+        bytes.truncate(answer.length as usize);
+        let list = List { bytes };
+        let freed = self.freed(&list);
+        Ok(Repair {
+            list,
+            freed,
+            remains: Fault::remaining(answer.fault, answer.place),
+        })
+    }
+
+    /// The table entries that a list frees: its targets are table sectors.
+    fn freed(&self, list: &List) -> Vec<Freed> {
+        let summary = self.summary();
+        let groups = list.groups();
+        let targets = groups.get(2).into_iter().flatten();
+        let mut freed = Vec::new();
+        for target in targets {
+            let first = (target.sector - summary.table_at()) * TABLE_ENTRIES;
+            let before = &self.bytes[target.sector as usize * SECTOR..][..SECTOR];
+            let entries = before.chunks_exact(4).zip(target.contents.chunks_exact(4));
+            for (extent, (old, new)) in (first..).zip(entries) {
+                if old != new {
+                    let (file, offset) = (number(&old[..2]), number(&old[2..]));
+                    freed.push(Freed {
+                        extent,
+                        file,
+                        offset,
+                        why: self.why_freed(file, offset),
+                    });
+                }
+            }
+        }
+        freed
+    }
+
+    fn why_freed(&self, file: u64, offset: u64) -> WhyFreed {
+        let summary = self.summary();
+        let entry = &self.bytes[(2 + file as usize) * SECTOR..];
+        if file >= summary.files || entry[..2] != OCCUPIED {
+            return WhyFreed::NoFile;
+        }
+        let before = offset * summary.extent_sectors * SECTOR as u64;
+        let length = number(&entry[34..36]) as usize;
+        let name = entry[36..36 + length.min(LONGEST_NAME)].to_vec();
+        match number(&entry[2..10]) <= before {
+            true => WhyFreed::PastTheEnd(name),
+            false => WhyFreed::Doubled(name),
+        }
+    }
+
     /// The list that finishes a change that was cut; empty if none was.
     pub fn recovery(&self) -> Result<List, Refusal> {
         let mut bytes = vec![0; recovery_records(MOST_JOURNAL_ENTRIES) * RECORD];

@@ -51,7 +51,7 @@ mul-j-2 : tie.Need-mul-j-2 Inv-loop μ-loop
 mul-j-2 c = omega (arith, c .before .before .before .loop .inv .within)
 
 shared-slice-read-j-2 : tie.Need-shared-slice-read-j-2 Inv-loop μ-loop
-shared-slice-read-j-2 c = omega (arith, c .before .before .before .loop .inv .within)
+shared-slice-read-j-2 c = omega (arith, c .before .before .before .before .loop .inv .within)
 
 cast-j-2 : tie.Need-cast-j-2 Inv-loop μ-loop
 cast-j-2 c = omega (arith, c .shared-slice-known4 .given (c .before .before .before .before .loop .j - 1))

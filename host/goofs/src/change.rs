@@ -2,9 +2,10 @@
 //! it is done a `List` of sector writes and barriers.
 
 use crate::device::SECTOR;
-use crate::error::Refusal;
+use crate::error::{Fault, Refusal};
 use crate::image::{
-    claimed, Image, Summary, ENTRIES_IN_TABLE_SECTOR, JOURNAL_SECTORS, LONGEST_TRANSFER,
+    claimed, number, Image, Summary, ENTRIES_IN_TABLE_SECTOR, JOURNAL_SECTORS, LONGEST_NAME,
+    LONGEST_TRANSFER, OCCUPIED,
 };
 
 /// Bytes of a list's record: its position in the list, from 0 on, the sector number, the contents.
@@ -68,6 +69,34 @@ pub enum Change<'c> {
         data: &'c [u8],
         time: u32,
     },
+}
+
+/// What a repair does: the extents that it frees, and the first fault that remains.
+#[derive(Clone, Debug, PartialEq, Eq)]
+pub struct Repair {
+    pub list: List,
+    pub freed: Vec<Freed>,
+    pub remains: Option<Fault>,
+}
+
+/// An extent that a repair frees, what the table says of it, and why it is freed.
+#[derive(Clone, Debug, PartialEq, Eq)]
+pub struct Freed {
+    pub extent: u64,
+    /// The index of a directory entry.
+    pub file: u64,
+    /// Counted in extents.
+    pub offset: u64,
+    pub why: WhyFreed,
+}
+
+/// The name is that of the file.
+#[derive(Clone, Debug, PartialEq, Eq)]
+pub enum WhyFreed {
+    NoFile,
+    PastTheEnd(Vec<u8>),
+    /// A lower extent has its place in the file.
+    Doubled(Vec<u8>),
 }
 
 /// A write list.
@@ -189,7 +218,7 @@ impl Image {
         let targets = groups.get(2).into_iter().flatten();
         let mut freed = Vec::new();
         for target in targets {
-            let first = (target.sector - summary.table_at()) * TABLE_ENTRIES;
+            let first = (target.sector - summary.table_at()) * ENTRIES_IN_TABLE_SECTOR;
             let before = &self.bytes[target.sector as usize * SECTOR..][..SECTOR];
             let entries = before.chunks_exact(4).zip(target.contents.chunks_exact(4));
             for (extent, (old, new)) in (first..).zip(entries) {

@@ -17,6 +17,8 @@ pub(crate) const JOURNAL_SECTORS: u64 = 32;
 pub(crate) const ENTRIES_IN_TABLE_SECTOR: u64 = 128;
 const DIRECTORY_AT: usize = 2;
 const NO_FILE: [u8; 2] = [255, 255];
+/// The mark of an occupied entry.
+pub(crate) const OCCUPIED: [u8; 2] = [255, 255];
 const FREE: [u8; 2] = [0, 0];
 
 /// It can't be cloned, as a volume may be far longer than the memory.
@@ -156,7 +158,7 @@ impl Entry {
     }
 }
 
-fn number(bytes: &[u8]) -> u64 {
+pub(crate) fn number(bytes: &[u8]) -> u64 {
     bytes
         .iter()
         .fold(0, |sum, byte| sum << 8 | u64::from(*byte))

@@ -379,11 +379,21 @@ fn mend_in(img: &[u8], g: Geometry, list: &mut [u8], numbers: &mut [u32], marks:
 
 fn mend_few(img: &[u8], g: Geometry, list: &mut [u8]) -> Mended
     requires { ⌜ Opened (now img) g ⌝ }
-    requires { ⌜ (g .files ≤ 4096) × (g .extents ≤ 4096) ⌝ }
+    requires { ⌜ (g .files ≤ 1024) × (g .extents ≤ 1024) ⌝ }
     ensures { λ r. ⌜ Mends (view (now (img .entry))) (now (list .entry)) r (now (list .exit)) ⌝ }
 {
-    let mut numbers = [0u32; 4096];
-    let mut marks = [0u8; 4096];
+    let mut numbers = [0u32; 1024];
+    let mut marks = [0u8; 1024];
+    mend_in(img, g, list, &mut numbers, &mut marks)
+}
+
+fn mend_more(img: &[u8], g: Geometry, list: &mut [u8]) -> Mended
+    requires { ⌜ Opened (now img) g ⌝ }
+    requires { ⌜ (g .files ≤ 8192) × (g .extents ≤ 8192) ⌝ }
+    ensures { λ r. ⌜ Mends (view (now (img .entry))) (now (list .entry)) r (now (list .exit)) ⌝ }
+{
+    let mut numbers = [0u32; 8192];
+    let mut marks = [0u8; 8192];
     mend_in(img, g, list, &mut numbers, &mut marks)
 }
 
@@ -407,7 +417,7 @@ fn most(g: Geometry) -> u64
     g.files
 }
 
-// By way of arrays for `room` files and extents, or for 16 times as many. It calls itself to keep the longer arrays out of the stack of
+// By way of arrays for `room` files and extents, or for 8 times as many. It calls itself to keep the longer arrays out of the stack of
 // a volume that doesn't use them (docs/DECISIONS.md).
 fn mend_with(img: &[u8], g: Geometry, list: &mut [u8], room: u64) -> Mended
     requires { ⌜ Opened (now img) g ⌝ }
@@ -415,12 +425,15 @@ fn mend_with(img: &[u8], g: Geometry, list: &mut [u8], room: u64) -> Mended
     ensures { λ r. ⌜ Mends (view (now (img .entry))) (now (list .entry)) r (now (list .exit)) ⌝ }
 {
     if most(g) <= room {
-        if room <= 4096 {
+        if room <= 1024 {
             return mend_few(img, g, list);
+        }
+        if room <= 8192 {
+            return mend_more(img, g, list);
         }
         return mend_many(img, g, list);
     }
-    mend_with(img, g, list, room * 16)
+    mend_with(img, g, list, room * 8)
 }
 
 // ---- the call
@@ -490,7 +503,7 @@ pub fn repair(img: &[u8], list: &mut [u8]) -> Repaired
                 place: e as u64,
             });
         }
-        let m = mend_with(img, g, list, 4096);
+        let m = mend_with(img, g, list, 1024);
         if m.short {
             return refused(volume::refusal(14));
         }

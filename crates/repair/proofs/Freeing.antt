@@ -1,10 +1,10 @@
 -- Table sectors freed by any test of extents as targets of a plan, and a repair's plan as such. Assumes nothing.
-use Prim.Native.Nat.{ℕ, _+_, _*_, _≤_, _<_}
+use Prim.Native.Nat.{ℕ, _+_, _*_}
 use mathlib.Core.Path.{_≡_, refl, sym, ap, _∙_}
 use mathlib.Core.Logic.{_≢_}
 use mathlib.Core.Bool.{Bool, true, false, cond}
-use mathlib.Core.List.{List, [], _∷_}
-use mathlib.Core.Option.{Option, none, some}
+use mathlib.Core.List.{[], _∷_}
+use mathlib.Core.Option.{none, some}
 use native.Mathlib.Omega.{arith}
 use lib.ListN.{length}
 use Rattle.model.specs.declared.Geometry.{Geometry}
@@ -68,7 +68,7 @@ module _ (d : Disk) (g : Geometry) (is : g ≡ geometryIn (d 0)) where
       record {
         dataSectors = [];
         targets = concatenated (λ t. cond (anyBelow (λ k. isStray (catalogueOf d) (128 * t + k)) 128)
-        (sectorWrite (tableAt x + t) (freedIn (λ k. isStray (catalogueOf d) (128 * t + k)) (d (tableAt x + t)) 128) ∷ []) []) 0 (tableSectors x);
+            (sectorWrite (tableAt x + t) (freedIn (λ k. isStray (catalogueOf d) (128 * t + k)) (d (tableAt x + t)) 128) ∷ []) []) 0 (tableSectors x);
       }) (sym geometry-is)
 
   by-any : (b : Bool) → anyBelow (isStray (catalogueOf d)) (g .extents) ≡ b → repairPlanned (catalogueOf d) d ≡ cond b (some (repairPlan (catalogueOf d) d)) none

@@ -3,7 +3,7 @@
 use Prim.Native.Nat.{ℕ, zero, suc, _+_, _*_, _≤_, _<_}
 use mathlib.Core.Path.{_≡_, refl, sym, ap, _∙_}
 use mathlib.Core.Logic.{_≢_}
-use mathlib.Core.Bool.{Bool, true, false, cond, not, _&&_, _||_, true≢false}
+use mathlib.Core.Bool.{Bool, true, false, cond, not, _&&_, _||_}
 use mathlib.Core.List.{List}
 use mathlib.Core.Option.{Option, none, some}
 use native.Mathlib.Nat.{zero-add}
@@ -11,7 +11,7 @@ use native.Mathlib.Omega.{arith}
 use lib.Dec.{eqb, leb, ltb}
 use lib.ListN.{length, getD, set}
 use lib.Seq.{getD-set-same, getD-set-other}
-use borrow.Author.Tests.{eqb-true, eqb-false, eq-eqb, ne-eqb, lt-ltb, leb-false, not-true}
+use borrow.Author.Tests.{eqb-true, eqb-false, eq-eqb, ne-eqb, lt-ltb, leb-false}
 use Rattle.model.specs.declared.Geometry.{Geometry}
 use Rattle.model.specs.Bytes.{numberIn}
 use Rattle.model.specs.Search.{anyBelow, allBelow, countBelow}
@@ -20,7 +20,7 @@ use Rattle.model.specs.Disk.{Disk}
 use Rattle.model.specs.Superblock.{geometryIn}
 use Rattle.model.specs.Entry.{Entry, entryField, entryIn, isOccupied}
 use Rattle.model.specs.Table.{freeFile, tableFile, tableOffset}
-use Rattle.model.specs.Catalogue.{Owner, catalogueOf, isPart}
+use Rattle.model.specs.Catalogue.{catalogueOf, isPart}
 use Rattle.model.specs.Faults.{holdsOf, exact, fault26}
 use Rattle.model.specs.Repair.{isStray, repaired}
 use Rattle.laws.proofs.Booleans.{and-false, or-none}
@@ -102,7 +102,9 @@ module _ (d : Disk) (g : Geometry) (is : g ≡ geometryIn (d 0)) (wide : 0 < ext
 
   module _ (o : isOccupied (d (entryAt i)) ≡ true) where
     -- an extent that stays is below the count
-    within : (e : ℕ) → e < g .extents → keeps g d (isStray (catalogueOf d)) i e ≡ (keeps g d (isStray (catalogueOf d)) i e && ltb (tableOffset g d e) (extentsFor g (numberIn (d (entryAt i)) (entryField .size))))
+    within : (e : ℕ) → e < g .extents
+        → keeps g d (isStray (catalogueOf d)) i e
+        ≡ (keeps g d (isStray (catalogueOf d)) i e && ltb (tableOffset g d e) (extentsFor g (numberIn (d (entryAt i)) (entryField .size))))
     within e m = go (eqb (tableFile g d e) i) refl (isStray (catalogueOf d) e) refl
       where
         go : (a : Bool) → eqb (tableFile g d e) i ≡ a → (b : Bool) → isStray (catalogueOf d) e ≡ b → (a && not b) ≡ ((a && not b) && ltb (tableOffset g d e) (extentsFor g z))

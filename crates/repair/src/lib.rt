@@ -8,23 +8,22 @@ use model::Repaired;
 use model::Soundness;
 use model::Verdict;
 ghost use mathlib.Core.Path.{_≡_};
-ghost use mathlib.Core.Bool.{true, false, cond, _&&_, _||_};
+ghost use mathlib.Core.Bool.{true, false, cond};
 ghost use mathlib.Core.Option.{some};
 ghost use Prim.Native.Nat.{ℕ, _+_, _*_, _≤_, _<_};
 ghost use lib.Dec.{eqb};
 ghost use lib.ListN.{length, getD};
-ghost use Rattle.model.specs.Bytes.{put};
 ghost use Rattle.model.specs.Search.{first, anyBelow, countBelow};
 ghost use Rattle.model.specs.Geometry.{usable, tableAt, tableSectors};
 ghost use Rattle.model.specs.Disk.{view};
-ghost use Rattle.model.specs.Table.{freeFile, tableFile, tableOffset, tableEntryBytes, freedIn};
+ghost use Rattle.model.specs.Table.{freeFile, tableFile, tableOffset, freedIn};
 ghost use Rattle.model.specs.Catalogue.{catalogueOf};
 ghost use Rattle.model.specs.Faults.{fault21, fault26, faultsIn};
 ghost use Rattle.model.specs.WriteList.{recordSize, recordCount, groupsFor, closed, Emitted};
 ghost use Rattle.model.specs.Opened.{Bounded, Opened};
-ghost use Rattle.model.specs.Repair.{isStray, strays, repaired, takenReserve, doneBut, repairAnswer, repairList};
+ghost use Rattle.model.specs.Repair.{isStray, repaired, takenReserve, doneBut, repairAnswer, repairList};
 ghost use Rattle.delete.specs.Staging.{Added};
-ghost use Rattle.repair.specs.Strays.{bucketOf, Linked, samePart, Found, isMarked, keeps, Kept};
+ghost use Rattle.repair.specs.Strays.{bucketOf, Linked, samePart, Found, isMarked, Kept};
 ghost use Rattle.repair.specs.Freeing.{holdsFreed, freedSector, freeingPlan, Mends};
 
 // ---- which extents are freed
@@ -341,7 +340,13 @@ struct Mended {
 }
 
 // By way of arrays that are lent, the numbers 0.
-fn mend_in(img: &[u8], g: Geometry, list: &mut [u8], numbers: &mut [u32], marks: &mut [u8]) -> Mended
+fn mend_in(
+    img: &[u8],
+    g: Geometry,
+    list: &mut [u8],
+    numbers: &mut [u32],
+    marks: &mut [u8],
+) -> Mended
     requires { ⌜ Opened (now img) g ⌝ }
     requires { ⌜ (length (now numbers) ≤ 65536) × (g .extents ≤ length (now numbers)) × (g .files ≤ length (now numbers)) × (g .extents ≤ length (now marks)) ⌝ }
     requires { ⌜ ((b : ℕ) → b < length (now numbers) → getD (now numbers) b 0 ≡ 0) ⌝ }

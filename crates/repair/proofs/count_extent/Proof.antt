@@ -13,7 +13,7 @@ is-marked-requires : tie.Need-is-marked-requires
 is-marked-requires c κs = search needs
 
 returns : tie.Need-returns
-returns c = 
+returns c =
     let s = c .before .before .before .before .before in
     let a = s .args in
     kept-freed (a .g) (view (a .img .now)) (isMarked (a .marks .now) (a .g .extents)) (a .e) (a .kept .now) (s .pre .1 .1) (sym (c .before .is-marked .ensures) ∙ c .if1 .taken)
@@ -28,7 +28,7 @@ slice-read-kept : tie.Need-slice-read-kept
 slice-read-kept c = search needs
 
 add-kept : tie.Need-add-kept
-add-kept c = 
+add-kept c =
     let s = c .before .before .before .before .before .before .before .before in
     let a = s .args in
     let f = c .before .before .table-file .result in
@@ -44,15 +44,16 @@ same-length : tie.Need-same-length
 same-length c = search needs
 
 returns-2 : tie.Need-returns-2
-returns-2 c = 
+returns-2 c =
     let s = c .before .before .before .before .before .before .before .before in
     let a = s .args in
     let f = c .before .before .table-file in
-    kept-one (a .g) (view (a .img .now)) (isMarked (a .marks .now) (a .g .extents)) (a .e) (a .kept .now) (s .pre .1 .1) (sym (c .before .before .before .before .is-marked .ensures) ∙ c .before .before .before .if1 .left)
+    kept-one (a .g) (view (a .img .now)) (isMarked (a .marks .now) (a .g .extents)) (a .e) (a .kept .now) (s .pre .1 .1)
+    (sym (c .before .before .before .before .is-marked .ensures) ∙ c .before .before .before .if1 .left)
     (f .result) (f .ensures .0) (c .before .if2 .taken) (omega arith)
 
 returns-3 : tie.Need-returns-3
-returns-3 c = 
+returns-3 c =
     let s = c .before .before .before .before .before .before .before in
     let a = s .args in
     kept-none (a .g) (view (a .img .now)) (isMarked (a .marks .now) (a .g .extents)) (a .e) (a .kept .now) (s .pre .1 .1) (omega (arith, c .before .table-file .ensures .0, c .if2 .left))

@@ -1,6 +1,6 @@
 -- `repair::count_kept` meets its contract. The loop's invariant: the extents passed are counted.
 use Prim.Native.Nat.{_-_, _≤_}
-use mathlib.Core.Path.{_≡_, refl, _∙_}
+use mathlib.Core.Path.{_≡_, _∙_}
 use native.Mathlib.Omega.{arith}
 use lib.ListN.{length}
 use Rattle.model.specs.Search.{countBelow}
@@ -24,7 +24,7 @@ unfolding countBelow
 loop-holds c = (omega arith, search needs, λ i l. c .before .before .clear .ensures i (omega (arith, c .before .before .clear .kept .0)))
 
 count-extent-requires : tie.Need-count-extent-requires Inv-loop μ-loop
-count-extent-requires c κs = 
+count-extent-requires c κs =
     let l = c .before .before .loop in
     let s = c .before .before .before .before .before .before .before .before .before .before in
     (s .pre .0, ((omega arith, omega arith, omega (arith, l .inv .1)), l .inv .2))
@@ -36,7 +36,7 @@ loop-less : tie.Need-loop-less Inv-loop μ-loop
 loop-less c = search needs
 
 loop-again : tie.Need-loop-again Inv-loop μ-loop
-loop-again c = 
+loop-again c =
     let l = c .before .before .before .before .before .loop in
     let k = c .before .before .count-extent in
     (omega arith, k .kept .1 .1 .1 .1 .0 ∙ l .inv .1, k .ensures)
@@ -45,7 +45,7 @@ same-length : tie.Need-same-length Inv-loop μ-loop
 same-length c = search needs
 
 returns : tie.Need-returns Inv-loop μ-loop
-returns c = 
+returns c =
     let l = c .before .loop in
     let e : l .e ≡ c .before .before .before .before .before .before .before .before .before .args .g .extents = omega arith in
     rw e at (l .inv .2)

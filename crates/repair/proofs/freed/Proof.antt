@@ -45,7 +45,7 @@ loop-less : tie.Need-loop-less Inv-loop μ-loop
 loop-less c = search needs
 
 loop-again : tie.Need-loop-again Inv-loop μ-loop
-loop-again c = 
+loop-again c =
     let l = c .before .before .before .before .before .before .loop in (
       omega arith,
       rw (freed-more, ← c .before .before .before .before .table-extent .ensures, ← c .before .before .before .is-marked .ensures, ← l .inv .1) (c .before .free-one .ensures),
@@ -53,7 +53,7 @@ loop-again c =
     )
 
 returns : tie.Need-returns Inv-loop μ-loop
-returns c = 
+returns c =
     let e : c .before .loop .k ≡ 128 = omega arith in
     rw (← c .before .before .before .table-sector .ensures, ← c .before .before .sector .ensures) (rw e at (c .before .loop .inv .1))
 

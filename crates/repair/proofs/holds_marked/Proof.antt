@@ -32,7 +32,7 @@ is-marked-requires : tie.Need-is-marked-requires Inv-loop μ-loop
 is-marked-requires c κs = search needs
 
 returns : tie.Need-returns Inv-loop μ-loop
-returns c = 
+returns c =
     let a = c .before .before .before .before .before .before .args in
     sym (anyBelow-true (hit (a .marks .now) (a .g) (a .t)) (c .before .before .before .before .loop .k) 128 (omega arith)
     (rw (c .before .before .table-extent .ensures) at (sym (c .before .is-marked .ensures) ∙ c .if1 .taken)))
@@ -44,13 +44,13 @@ loop-less : tie.Need-loop-less Inv-loop μ-loop
 loop-less c = search needs
 
 loop-again : tie.Need-loop-again Inv-loop μ-loop
-loop-again c = 
+loop-again c =
     let l = c .before .before .before .before .loop in
     let a = c .before .before .before .before .before .before .args in
     (omega arith, rw (anyBelow-more (hit (a .marks .now) (a .g) (a .t)) (l .k), ← c .before .before .table-extent .ensures, ← c .before .is-marked .ensures, c .if1 .left) (l .inv .1))
 
 returns-2 : tie.Need-returns-2 Inv-loop μ-loop
-returns-2 c = 
+returns-2 c =
     let e : c .before .loop .k ≡ 128 = omega arith in
     sym (rw e at (c .before .loop .inv .1))
 

@@ -26,7 +26,7 @@ cast-if2 : tie.Need-cast-if2
 cast-if2 c = omega (arith, c .shared-slice-known3 .given (c .before .before .before .before .before .before .before .args .i))
 
 returns : tie.Need-returns
-returns c = 
+returns c =
     let s = c .before .before .before .before .before .before .before .before in
     let a = s .args in
     lacking-none (view (a .img .now)) (a .g) (s .pre .0 .is) (omega (arith, s .pre .0 .bounded .extent-low)) (a .i) (s .pre .1 .0 .0) (omega (arith, s .pre .0 .bounded .files-high))
@@ -34,7 +34,7 @@ returns c =
     (sym (s .pre .1 .1 (a .i) (s .pre .1 .0 .0)) ∙ c .if2 .taken ∙ rw (c .before .before .before .size-at .ensures) at (c .before .before .extents-for .ensures .0))
 
 returns-2 : tie.Need-returns-2
-returns-2 c = 
+returns-2 c =
     let s = c .before .before .before .before .before .before .before .before in
     let a = s .args in
     lacking-some (view (a .img .now)) (a .g) (s .pre .0 .is) (omega (arith, s .pre .0 .bounded .extent-low)) (a .i) (s .pre .1 .0 .0) (omega (arith, s .pre .0 .bounded .files-high))
@@ -42,7 +42,7 @@ returns-2 c =
     (λ q. c .if2 .left (s .pre .1 .1 (a .i) (s .pre .1 .0 .0) ∙ q ∙ sym (rw (c .before .before .before .size-at .ensures) at (c .before .before .extents-for .ensures .0))))
 
 returns-3 : tie.Need-returns-3
-returns-3 c = 
+returns-3 c =
     let s = c .before .before .before .before in
     let a = s .args in
     lacking-free (view (a .img .now)) (a .g) (s .pre .0 .is) (omega (arith, s .pre .0 .bounded .extent-low)) (a .i) (s .pre .1 .0 .0) (omega (arith, s .pre .0 .bounded .files-high))

@@ -1,8 +1,4 @@
 -- `repair::is_marked` meets its contract. Past the last extent nothing is read.
-use mathlib.Core.Path.{sym, ap}
-use mathlib.Core.Bool.{Bool, _&&_}
-use lib.Dec.{eqb}
-use lib.ListN.{getD}
 use borrow.Author.Tests.{lt-ltb, le-ltb}
 use borrow.Author.Needs.{needs}
 use Rattle.repair.proofs.is_marked.Statement.{statement}

@@ -25,35 +25,41 @@ mul-before : tie.Need-mul-before
 mul-before c = search needs
 
 mul-before-2 : tie.Need-mul-before-2
-mul-before-2 c = 
+mul-before-2 c =
     let s = c .before .before .before .before .before .before .before .before in
-    omega (arith, s .pre .0 .bounded .extent-high, mul-le-mul {n₁ = c .before .table-offset .result} {m₁ = extentBytes (s .args .g)} {n₂ = 65535} {m₂ = 2199023255040} (omega arith)
-    (omega (arith, s .pre .0 .bounded .extent-high)))
+    omega (
+      arith,
+      s .pre .0 .bounded .extent-high,
+      mul-le-mul {n₁ = c .before .table-offset .result} {m₁ = extentBytes (s .args .g)} {n₂ = 65535} {m₂ = 2199023255040} (omega arith)
+          (omega (arith, s .pre .0 .bounded .extent-high)),
+    )
 
 size-at-requires : tie.Need-size-at-requires
 size-at-requires c κs = search needs
 
 returns : tie.Need-returns
-returns c = 
+returns c =
     let s = c .before .before .before .before .before .before .before .before .before .before in
     let a = s .args in
     let f = c .before .before .before .before .before .before .before .before .table-file in
     stray-beyond (view (a .img .now)) (a .g) (s .pre .0 .is) (omega (arith, s .pre .0 .bounded .extent-low)) (a .e .0) (s .pre .1 .0) (s .pre .1 .1 .0) (f .result) (f .ensures .0)
-    (c .before .before .before .before .before .before .if1 .taken) (sym (c .before .before .before .before .before .is-occupied .ensures) ∙ c .before .before .before .before .if2 .taken) (c .before .before .before .table-offset .result) (c .before .size-at .result) (c .before .before .before .table-offset .ensures .0)
+    (c .before .before .before .before .before .before .if1 .taken) (sym (c .before .before .before .before .before .is-occupied .ensures) ∙ c .before .before .before .before .if2 .taken)
+    (c .before .before .before .table-offset .result) (c .before .size-at .result) (c .before .before .before .table-offset .ensures .0)
     (c .before .size-at .ensures) (c .if3 .taken)
 
 returns-2 : tie.Need-returns-2
-returns-2 c = 
+returns-2 c =
     let s = c .before .before .before .before .before .before .before .before .before .before in
     let a = s .args in
     let f = c .before .before .before .before .before .before .before .before .table-file in
     s .pre .1 .1 .1
     ∙ stray-repeated (view (a .img .now)) (a .g) (s .pre .0 .is) (omega (arith, s .pre .0 .bounded .extent-low)) (a .e .0) (s .pre .1 .0) (s .pre .1 .1 .0) (f .result) (f .ensures .0)
-    (c .before .before .before .before .before .before .if1 .taken) (sym (c .before .before .before .before .before .is-occupied .ensures) ∙ c .before .before .before .before .if2 .taken) (c .before .before .before .table-offset .result) (c .before .size-at .result) (c .before .before .before .table-offset .ensures .0)
+    (c .before .before .before .before .before .before .if1 .taken) (sym (c .before .before .before .before .before .is-occupied .ensures) ∙ c .before .before .before .before .if2 .taken)
+    (c .before .before .before .table-offset .result) (c .before .size-at .result) (c .before .before .before .table-offset .ensures .0)
     (c .before .size-at .ensures) (c .if3 .left)
 
 returns-3 : tie.Need-returns-3
-returns-3 c = 
+returns-3 c =
     let s = c .before .before .before .before .before .before in
     let a = s .args in
     let f = c .before .before .before .before .table-file in
@@ -61,7 +67,7 @@ returns-3 c =
     (c .before .before .if1 .taken) (sym (c .before .is-occupied .ensures) ∙ c .if2 .left)
 
 returns-4 : tie.Need-returns-4
-returns-4 c = 
+returns-4 c =
     let s = c .before .before .before .before in
     let a = s .args in
     let f = c .before .before .table-file in

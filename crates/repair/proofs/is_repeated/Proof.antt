@@ -28,7 +28,7 @@ cast-j : tie.Need-cast-j Inv-loop μ-loop
 cast-j c = omega (arith, c .shared-slice-known3 .given (c .before .before .before .args .b))
 
 loop-holds : tie.Need-loop-holds Inv-loop μ-loop
-loop-holds c = 
+loop-holds c =
     let s = c .before .before .before in
     let a = s .args in
     let p = s .pre .1 in
@@ -57,7 +57,7 @@ cast-j-2 : tie.Need-cast-j-2 Inv-loop μ-loop
 cast-j-2 c = omega (arith, c .shared-slice-known4 .given (c .before .before .before .before .loop .j - 1))
 
 loop-less : tie.Need-loop-less Inv-loop μ-loop
-loop-less c = 
+loop-less c =
     let s = c .before .before .before .before .before .before .before .before in
     let a = s .args in
     let p = s .pre .1 in
@@ -65,12 +65,13 @@ loop-less c =
     walk-falls only (p .1 .1 .1 .chain (a .b) (p .0 .1)) (c .before .before .before .before .loop .inv) (c .before .before .before .loop-test .taken)
 
 loop-again : tie.Need-loop-again Inv-loop μ-loop
-loop-again c = 
+loop-again c =
     let s = c .before .before .before .before .before .before .before .before in
     let a = s .args in
     let p = s .pre .1 in
     let only = same-member (a .g) (view (a .img .now)) (length (a .chains .now)) (a .b) (a .e) (p .1 .0) (p .1 .1 .0) in
-    walk-next only (p .1 .1 .1 .chain (a .b) (p .0 .1)) (c .before .before .before .before .loop .inv) (c .before .before .before .loop-test .taken) (sym (c .before .before .is-same-part .ensures) ∙ c .before .if1 .left)
+    walk-next only (p .1 .1 .1 .chain (a .b) (p .0 .1)) (c .before .before .before .before .loop .inv) (c .before .before .before .loop-test .taken)
+    (sym (c .before .before .is-same-part .ensures) ∙ c .before .if1 .left)
 
 returns-2 : tie.Need-returns-2 Inv-loop μ-loop
 returns-2 c = sym (walk-end (c .before .loop .inv) (c .loop-test .left))

@@ -17,7 +17,15 @@ table-offset-requires-2 : tie.Need-table-offset-requires-2
 table-offset-requires-2 c κs = search needs
 
 returns : tie.Need-returns
-returns c = rw (← c .before .before .before .before .table-file .ensures .0, ← c .before .before .before .table-file2 .ensures .0, eq-eqb _ _ (c .before .before .if1 .taken), ← c .before .table-offset .ensures .0, ← c .table-offset2 .ensures .0)
+returns c =
+    rw (
+      ← c .before .before .before .before .table-file .ensures .0,
+      ← c .before .before .before .table-file2 .ensures .0,
+      eq-eqb _ _
+          (c .before .before .if1 .taken),
+      ← c .before .table-offset .ensures .0,
+      ← c .table-offset2 .ensures .0,
+    )
 
 returns-2 : tie.Need-returns-2
 returns-2 c = rw (← c .before .before .table-file .ensures .0, ← c .before .table-file2 .ensures .0, ne-eqb _ _ (c .if1 .left))

@@ -1,6 +1,6 @@
 -- `repair::mark_strays` meets its contract. The loop's invariant: the chains and the bytes are those of the extents passed.
 use Prim.Native.Nat.{_-_, _/_, _≤_}
-use mathlib.Core.Path.{_≡_, refl, sym, ap, _∙_}
+use mathlib.Core.Path.{_≡_, refl, ap, _∙_}
 use mathlib.Core.Bool.{Bool, cond}
 use native.Mathlib.Omega.{arith}
 use lib.ListN.{length}
@@ -26,12 +26,12 @@ abbrev μ-loop : tie.MeasureT-loop
 
 loop-holds : tie.Need-loop-holds Inv-loop μ-loop
 unfolding countBelow
-loop-holds c = 
+loop-holds c =
     let s = c .before .before .before in
     (omega arith, refl, refl, chains-none _ _ _ _ (λ b l. ap (λ w. w / 65536) (s .pre .1 .1 b l)), (λ k l. absurd (omega arith)), refl, omega arith)
 
 is-stray-requires : tie.Need-is-stray-requires Inv-loop μ-loop
-is-stray-requires c κs = 
+is-stray-requires c κs =
     let l = c .before .before .loop in
     let s = c .before .before .before .before .before .before in
     (s .pre .0, ((omega arith, omega arith, omega arith), l .inv .3))
@@ -55,7 +55,7 @@ loop-less : tie.Need-loop-less Inv-loop μ-loop
 loop-less c = search needs
 
 loop-again : tie.Need-loop-again Inv-loop μ-loop
-loop-again c = 
+loop-again c =
     let l = c .before .before .before .before .before .before .loop in
     let a = c .before .before .before .before .before .before .before .before .before .before .args in
     let k = c .before .before .before .is-stray in
@@ -77,7 +77,7 @@ same-length-2 : tie.Need-same-length-2 Inv-loop μ-loop
 same-length-2 c = search needs
 
 returns : tie.Need-returns Inv-loop μ-loop
-returns c = 
+returns c =
     let l = c .before .loop in
     let e : l .e ≡ c .before .before .before .before .before .args .g .extents = omega arith in
     (rw e at (l .inv .4), l .inv .5 ∙ ap (countBelow (isStray (catalogueOf (view (c .before .before .before .before .before .args .img .now))))) e)

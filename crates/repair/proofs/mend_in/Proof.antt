@@ -1,6 +1,6 @@
 -- `repair::mend_in` meets its contract.
 use Prim.Native.Nat.{_*_}
-use mathlib.Core.Path.{_≡_, ap, _∙_}
+use mathlib.Core.Path.{ap, _∙_}
 use native.Mathlib.Omega.{arith}
 use Rattle.model.specs.Disk.{view}
 use Rattle.model.specs.WriteList.{recordSize, recordCount}
@@ -20,7 +20,7 @@ count-kept-requires : tie.Need-count-kept-requires
 count-kept-requires c κs = search needs
 
 first-lacking-requires : tie.Need-first-lacking-requires
-first-lacking-requires c κs = 
+first-lacking-requires c κs =
     let s = c .before .before .before .before .before .before .before .before .before .before .before .before .before .before .before .before .before .before .before in
     let a = s .args in
     let d = view (a .img .now) in
@@ -35,7 +35,7 @@ same-length-2 : tie.Need-same-length-2
 same-length-2 c = search needs
 
 returns : tie.Need-returns
-returns c = 
+returns c =
     let s = c .before .before .before .before .before .before .before .before .before .before .before .before .before .before .before .before .before .before .before .before .before in
     let a = s .args in
     let d = view (a .img .now) in
@@ -62,15 +62,17 @@ same-length-5 : tie.Need-same-length-5
 same-length-5 c = search needs
 
 returns-2 : tie.Need-returns-2
-returns-2 c = 
-    let s = c .before .before .before .before .before .before .before .before .before .before .before .before .before .before .before .before .before .before .before .before .before .before .before .before .before .before .before .before in
+returns-2 c =
+    let h = c .before .before .before .before .before .before .before .before .before .before .before .before .before .before in
+    let s = h .before .before .before .before .before .before .before .before .before .before .before .before .before .before in
     let a = s .args in
     let d = view (a .img .now) in
     let m = c .before .before .before .before .before .before .before .before .before .before .before .before .before .before .before .before .before .before .before .before .before .mark-strays in
     let f = c .before .before .before .before .before .before .before .before .first-lacking in
     let n = c .before .before .before .before .before .before .records-for in
     let e = n .ensures ∙ ap (recordCount 0) (c .before .before .before .before .before .before .before .before .before .before .before .before .before .before .before .marked-sectors .ensures .0) in
-    mends-some d (a .g) (s .pre .0 .is) (m .last .1 .1 .1 .0) (m .ensures .0) (a .list .now) (m .result) (m .ensures .1) (f .result) (f .ensures) (c .before .before .before .before .before .before .before .if1 .left) (recordSize * n .result) (omega (arith, e))
+    mends-some d (a .g) (s .pre .0 .is) (m .last .1 .1 .1 .0) (m .ensures .0) (a .list .now) (m .result) (m .ensures .1) (f .result) (f .ensures)
+    (c .before .before .before .before .before .before .before .if1 .left) (recordSize * n .result) (omega (arith, e))
     (omega arith) (c .before .before .put-repair .ensures)
 
 same-length-6 : tie.Need-same-length-6
@@ -80,7 +82,7 @@ same-length-7 : tie.Need-same-length-7
 same-length-7 c = search needs
 
 returns-3 : tie.Need-returns-3
-returns-3 c = 
+returns-3 c =
     let s = c .before .before .before .before .before .before .before .before .before .before .before .before .before .before .before .before .before .before .before .before .before .before .before in
     let a = s .args in
     let d = view (a .img .now) in
@@ -88,7 +90,8 @@ returns-3 c =
     let f = c .before .before .before .first-lacking in
     let n = c .before .records-for in
     let e = n .ensures ∙ ap (recordCount 0) (c .before .before .before .before .before .before .before .before .before .before .marked-sectors .ensures .0) in
-    mends-short d (a .g) (s .pre .0 .is) (m .last .1 .1 .1 .0) (m .ensures .0) (a .list .now) (m .result) (m .ensures .1) (f .result) (f .ensures) (c .before .before .if1 .left) (omega (arith, e, c .if2 .left))
+    mends-short d (a .g) (s .pre .0 .is) (m .last .1 .1 .1 .0) (m .ensures .0) (a .list .now) (m .result) (m .ensures .1) (f .result) (f .ensures) (c .before .before .if1 .left)
+    (omega (arith, e, c .if2 .left))
 
 pub mend-in-spec : {M : Type 1} → statement M
 mend-in-spec =

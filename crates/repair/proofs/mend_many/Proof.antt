@@ -14,10 +14,21 @@ slice-aggregate-mend-in-2 : tie.Need-slice-aggregate-mend-in-2
 slice-aggregate-mend-in-2 c = search needs
 
 mend-in-requires : tie.Need-mend-in-requires
-mend-in-requires c κs = 
+mend-in-requires c κs =
     let s = c .before .before .before .before .before in
-    let n = length-replicate {A = ℕ} 65536 0 in
-    (s .pre, ((omega arith, omega (arith, s .pre .bounded .extents-high, s .pre .bounded .files-high), omega (arith, s .pre .bounded .extents-high, s .pre .bounded .files-high), omega (arith, s .pre .bounded .extents-high, s .pre .bounded .files-high)), λ p l. zeros-at 65536 p))
+    let n = length-replicate {A = ℕ} 65536 0 in (
+      s .pre,
+      (
+        (
+          omega arith,
+          omega (arith, s .pre .bounded .extents-high, s .pre .bounded .files-high),
+          omega (arith, s .pre .bounded .extents-high, s .pre .bounded .files-high),
+          omega
+              (arith, s .pre .bounded .extents-high, s .pre .bounded .files-high),
+        ),
+        λ p l. zeros-at 65536 p,
+      ),
+    )
 
 same-length : tie.Need-same-length
 same-length c = search needs

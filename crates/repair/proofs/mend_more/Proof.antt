@@ -14,7 +14,7 @@ slice-aggregate-mend-in-2 : tie.Need-slice-aggregate-mend-in-2
 slice-aggregate-mend-in-2 c = search needs
 
 mend-in-requires : tie.Need-mend-in-requires
-mend-in-requires c κs = 
+mend-in-requires c κs =
     let s = c .before .before .before .before .before in
     let n = length-replicate {A = ℕ} 8192 0 in
     (s .pre .0, ((omega arith, omega arith, omega arith, omega arith), λ p l. zeros-at 8192 p))

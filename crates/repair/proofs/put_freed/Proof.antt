@@ -1,5 +1,5 @@
 -- `repair::put_freed` meets its contract. The loop's invariant: those of the table sectors passed are staged.
-use Prim.Native.Nat.{_+_, _-_, _≤_}
+use Prim.Native.Nat.{_-_, _≤_}
 use mathlib.Core.Path.{_≡_, refl}
 use native.Mathlib.Nat.{zero-add}
 use native.Mathlib.Omega.{arith}
@@ -33,7 +33,7 @@ unfolding concatenated countBelow
 loop-holds c = (omega arith, added-none _ _ _ _, refl, omega arith, refl, refl)
 
 put-freed-sector-requires : tie.Need-put-freed-sector-requires Inv-loop μ-loop
-put-freed-sector-requires c κs = 
+put-freed-sector-requires c κs =
     let l = c .before .before .before in
     let s = c .before .before .before .before .before .before .before .before .before in
     let a = s .args in
@@ -47,7 +47,7 @@ loop-less : tie.Need-loop-less Inv-loop μ-loop
 loop-less c = search needs
 
 loop-again : tie.Need-loop-again Inv-loop μ-loop
-loop-again c = 
+loop-again c =
     let q = c .before .before .before .before in
     let l = c .before .before .before .before .before .before .before .before in
     let a = c .before .before .before .before .before .before .before .before .before .before .before .before .before .before .args in
@@ -67,7 +67,7 @@ same-length-2 : tie.Need-same-length-2 Inv-loop μ-loop
 same-length-2 c = search needs
 
 returns : tie.Need-returns Inv-loop μ-loop
-returns c = 
+returns c =
     let l = c .before .loop in
     let a = c .before .before .before .before .before .before .before .args in
     let e : l .t ≡ tableSectors (a .g) = omega (arith, c .before .before .table-sectors .ensures) in (

@@ -30,19 +30,20 @@ same-length-2 : tie.Need-same-length-2
 same-length-2 c = search needs
 
 returns : tie.Need-returns
-returns c = 
+returns c =
     let q = c .before .before .before .before in
     let f = c .before .before .before .before .before .before .before .before in
     let s = c .before .before .before .before .before .before .before .before .before .before .before .before .before .before .before in
     let a = s .args in
-    let held = sym (c .before .before .before .before .before .before .before .before .before .before .holds-marked .ensures) ∙ c .before .before .before .before .before .before .before .before .before .if1 .taken in (
+    let held = sym (c .before .before .before .before .before .before .before .before .before .before .holds-marked .ensures)
+    ∙ c .before .before .before .before .before .before .before .before .before .if1 .taken in (
       rw (freed-hit (isMarked (a .marks .now) (a .g .extents)) (a .g) (view (a .img .now)) (a .t) held)
           (added-copy {s = tableAt (a .g) + a .t} (rw (← f .freed .ensures) (q .put-copy .ensures .0)) (rw (← q .before .table-sector .ensures) (q .put-copy .ensures .1)) (omega arith)),
       (rw held (q .put-copy .ensures .0 .next), omega (arith, q .put-copy .ensures .0 .next)),
     )
 
 returns-2 : tie.Need-returns-2
-returns-2 c = 
+returns-2 c =
     let s = c .before .before .before .before .before .before in
     let a = s .args in
     let none = sym (c .before .holds-marked .ensures) ∙ c .if1 .left in (

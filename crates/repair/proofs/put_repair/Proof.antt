@@ -20,7 +20,7 @@ slice-aggregate-put-commit : tie.Need-slice-aggregate-put-commit
 slice-aggregate-put-commit c = search needs
 
 put-commit-requires : tie.Need-put-commit-requires
-put-commit-requires c κs = 
+put-commit-requires c κs =
     let s = c .before .before .before .before .before .before .before .before .before .before .before in
     let all = c .before .before .before .before .before .put-freed .ensures .1 in
     (omega (arith, all .0, s .pre .1 .1), (omega arith, (s .pre .0 .bounded, (omega (arith, all .1), omega (arith, all .1), omega arith))))
@@ -29,13 +29,14 @@ same-length : tie.Need-same-length
 same-length c = search needs
 
 returns : tie.Need-returns
-returns c = 
+returns c =
     let f = c .before .before .before .before .before .before .before .before .put-freed in
     let s = c .before .before .before .before .before .before .before .before .before .before .before .before .before .before in
     let a = s .args in
     let d = view (a .img .now) in
     let p = isMarked (a .marks .now) (a .g .extents) in
-    added-committed d (freeingPlan p (a .g) d) (f .ensures .0) (c .before .before .put-commit .ensures .0) (s .pre .0 .is) refl (freeing-alone p (a .g) d) (omega (arith, f .ensures .1 .0, s .pre .1 .1))
+    added-committed d (freeingPlan p (a .g) d) (f .ensures .0) (c .before .before .put-commit .ensures .0) (s .pre .0 .is) refl (freeing-alone p (a .g) d)
+    (omega (arith, f .ensures .1 .0, s .pre .1 .1))
 
 pub put-repair-spec : {M : Type 1} → statement M
 put-repair-spec =

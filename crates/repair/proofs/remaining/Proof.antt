@@ -1,7 +1,6 @@
 -- `repair::remaining` meets its contract.
 use mathlib.Core.Path.{sym, ap, _∙_}
 use Rattle.model.specs.declared.Lowest.{Lowest}
-use Rattle.model.specs.declared.Soundness.{Soundness}
 use Rattle.model.specs.declared.Soundness.the-variants.{Sound}
 use Rattle.model.specs.Search.{first}
 use Rattle.model.specs.Disk.{view}
@@ -21,11 +20,12 @@ enum-known-n : tie.Need-enum-known-n
 enum-known-n c = search needs
 
 returns : tie.Need-returns
-returns c = 
+returns c =
     let s = c .before .before .before .before .before in
     let a = s .args in
     let d = view (a .img .now) in
-    ap doneBut (directory-found d (a .g) (orElse 26 (first (fault26 (repaired (catalogueOf d))) (catalogueOf d .geometry .files)) Sound) _ _ (sym (c .before .before .before .directory-fault .ensures) ∙ c .before .n .given .1)
+    ap doneBut (directory-found d (a .g) (orElse 26 (first (fault26 (repaired (catalogueOf d))) (catalogueOf d .geometry .files)) Sound) _ _
+    (sym (c .before .before .before .directory-fault .ensures) ∙ c .before .n .given .1)
     ∙ sym (remains d (a .g) (s .pre .0 .is) (s .pre .1 .0)))
 
 enum-told : tie.Need-enum-told
@@ -41,7 +41,7 @@ refusal-requires : tie.Need-refusal-requires
 refusal-requires c κs = search needs
 
 returns-2 : tie.Need-returns-2
-returns-2 c = 
+returns-2 c =
     let s = c .before .before .before .before .before .before .before in
     let a = s .args in
     let d = view (a .img .now) in
@@ -50,7 +50,7 @@ returns-2 c =
     (sym (c .before .before .before .before .before .directory-fault .ensures) ∙ c .before .before .before .enum-told .given .1) ∙ sym (remains d (a .g) (s .pre .0 .is) (s .pre .1 .0)))
 
 returns-3 : tie.Need-returns-3
-returns-3 c = 
+returns-3 c =
     let s = c .before .before .before .before .before .before .before in
     let a = s .args in
     let d = view (a .img .now) in

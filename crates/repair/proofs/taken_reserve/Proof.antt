@@ -1,6 +1,6 @@
 -- `repair::taken_reserve` meets its contract. The search starts where the reserve does.
 use Prim.Native.Nat.{ℕ, _-_, _≤_}
-use mathlib.Core.Path.{_≡_, sym, ap, _∙_}
+use mathlib.Core.Path.{sym, ap, _∙_}
 use mathlib.Core.Bool.{Bool, not, _&&_}
 use mathlib.Core.List.{List}
 use native.Mathlib.Omega.{arith}
@@ -30,7 +30,7 @@ usable-requires : tie.Need-usable-requires Inv-loop μ-loop
 usable-requires c κs = search needs
 
 loop-holds : tie.Need-loop-holds Inv-loop μ-loop
-loop-holds c = 
+loop-holds c =
     let s = c .before .before in
     let a = s .args in
     (rw (c .usable .ensures) (reserve-start (isTaken (a .img .now) (a .g)) (usable (a .g)) (a .g .extents) (omega arith)), omega (arith, c .usable .ensures))
@@ -39,7 +39,7 @@ table-file-requires : tie.Need-table-file-requires Inv-loop μ-loop
 table-file-requires c κs = search needs
 
 returns : tie.Need-returns Inv-loop μ-loop
-returns c = 
+returns c =
     let s = c .before .before .before .before .before .before in
     let a = s .args in
     let l = c .before .before .before .loop in
@@ -55,7 +55,7 @@ loop-less : tie.Need-loop-less Inv-loop μ-loop
 loop-less c = search needs
 
 loop-again : tie.Need-loop-again Inv-loop μ-loop
-loop-again c = 
+loop-again c =
     let s = c .before .before .before .before .before .before in
     let a = s .args in
     let l = c .before .before .before .loop in
@@ -63,7 +63,7 @@ loop-again c =
     (seek-next (l .inv .0) (c .before .before .loop-test .taken) (ap (λ (b : Bool). leb (usable (a .g)) (l .e) && not b) z ∙ and-false (leb (usable (a .g)) (l .e))), omega arith)
 
 returns-2 : tie.Need-returns-2 Inv-loop μ-loop
-returns-2 c = 
+returns-2 c =
     let s = c .before .before .before .before in
     let a = s .args in
     rw (reserve-is (view (a .img .now)) (a .g) (s .pre .is)) (seek-end (c .before .loop .inv .0) (c .loop-test .left))

@@ -84,7 +84,9 @@ fn the_question() {
     }
     let said = answering("yes\n", &card);
     assert_eq!(said.status, 0, "{}", said.err);
-    assert!(said.text().ends_with("Free them? (yes/no) freed: 1 extent\n"));
+    assert!(said
+        .text()
+        .ends_with("Free them? (yes/no) freed: 1 extent\n"));
     good("check", &card, &[]);
 }
 

@@ -35,11 +35,20 @@ fn cuts() {
     cut_a_repair(&Both);
 }
 
-/// Sizes whose counts and sums pass 64 bits: no offset is at or above such a count.
+/// Sizes whose counts and sums pass 64 bits. The last offset that there is, 65,535, is at or above the
+/// counts up to 65,535 only.
 #[test]
 fn sizes_near_2_to_the_64() {
     let geometry = Geometry::new(255, 6, 128).expect("within the bounds");
-    for size in [1 << 32, 1 << 48, (1 << 48) + 1, u64::MAX - 65_536, u64::MAX - 1, u64::MAX] {
+    for (size, freed) in [
+        (65_535 << 16, 1),
+        ((65_535 << 16) + 1, 0),
+        (1 << 32, 0),
+        ((1 << 48) + 1, 0),
+        (u64::MAX - 65_536, 0),
+        (u64::MAX - 1, 0),
+        (u64::MAX, 0),
+    ] {
         let mut image = blank(geometry, geometry.end().0);
         put_file(&mut image, geometry, 0, b"huge", 65_536, &[1]);
         put_file(&mut image, geometry, 1, b"last", 65_537, &[3, 4]);
@@ -47,11 +56,11 @@ fn sizes_near_2_to_the_64() {
         put16(&mut image, table_entry(geometry, 2), 0);
         put16(&mut image, table_entry(geometry, 2) + 2, 65_535);
         let answer = repaired_alike(&Both, &image);
-        // 2^32 bytes are 65,536 extents: the last offset that there is belongs to such a file.
-        assert_eq!((answer.freed, answer.fault, answer.place), (0, 22, 0));
-        put64(&mut image, entry_field(0, 2), (65_535 << 16) + u64::from(size == u64::MAX));
-        let freed = u64::from(size != u64::MAX);
-        assert_eq!(repaired_alike(&Both, &image).freed, freed);
+        assert_eq!(
+            (answer.freed, answer.fault, answer.place),
+            (freed, 22, 0),
+            "{size}"
+        );
     }
 }
 

@@ -81,6 +81,7 @@ extern "C" {
 #define GOOFS_RESIZE_LIST (GOOFS_RECORDS(0, 1 + 512) * GOOFS_RECORD)
 #define GOOFS_WRITE_LIST (GOOFS_RECORDS(129, 2) * GOOFS_RECORD)
 #define GOOFS_RECOVER_LIST (GOOFS_RECOVERY_RECORDS(1024) * GOOFS_RECORD)
+#define GOOFS_REPAIR_LIST (GOOFS_RECORDS(0, 512) * GOOFS_RECORD)
 #define GOOFS_SLICE_LIST(budget) (((budget) + 1) * GOOFS_RECORD)
 
 /* The numbers of scratch that goofs_check_with needs. */
@@ -152,6 +153,13 @@ typedef struct {
 } goofs_change_result;
 
 typedef struct {
+    uint64_t code;
+    uint64_t fault, place; /* with 7 the reason; with 0 the first fault that remains, both 0 if none does */
+    uint64_t length;
+    uint64_t freed; /* table entries */
+} goofs_repair_result;
+
+typedef struct {
     uint64_t code, length;
 } goofs_length_result;
 
@@ -209,6 +217,19 @@ goofs_change_result goofs_resize(const uint8_t *image, size_t image_length, cons
  * each sector up to it has its old bytes or the new ones. */
 goofs_change_result goofs_write(const uint8_t *image, size_t image_length, const uint8_t *name, size_t name_length, uint64_t offset,
                                 const uint8_t *data, size_t data_length, uint64_t time, uint8_t *list, size_t list_length);
+
+/* Frees, at once, each extent that the table gives to no file that is there, that lies at or past the end of its file, or whose place in
+ * its file a lower extent already has. Nothing else changes: no entry, no byte of a file, not the root. Runs on clean volumes with any
+ * fault, but gives 7 with GOOFS_FAULT_TABLE and the lowest extent where one of the reserve isn't free, whatever goofs_check says. `freed`
+ * is how many; with 0 none, and an empty list. Gives 0 to 7 and 14. List: at most GOOFS_REPAIR_LIST.
+ *
+ * With 0, `fault` and `place` are what goofs_check gives with 7 once the list has landed: extents that a file lacks are told, never
+ * invented. The volume is sound then exactly if it had none of the faults 21 to 24 and no file lacked an extent.
+ *
+ * What is freed is lost to its file. An entry with GOOFS_FAULT_MARK counts as not there: all extents of its file are freed. A size that
+ * is damaged and too small costs the file those behind it; one that is too large costs none. So where goofs_check gives 21 or 22, save
+ * the image before this call. */
+goofs_repair_result goofs_repair(const uint8_t *image, size_t image_length, uint8_t *list, size_t list_length);
 
 /* Finishes a change that was cut after its start mark; a clean volume gives an empty list. Gives 0 to 4, 6 and 14. List: at most
  * GOOFS_RECOVER_LIST. It may itself be cut and asked for again. */

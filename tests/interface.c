@@ -1,4 +1,4 @@
-/* Tests of the C interface through include/goofs.h: all fifteen calls on volumes of both editions, every result number, every byte of
+/* Tests of the C interface through include/goofs.h: all sixteen calls on volumes of both editions, every result number, every byte of
  * every buffer. What is expected is worked out from document 01 and stands here as plain numbers. The last line is 'N passed, M failed',
  * where a test is one function of the tables at the end, on one edition.
  *
@@ -516,6 +516,8 @@ static void all_refuse(int besides, const uint8_t *image, size_t length, uint64_
            .place = place);
         IS(goofs_change_result, goofs_write(image, length, name, name_length, number, data, data_length, time, out, room),
            .code = code, .fault = fault, .place = place);
+        if (code != 7)
+            IS(goofs_repair_result, goofs_repair(image, length, out, room), .code = code);
         if (besides & RECOVER)
             IS(goofs_length_result, goofs_recover(image, length, out, room), .code = code);
         if (besides & RECOVER)
@@ -611,6 +613,7 @@ static void sizes_of_results(void)
     NUMBER(sizeof(goofs_list_result), 80);    /* 10 */
     NUMBER(sizeof(goofs_read_result), 32);    /* 4 */
     NUMBER(sizeof(goofs_change_result), 32);  /* 4 */
+    NUMBER(sizeof(goofs_repair_result), 40);  /* 5 */
     NUMBER(sizeof(goofs_length_result), 16);  /* 2 */
     NUMBER(sizeof(goofs_slice_result), 24);   /* 3 */
 }
@@ -658,6 +661,7 @@ static void macros(void)
     NUMBER(GOOFS_RENAME_LIST, 555984);  /* 515 copies, 17 journal sectors, 2 marks, 515 targets, 4 barriers: 1,053 */
     NUMBER(GOOFS_RESIZE_LIST, 553872);  /* 513 copies, 17 journal sectors, 2 marks, 513 targets, 4 barriers: 1,049 */
     NUMBER(GOOFS_WRITE_LIST, 73920);    /* 129 data sectors, 2 copies, journal, 2 marks, 2 targets, 4 barriers: 140 */
+    NUMBER(GOOFS_REPAIR_LIST, 552288);  /* 512 copies, 16 journal sectors, 2 marks, 512 targets, 4 barriers: 1,046 */
     NUMBER(GOOFS_RECOVER_LIST, 542256); /* 1,024 targets, end mark, 2 barriers: 1,027 */
 }
 
@@ -1297,6 +1301,85 @@ static void faults(void)
     IS(goofs_check_result, goofs_check(medium.bytes, IMAGE), .code = 0);
 }
 
+/* The repair frees so many entries and gives the wanted list, into one of just its length and into the longest; one byte less is 14. The
+ * fault that remains is what check says of the image on which the list landed, and a second repair has nothing to do. */
+static void repairs(uint64_t freed, uint64_t fault, uint64_t place)
+{
+    const size_t room[] = {wanted.length, GOOFS_REPAIR_LIST};
+    int i;
+
+    hold();
+    lend();
+    if (wanted.length > 0) {
+        IS(goofs_repair_result, goofs_repair(medium.bytes, IMAGE, lent.bytes, wanted.length - 1), .code = 14);
+        IS(goofs_repair_result, goofs_repair(medium.bytes, IMAGE, NULL, 0), .code = 14);
+        lent_is(__LINE__, NULL, 0);
+    }
+    for (i = 0; i < 2; i++) {
+        lend();
+        IS(goofs_repair_result, goofs_repair(medium.bytes, IMAGE, lent.bytes, room[i]), .code = 0, .fault = fault, .place = place,
+           .length = wanted.length, .freed = freed);
+        lent_is(__LINE__, wanted.bytes, wanted.length);
+    }
+    held_is(__LINE__);
+    NUMBER(goofs_carry_out(medium.bytes, IMAGE, lent.bytes, wanted.length), 0);
+    land(held.bytes, wanted.length / 528);
+    held_is(__LINE__);
+    IS(goofs_check_result, goofs_check(medium.bytes, IMAGE), .code = fault ? 7 : 0, .fault = fault, .place = place);
+    IS(goofs_repair_result, goofs_repair(medium.bytes, IMAGE, NULL, 0), .code = 0, .fault = fault, .place = place);
+}
+
+#define REPAIRS (from = __LINE__, repairs)
+
+/* "beam" is file 0 with extent 0 for its offset 0, "gain" file 1 with none. */
+static void repaired(void)
+{
+    static const struct {
+        uint64_t place, width, value; /* the damage */
+        uint64_t freed, fault, fault_place;
+        uint64_t e0, e1, e2; /* the table afterwards */
+    } cases[] = {
+        {289 * 512 + 8, 4, UINT64_C(0x00090000), 1, 0, 0, 0, FREE, FREE},   /* extent 2 names file 9, which is free, */
+        {289 * 512 + 8, 4, UINT64_C(0x00FF0000), 1, 0, 0, 0, FREE, FREE},   /* or file 255, which isn't one */
+        {289 * 512 + 8, 4, UINT64_C(0x00000001), 1, 0, 0, 0, FREE, FREE},   /* an offset at the count of "beam", */
+        {289 * 512 + 8, 4, UINT64_C(0x0000FFFE), 1, 0, 0, 0, FREE, FREE},   /* and one far above it */
+        {289 * 512 + 8, 4, 0, 1, 0, 0, 0, FREE, FREE},                      /* offset 0 of "beam" twice: the lower extent keeps it */
+        {2 * 512, 2, 1, 1, 21, 0, FREE, FREE, FREE},                        /* a damaged mark costs "beam" its extent, */
+        {2 * 512 + 2, 8, 0, 1, 0, 0, FREE, FREE, FREE},                     /* and so does a size of 0 */
+        {2 * 512 + 2, 8, UINT64_MAX, 0, 22, 0, 0, FREE, FREE},              /* one that no file can have costs none */
+        {289 * 512, 4, UINT64_C(0x00010000), 1, 26, 0, FREE, FREE, FREE},   /* "beam" lacks it, "gain" has no use for it */
+        {289 * 512, 4, FREE, 0, 26, 0, FREE, FREE, FREE},                   /* what lacks is told */
+        {289 * 512 + 4, 4, UINT64_C(0xFFFF0007), 0, 0, 0, 0, FREE, FREE},   /* a free entry's offset is not judged */
+    };
+    uint8_t contents[1][512];
+    size_t k;
+
+    for (k = 0; k < sizeof cases / sizeof *cases; k++) {
+        two_files();
+        put(medium.bytes + cases[k].place, (int)cases[k].width, cases[k].value);
+        wanted.length = 0;
+        if (cases[k].freed > 0) {
+            /* A copy, a journal sector, 2 marks, a target, 4 barriers: 9 records. */
+            table(contents[0], cases[k].e0, cases[k].e1, cases[k].e2, FREE);
+            want_commit(1, (const uint64_t[]){289}, contents);
+            NUMBER(wanted.length, 4752);
+        }
+        REPAIRS(cases[k].freed, cases[k].fault, cases[k].fault_place);
+    }
+    two_files(); /* a sound volume, and one whose reserve isn't free: 7, also where check gives a lower fault */
+    wanted.length = 0;
+    REPAIRS(0, 0, 0);
+    put(medium.bytes + 289 * 512 + 12, 4, 0);
+    put(medium.bytes + 9 * 512, 2, 1);
+    IS(goofs_check_result, goofs_check(medium.bytes, IMAGE), .code = 7, .fault = 21, .place = 7);
+    hold();
+    lend();
+    IS(goofs_repair_result, goofs_repair(medium.bytes, IMAGE, lent.bytes, sizeof lent.bytes), .code = 7, .fault = 25, .place = 3);
+    IS(goofs_repair_result, goofs_repair(medium.bytes, IMAGE, NULL, 0), .code = 7, .fault = 25, .place = 3);
+    lent_is(__LINE__, NULL, 0);
+    held_is(__LINE__);
+}
+
 static void names(void)
 {
     static uint8_t long_name[478];
@@ -1723,6 +1806,7 @@ static const struct test tests[] = {
     {"states", states},
     {"images refused", images_refused},
     {"faults", faults},
+    {"repaired", repaired},
     {"names", names},
     {"new names", new_names},
     {"times of calls", times_of_calls},

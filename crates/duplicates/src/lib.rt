@@ -25,7 +25,7 @@ enum Key {
 // ---- hashes, on whose quality only the speed depends
 
 // One more word into a hash, its halves multiplied apart: no product passes 64 bits.
-fn mixed(h: u32, w: u64) -> u32
+pub fn mixed(h: u32, w: u64) -> u32
     ensures { λ r. ⌜ r ≡ mixed h w ⌝ }
 {
     let high = (h as u64) + w / 4294967296;
@@ -130,7 +130,7 @@ fn is_repeated(img: &[u8], key: Key, i: usize, b: usize, chains: &[u32]) -> bool
 }
 
 // Entry i becomes the last of bucket b.
-fn enter(i: usize, b: usize, chains: &mut [u32])
+pub fn enter(i: usize, b: usize, chains: &mut [u32])
     requires { ⌜ (b < length (now chains)) × (i < length (now chains)) × (i < 65535) ⌝ }
     ensures { λ _. ⌜ Entered i b (now (chains .entry)) (now (chains .exit)) ⌝ }
 {

@@ -5,6 +5,7 @@ use Rattle.model.specs.declared.Found.{Found}
 use Rattle.model.specs.declared.Listed.{Listed}
 use Rattle.model.specs.declared.BytesRead.{BytesRead}
 use Rattle.model.specs.declared.Changed.{Changed}
+use Rattle.model.specs.declared.Repaired.{Repaired}
 use Rattle.model.specs.declared.Recovered.{Recovered}
 use Rattle.model.specs.declared.Sliced.{Sliced}
 use Rattle.model.specs.declared.Formatted.{Formatted}
@@ -16,6 +17,7 @@ use Rattle.goofs.specs.declared.FindResult.{FindResult}
 use Rattle.goofs.specs.declared.ListResult.{ListResult}
 use Rattle.goofs.specs.declared.ReadResult.{ReadResult}
 use Rattle.goofs.specs.declared.ChangeResult.{ChangeResult}
+use Rattle.goofs.specs.declared.RepairResult.{RepairResult}
 use Rattle.goofs.specs.declared.RecoverResult.{RecoverResult}
 use Rattle.goofs.specs.declared.SliceResult.{SliceResult}
 use Rattle.goofs.specs.declared.FormatResult.{FormatResult}
@@ -68,6 +70,9 @@ readNumbers a = record { code = a .verdict .number; fault = a .verdict .fault; p
 
 abbrev pub changeNumbers : Changed → ChangeResult
 changeNumbers a = record { code = a .verdict .number; fault = a .verdict .fault; place = a .verdict .place; length = a .length }
+
+abbrev pub repairNumbers : Repaired → RepairResult
+repairNumbers a = record { code = a .verdict .number; fault = a .verdict .fault; place = a .verdict .place; length = a .length; freed = a .freed }
 
 abbrev pub recoverNumbers : Recovered → RecoverResult
 recoverNumbers a = record { code = a .number; length = a .length }

@@ -5,6 +5,7 @@ use model::Changed;
 use model::Checked;
 use model::Found;
 use model::Listed;
+use model::Repaired;
 use model::State;
 use model::Summarized;
 ghost use mathlib.Core.Path.{_≡_};
@@ -20,10 +21,11 @@ ghost use Rattle.model.specs.Delete.{deleteAnswer, deleteList};
 ghost use Rattle.model.specs.Resize.{resizeAnswer, resizeList};
 ghost use Rattle.model.specs.Write.{writeAnswer, writeList};
 ghost use Rattle.model.specs.Rename.{renameAnswer, renameList};
+ghost use Rattle.model.specs.Repair.{repairAnswer, repairList};
 ghost use Rattle.model.specs.Recovery.{recoveryAnswer, recoveryList, sliceAnswer, sliceList};
 ghost use Rattle.model.specs.Format.{formatAnswer, formatOutput};
 ghost use Rattle.model.specs.CarryOut.{carryAnswer, carryImage};
-ghost use Rattle.goofs.specs.Numbers.{summaryNumbers, checkNumbers, findNumbers, listNumbers, readNumbers, changeNumbers, recoverNumbers, sliceNumbers, formatNumbers};
+ghost use Rattle.goofs.specs.Numbers.{summaryNumbers, checkNumbers, findNumbers, listNumbers, readNumbers, changeNumbers, repairNumbers, recoverNumbers, sliceNumbers, formatNumbers};
 
 // ---- summary
 
@@ -338,6 +340,40 @@ pub extern "C" fn goofs_rename(
 {
     let a = changes::rename(img, old, new, time, list);
     change_result(a)
+}
+
+// ---- repair
+
+// With 0 its fault and place are the first fault that remains.
+#[repr(C)]
+pub struct RepairResult {
+    pub code: u64,
+    pub fault: u64,
+    pub place: u64,
+    pub length: u64,
+    pub freed: u64,
+}
+
+fn repair_result(a: Repaired) -> RepairResult
+    ensures { λ r. ⌜ r ≡ repairNumbers a ⌝ }
+{
+    let v = a.verdict;
+    RepairResult {
+        code: v.number,
+        fault: v.fault,
+        place: v.place,
+        length: a.length,
+        freed: a.freed,
+    }
+}
+
+#[no_mangle]
+pub extern "C" fn goofs_repair(img: &[u8], list: &mut [u8]) -> RepairResult
+    ensures { λ r. ⌜ r ≡ repairNumbers (repairAnswer (length (now (img .entry))) (view (now (img .entry))) (length (now (list .entry)))) ⌝ }
+    ensures { λ _. ⌜ now (list .exit) ≡ repairList (length (now (img .entry))) (view (now (img .entry))) (now (list .entry)) ⌝ }
+{
+    let a = repair::repair(img, list);
+    repair_result(a)
 }
 
 // ---- recovery, format, carrying out

@@ -13,5 +13,6 @@ pub mod WriteList
 pub mod Recovery
 pub mod Areas
 pub mod Repair
+pub mod Repaired
 pub mod Judged
 pub mod Named

@@ -53,8 +53,8 @@ module _ (d : Disk) where
   s i = d (entryAt i)
 
   -- an entry of another file index, or one that is free, is no part of this file
-  equalBytes-part : (f o k : ℕ) → k < g .extents → eqb f freeFile ≡ false → isPart f o (catalogueOf d .table k) ≡ (eqb (tableFile g d k) f && eqb (tableOffset g d k) o)
-  equalBytes-part f o k l taken =
+  taken-part : (f o k : ℕ) → k < g .extents → eqb f freeFile ≡ false → isPart f o (catalogueOf d .table k) ≡ (eqb (tableFile g d k) f && eqb (tableOffset g d k) o)
+  taken-part f o k l taken =
       ap (isPart f o) (table-on d k l)
       ∙ by-owner (isPart f o) _ (tableFile g d k) (tableOffset g d k)
       (λ q. ap (λ (b : Bool). b && eqb (tableOffset g d k) o) (ne-eqb (tableFile g d k) f (λ z. true≢false (sym (eq-eqb f freeFile (sym z ∙ q)) ∙ taken)))) refl
@@ -97,4 +97,4 @@ module _ (d : Disk) where
       taken false z =
           named (ltb f (g .files) && isOccupied (s f)) (anyBelow (λ k. isPart f o (catalogueOf d .table k)) e)
           ∙ ap (λ (r : Bool). not (ltb f (g .files) && isOccupied (s f)) || leb (extentsFor g (beAt (s f) 2 8)) o || r)
-          (anyBelow-ext (λ k. isPart f o (catalogueOf d .table k)) again e (λ k m. equalBytes-part f o k (omega arith) z))
+          (anyBelow-ext (λ k. isPart f o (catalogueOf d .table k)) again e (λ k m. taken-part f o k (omega arith) z))

@@ -14,6 +14,7 @@ use Rattle.model.specs.declared.Lowest.the-variants.{At, Nowhere}
 use Rattle.model.specs.declared.Soundness.{Soundness}
 use Rattle.model.specs.declared.Soundness.the-variants.{Sound, Faulty}
 use Rattle.model.specs.declared.Verdict.{Verdict}
+use Rattle.model.specs.declared.Repaired.{Repaired}
 use Rattle.model.specs.Search.{first, anyBelow, countBelow, concatenated}
 use Rattle.model.specs.Geometry.{ExtentNumber, usable, tableAt, tableSectors, extentsFor}
 use Rattle.model.specs.Disk.{Disk}
@@ -89,11 +90,6 @@ doneBut Sound = done
 doneBut (Faulty n p) = record { number = 0; fault = n; place = p }
 
 -- its answer: of a refusal all numbers but the verdict's are 0
-pub record Repaired : Type 0 where
-  pub verdict : Verdict
-  pub freed : ℕ
-  pub length : ℕ
-
 abbrev pub notRepaired : Verdict → Repaired
 notRepaired v = record { verdict = v; freed = 0; length = 0 }
 

@@ -113,6 +113,14 @@ pub struct Changed {
     pub length: u64,
 }
 
+// Repair: how many table entries it frees, the write list's length in bytes. With number 0 the verdict's fault and place are the first
+// fault that remains.
+pub struct Repaired {
+    pub verdict: Verdict,
+    pub freed: u64,
+    pub length: u64,
+}
+
 pub struct Recovered {
     pub number: u64,
     pub length: u64,

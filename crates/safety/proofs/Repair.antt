@@ -4,10 +4,11 @@
 --   `keeps-extents`    a file without fault 26 keeps each of its table entries
 --   `keeps-faultless`  the request's words: a file free of faults is the same
 --   `sound-exactly`    the volume is sound afterwards exactly if it had no fault 21 to 24 and no occupied file lacked an extent
+--   `repaired-demand3`  from a repaired, sound volume on demand 3 holds
 --   `answers-rest`     the answer's fault and place are the first fault of the repaired volume
 --   `again-none`, `again-answer`, `again-list`    repairing again gives an empty list
 --   `repair-bytes`, `repair-carried`   the repaired image is that on which the bytes of its list were carried out
---   `sound-alone`      a sound volume is left alone
+--   `sound-alone`, `run-alone`   a sound volume is left alone, and so is every volume of a run
 -- Assumes nothing.
 use Prim.Native.Nat.{ℕ, _+_, _*_, _-_, _/_, _%_, _≤_, _<_}
 use mathlib.Core.Path.{_≡_, refl, sym, ap, _∙_, subst}
@@ -37,13 +38,18 @@ use Rattle.model.specs.Refusals.{verdictOf, andThen, isDone, given, done, refus
 use Rattle.model.specs.WriteList.{Plan, Group, groupsFor, listLength, listBytes, emit, closed, Decision, listAfter}
 use Rattle.model.specs.CarryOut.{carryImage}
 use Rattle.model.specs.Summary.{checkAnswer}
+use Rattle.model.specs.Ledger.{Ledger, Feed, Answer, ledgerFrom, answersFrom}
+use Rattle.model.specs.Run.{Phase, steady, RunFrom}
+use Rattle.model.specs.Demand3.{Settled, RecoveryAnswers, SliceAnswers}
 use Rattle.model.specs.Opened.{Bounded}
 use Rattle.model.specs.Repair.{isStray, strays, repaired, takenReserve, repairPlan, repairPlanned, reserveVerdict, repairVerdict, repairDecision, doneBut, repairAnswer, notRepaired, repairList}
 use Rattle.laws.proofs.Booleans.{and-false, or-none}
 use Rattle.laws.proofs.Count.{countBelow-none}
 use Rattle.laws.proofs.Judged.{judged-sound}
+use Rattle.laws.proofs.Repaired.{strayBy, extent-repaired, stray-again, repaired-again, fault25-repaired, exact-repaired, exact-kept}
 use Rattle.laws.proofs.Search.{Hit, scan-hit, first-none, first-ext, first-missed, allBelow-yes, allBelow-at, anyBelow-no, tabulate-ext}
 use Rattle.laws.proofs.WriteList.{emit-nil}
+use Rattle.safety.specs.Described.{ledgerOf, SoundAs, SoundRun, SoundDemand3}
 use Rattle.safety.specs.Naming.{contentsAt, fileOn}
 use Rattle.safety.specs.Repairing.{OfBytes, Repairs, repairedImage, Mendable, FreeOfFaults, Same}
 use Rattle.safety.proofs.Superblock.{volume-accepted}
@@ -54,7 +60,8 @@ use Rattle.safety.proofs.Changing.{earlier-done}
 use Rattle.safety.proofs.Bridge.{emitted-bytes}
 use Rattle.safety.proofs.Changing.{later-done}
 use Rattle.safety.proofs.Passes.{none-found, no-faults}
-use Rattle.safety.proofs.Repaired.{extent-repaired, stray-again, repaired-again, fault25-repaired, exact-repaired, exact-kept, sound-unstrayed}
+use Rattle.safety.proofs.Theorem.{sound-demand3, restarted}
+use Rattle.safety.proofs.Corollaries.{sound}
 use Rattle.safety.proofs.RepairDone.{Passes, Leaves, passes, leaves, carries, long-enough, verdict-done, unstrayed-same}
 
 module _ (img : List ℕ) (room : ℕ) (bytes : OfBytes img) (accepted : Repairs img room) where
@@ -199,6 +206,22 @@ module _ (img : List ℕ) (room : ℕ) (bytes : OfBytes img) (accepted : Repairs
   sound-exactly =
       ((λ e. mends (judged-sound (length out) (view out) (ap (λ (k : Checked). k .verdict .number) e))), (λ m. opens (mended m)))
 
+  -- ---- FROM A REPAIRED VOLUME ON, where it is sound, demand 3 holds: every run that starts on it answers as the ledger that it describes
+
+  starts : Mendable (view img) → SoundAs (ledgerOf (repairedImage img room)) (repairedImage img room)
+  unfolding catalogueOf
+  starts m = record {
+    passes = ap (λ (k : Checked). k .verdict .number) (sound-exactly .1 m);
+    fits = omega (arith, ap (λ (x : Geometry). extentSectors x) files-are, bounded .extent-high);
+    describes = refl;
+  }
+
+  pub repaired-demand3 : Mendable (view img) → (phase : Phase) (end : List ℕ) (fs : List Feed) (rs : List Answer)
+      → RunFrom (λ (o : List ℕ). o ≡ repairedImage img room) phase end fs rs
+      → (rs ≡ answersFrom (ledgerOf (repairedImage img room)) fs) × Settled phase (ledgerFrom (ledgerOf (repairedImage img room)) fs) end × RecoveryAnswers end × SliceAnswers end
+  unfolding SoundDemand3
+  repaired-demand3 m phase end fs rs r = sound-demand3 (ledgerOf out) phase end fs rs (restarted (λ o e. subst (SoundAs (ledgerOf out)) (sym e) (starts m)) r)
+
   -- ---- "the first fault that remains with its place"
 
   pub answers-rest : repairAnswer (length img) (view img) room
@@ -302,6 +325,24 @@ module _ (img list : List ℕ) (bytes : OfBytes img) (accepted : Repairs img (le
 
 -- ---- A SOUND VOLUME IS LEFT ALONE, and so is every volume of a run
 
+-- where there is no fault, none is stray
+sound-unstrayed : (c : Catalogue) → NoFaults c → ((i : ℕ) (x : Entry) → c .entries i ≡ some x → i < c .geometry .files) → (e : ℕ) → e < c .geometry .extents → isStray c e ≡ false
+unfolding fault25 fault26 isStray
+sound-unstrayed c h inside e l = by (c .table e) refl (h .f25 e l)
+  where
+    occupied : (o : Option Entry) → isFree o ≡ false → o ≡ some (entryOr o)
+    occupied none q = absurd (true≢false q)
+    occupied (some x) q = refl
+
+    by : (t : Option Owner) → c .table e ≡ t → holdsOf t (λ w. isFree (c .entries (w .file)) || leb (usable (c .geometry)) e) ≡ false → isStray c e ≡ false
+    by none z q = ap (λ (t : Option Owner). holdsOf t (strayBy c e)) z
+    by (some w) z q =
+        let has = occupied (c .entries (w .file)) (or-none (isFree (c .entries (w .file))) (leb (usable (c .geometry)) e) q .0) in
+        let x = entryOr (c .entries (w .file)) in
+        exact-kept c (w .file) x has
+        (not-false _ (sym (ap (λ (o : Option Entry). holdsOf o (λ y. not (exact c (w .file) (extentsFor (c .geometry) (y .size))))) has) ∙ h .f26 (w .file) (inside (w .file) x has)))
+        e l w z refl
+
 module _ (img : List ℕ) (room : ℕ) (checks : checkAnswer (length img) (view img) ≡ record { verdict = done }) where
   abbrev s : Catalogue
   s = catalogueOf (view img)
@@ -359,9 +400,13 @@ module _ (img : List ℕ) (room : ℕ) (checks : checkAnswer (length img) (view 
   sound-alone =
       let e = judged-sound (length img) (view img) (eqb-true (judged (length img) (view img) .number) 0 judged-done) in
       (λ i. given (decided-alone i .verdict)
-      (record { verdict = doneBut (faultsIn (fault21 (view img)) (equalBytes i)); freed = strays s; length = listLength (groupsFor (view img) (decided-alone i .plan)) }) notRepaired)
+      (record { verdict = doneBut (faultsIn (fault21 (view img)) (unchanged i)); freed = strays s; length = listLength (groupsFor (view img) (decided-alone i .plan)) }) notRepaired)
       ∙ ap (λ (f : Soundness). record { verdict = doneBut f; freed = strays s; length = 0 }) e
       ∙ ap (λ n. record { verdict = done; freed = n; length = 0 }) (countBelow-none (isStray s) (s .geometry .extents) unstrayed)
     where
-      equalBytes : repaired s ≡ s
-      equalBytes = unstrayed-same img unstrayed
+      unchanged : repaired s ≡ s
+      unchanged = unstrayed-same img unstrayed
+
+pub run-alone : {L : Ledger} {img : List ℕ} {fs : List Feed} {rs : List Answer} → SoundRun L steady img fs rs → (room : ℕ)
+    → repairAnswer (length img) (view img) room ≡ record { verdict = done; freed = 0; length = 0 }
+run-alone {L} {img} r room = sound-alone img room (sound r)

@@ -18,6 +18,7 @@ use Rattle.model.specs.declared.Lowest.the-variants.{At, Nowhere}
 use Rattle.model.specs.declared.State.{State}
 use Rattle.model.specs.declared.State.the-variants.{Clean, Waiting, Damaged, Unfinished}
 use Rattle.model.specs.declared.Verdict.{Verdict}
+use Rattle.model.specs.declared.Repaired.{Repaired}
 use Rattle.model.specs.Bytes.{beAt}
 use Rattle.model.specs.Search.{first, anyBelow, countBelow, indexOf}
 use Rattle.model.specs.Geometry.{superblockAt, entryAt, extentSectors, usable, journalAt, tableAt, dataAt, reserveAt, tableSectors}
@@ -30,7 +31,7 @@ use Rattle.model.specs.Refusals.{verdictOf, isDone, refusal, imageVerdict, stat
 use Rattle.model.specs.WriteList.{Plan, Group, stored, groupsFor, groupsOf, closed, listLength}
 use Rattle.model.specs.Cut.{Cut, landed, startMark}
 use Rattle.model.specs.Opened.{Bounded}
-use Rattle.model.specs.Repair.{isStray, holdsStray, repaired, takenReserve, repairedSector, repairPlan, repairPlanned, reserveVerdict, repairVerdict, repairDecision, repairAnswer, Repaired, notRepaired}
+use Rattle.model.specs.Repair.{isStray, holdsStray, repaired, takenReserve, repairedSector, repairPlan, repairPlanned, reserveVerdict, repairVerdict, repairDecision, repairAnswer, notRepaired}
 use Rattle.laws.proofs.Bytes.{pow-more}
 use Rattle.laws.proofs.Count.{countBelow-anyBelow}
 use Rattle.laws.proofs.Disk.{length-view, getD-view}

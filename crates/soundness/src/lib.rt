@@ -10,14 +10,16 @@ ghost use Prim.Native.Nat.{_≤_};
 ghost use lib.ListN.{length};
 ghost use Rattle.model.specs.Disk.{view};
 ghost use Rattle.model.specs.Faults.{firstFault};
-ghost use Rattle.model.specs.Refusals.{imageVerdict, stateNumber, faultVerdict, soundVerdict, judged};
+ghost use Rattle.model.specs.Superblock.{stateOn};
+ghost use Rattle.model.specs.Refusals.{andThen, refusal, imageVerdict, stateNumber, faultVerdict, soundVerdict, judged};
 ghost use Rattle.model.specs.Scratch.{scratchNumbers, soundVerdictWith, judgedWith, ScratchAfter};
 ghost use Rattle.model.specs.Opened.{Opened};
+ghost use Rattle.soundness.specs.Directory.{directoryFault};
 
-// Lowest number first, then lowest place. Each test may rest on the earlier faults' not being there.
-fn first_fault(img: &[u8], g: Geometry) -> Soundness
+// The first of the faults 21 to 24. Each test may rest on the earlier faults' not being there.
+pub fn directory_fault(img: &[u8], g: Geometry) -> Soundness
     requires { ⌜ Opened (now img) g ⌝ }
-    ensures { λ r. ⌜ r ≡ firstFault (view (now (img .entry))) ⌝ }
+    ensures { λ r. ⌜ r ≡ directoryFault g (view (now (img .entry))) Soundness.Sound ⌝ }
 {
     if let Lowest::At(i) = directory::fault21(img, g) {
         return Soundness::Faulty(21, i as u64);
@@ -30,6 +32,17 @@ fn first_fault(img: &[u8], g: Geometry) -> Soundness
     }
     if let Lowest::At(i) = duplicates::fault24(img, g) {
         return Soundness::Faulty(24, i as u64);
+    }
+    Soundness::Sound
+}
+
+// Lowest number first, then lowest place.
+fn first_fault(img: &[u8], g: Geometry) -> Soundness
+    requires { ⌜ Opened (now img) g ⌝ }
+    ensures { λ r. ⌜ r ≡ firstFault (view (now (img .entry))) ⌝ }
+{
+    if let Soundness::Faulty(n, p) = directory_fault(img, g) {
+        return Soundness::Faulty(n, p);
     }
     allocation::faults(img, g)
 }
@@ -56,6 +69,17 @@ fn fault_verdict(s: Soundness) -> Verdict
             place: p,
         },
     }
+}
+
+// The refusals 1 to 6.
+pub fn clean_verdict(img: &[u8]) -> Verdict
+    ensures { λ r. ⌜ r ≡ andThen (imageVerdict (length (now (img .entry))) (view (now (img .entry)))) (refusal (stateNumber (stateOn (view (now (img .entry)))))) ⌝ }
+{
+    let v = volume::image_verdict(img);
+    if v.number == 0 {
+        return volume::refusal(state_number(volume::state_on(img)));
+    }
+    v
 }
 
 // The refusals 4 to 7.

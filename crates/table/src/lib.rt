@@ -283,7 +283,7 @@ pub fn sectors_from(img: &[u8], g: Geometry, i: FileIndex, o: u64) -> u64
 }
 
 // Entry k of a table sector becomes 65535, 65535, if it is hit.
-fn free_one(s: &mut [u8], k: usize, hit: bool)
+pub fn free_one(s: &mut [u8], k: usize, hit: bool)
     requires { ⌜ 4 * k + 4 ≤ length (now s) ⌝ }
     ensures { λ _. ⌜ now (s .exit) ≡ cond hit (put (now (s .entry)) (4 * k) (tableEntryBytes freeFile 65535)) (now (s .entry)) ⌝ }
 {

@@ -2,7 +2,7 @@
 
 use std::hint::black_box;
 
-use oracle::layout::Edition;
+use oracle::layout::{Edition, SECTOR};
 use oracle::lists::RECORD;
 use oracle::FormatRequest;
 
@@ -62,6 +62,9 @@ fn sample(table: &mut CallTable) {
     table.delete("delete, 2 extents", input, &image, name);
     table.rename("rename, to a new name", input, &image, name, b"new");
     table.rename("rename, onto 2 extents", input, &image, b"empty", name);
+    let mut leaked = image.clone();
+    lose_first_entry(&mut leaked);
+    table.repair("repair, 2 extents", input, &leaked);
 
     let mut list = vec![0; LONGEST_LIST];
     let data = [5; LONGEST_SPAN];
@@ -145,6 +148,10 @@ fn one_file(table: &mut CallTable) {
     let mut image = images::one_file();
     table.resize("resize, to nothing", input, &image, b"all", 0);
     table.delete("delete, all extents", input, &image, b"all");
+    table.repair("repair, nothing to free", input, &image);
+    lose_first_entry(&mut image);
+    table.repair("repair, all extents", input, &image);
+    keep_first_entry(&mut image);
     let mut list = vec![0; LONGEST_LIST];
     let length = oracle::delete(&image, b"all", 2, &mut list).length as usize;
     cut(&mut image, &list[..length]);
@@ -170,6 +177,15 @@ fn one_file(table: &mut CallTable) {
         &mut image,
         &list[..length],
     );
+}
+
+/// Directory entry 0 becomes free, and its file's extents leak.
+fn lose_first_entry(image: &mut [u8]) {
+    image[2 * SECTOR..][..2].fill(0);
+}
+
+fn keep_first_entry(image: &mut [u8]) {
+    image[2 * SECTOR..][..2].fill(255);
 }
 
 /// Power fails when the start mark has landed.
@@ -296,6 +312,17 @@ impl CallTable<'_> {
             |list| oracle::rename(black_box(image), old, new, 2, list).length,
         );
         self.row_of_list(call, input, &compared);
+    }
+
+    fn repair(&mut self, call: &str, input: &str, image: &[u8]) {
+        let compared = self.comparisons.filling(
+            call,
+            &mut self.list,
+            |list| goofs::repair(black_box(image), list).length,
+            |list| oracle::repair(black_box(image), list).length,
+        );
+        let counts = counts(&self.list[..compared.answer as usize]);
+        self.row_of_counts(call, input, &compared, counts);
     }
 
     fn resize(&mut self, call: &str, input: &str, image: &[u8], name: &[u8], size: u64) {

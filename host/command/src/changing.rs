@@ -292,7 +292,7 @@ pub fn apply(volume: &mut Volume<Disk>, changes: &[Change]) -> Result<(), Error>
 }
 
 /// What is said after a change. If it can't be said, the change is done all the same.
-fn print_done(card: &OsStr, text: &str) -> Result<(), Failure> {
+pub fn print_done(card: &OsStr, text: &str) -> Result<(), Failure> {
     print(text).map_err(|failure| match failure {
         Failure::Output(error) => Failure::Other(format!(
             "{}: done, but the standard output could not be written: {error}",

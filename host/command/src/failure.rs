@@ -5,7 +5,7 @@ use std::fmt;
 use std::io::{self, ErrorKind};
 use std::os::unix::ffi::OsStrExt;
 
-use goofs::error::{Error, FaultKind, Refusal};
+use goofs::error::{Error, Fault, FaultKind, Refusal};
 use goofs::image::Edition;
 use goofs::names;
 
@@ -37,6 +37,8 @@ pub enum Failure {
     },
     /// What a volume was found to be after a recovery, which may have changed it.
     Judged { card: OsString, refusal: Refusal },
+    /// What remains after a repair, which may have changed it.
+    NotMended { card: OsString, fault: Fault },
     /// A file beside the card.
     File { file: OsString, error: io::Error },
     /// A device, pipe or terminal that could not be written to the end.
@@ -304,19 +306,16 @@ fn after_refusal(refusal: Refusal, card: &str) -> String {
              someone is to look at it; then goofs format {card} --yes, and put the files back"
         ),
         Refusal::NotSound(fault) => {
-            // The reserve of some volumes has grown by an extent, which a file of before may hold.
-            let older = match fault.kind {
-                FaultKind::NameOrSize | FaultKind::TableEntry => {
-                    "If the card was filled by a goofs that had no mv, copy the files with that one \
-                     first: here the reserve may be larger. "
-                }
-                _ => "",
+            let next = match fault.kind {
+                FaultKind::TableEntry | FaultKind::Extents => format!(
+                    "{}Keep a copy of the card (dd if={card} of=COPY); then goofs repair {card}: it shows \
+                     which extents belong to no file, asks, frees them, and says whether the volume is \
+                     sound then. It does not bring back what a file lacks",
+                    older(fault)
+                ),
+                _ => not_mended(fault, card),
             };
-            format!(
-                "no file is read or changed on a volume that is not sound. {older}Keep a copy of the \
-                 card (dd if={card} of=COPY) if someone is to look at it; then goofs format {card} \
-                 --yes, and put the files back"
-            )
+            format!("no file is read or changed on a volume that is not sound. {next}")
         }
         Refusal::BadArgument => {
             "keep to the bounds: a new name has 1 to 476 letters, digits and signs of ASCII without \
@@ -335,6 +334,26 @@ fn after_refusal(refusal: Refusal, card: &str) -> String {
         ),
         Refusal::BufferTooShort => "please report this: it should not happen".to_string(),
     }
+}
+
+/// The reserve of some volumes has grown by an extent, which a file of before may hold.
+fn older(fault: Fault) -> &'static str {
+    match fault.kind {
+        FaultKind::NameOrSize | FaultKind::TableEntry => {
+            "If the card was filled by a goofs that had no mv, copy the files with that one first: here \
+             the reserve may be larger. "
+        }
+        _ => "",
+    }
+}
+
+/// What a person can do about a fault that a repair leaves.
+pub fn not_mended(fault: Fault, card: &str) -> String {
+    format!(
+        "goofs repair does not mend this fault. {}Keep a copy of the card (dd if={card} of=COPY) if \
+         someone is to look at it; then goofs format {card} --yes, and put the files back",
+        older(fault)
+    )
 }
 
 /// What happened to a card that can't be opened, and what a person can do.
@@ -390,6 +409,11 @@ impl fmt::Display for Failure {
             Failure::Judged { card, refusal } => {
                 let card = quoted(card);
                 let (number, next) = (refusal.number(), after_refusal(*refusal, &card));
+                write!(f, "{card}: ({number}) {refusal}.\nNext: {next}.")
+            }
+            Failure::NotMended { card, fault } => {
+                let (card, refusal) = (quoted(card), Refusal::NotSound(*fault));
+                let (number, next) = (refusal.number(), not_mended(*fault, &card));
                 write!(f, "{card}: ({number}) {refusal}.\nNext: {next}.")
             }
             Failure::File { file, error } => write!(
@@ -482,7 +506,7 @@ impl fmt::Display for Failure {
 #[cfg(test)]
 mod tests {
     use super::*;
-    use goofs::error::{Fault, Interrupted};
+    use goofs::error::Interrupted;
 
     const REFUSALS: [Refusal; 14] = [
         Refusal::NotWholeSectors,

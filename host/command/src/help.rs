@@ -18,6 +18,7 @@ goofs - files on a volume that survives a cut of the power
   goofs mv CARD OLD NEW               give a file another name
   goofs resize CARD NAME SIZE         give a file another size
   goofs recover CARD [--budget N]     finish a change that was cut
+  goofs repair CARD [--yes]           free extents that belong to no file
   goofs format CARD [--sectors N]     make an empty volume
   goofs trial CARD CHANGE ...         try a change with cuts of the power, in memory
 
@@ -149,6 +150,19 @@ after it, the fault is printed and the exit status is 1.
                For each N sectors that are still to be copied it takes one call, and one call more.
                Sectors that show their copy already are passed over: after a write to the card has
                failed, recover without it
+";
+
+pub const REPAIR: &str = "\
+goofs repair CARD [--yes]
+
+For a volume that is clean but not sound. Shows which extents belong to no file that is there, lie past
+the end of their file, or have a place in it that a lower extent has already; asks; and frees them, all
+at once: a cut of the power leaves them freed or not. No byte of a file and no entry changes.
+What is lost is not brought back: a file that lacks an extent is named, and so is a fault of the
+directory. A file whose entry is damaged may lose extents by this: where check says fault 21 or 22, copy
+the card first (dd if=CARD of=COPY). If the volume is not sound after it, the fault is printed and the
+exit status is 1.
+  --yes        do not ask
 ";
 
 pub const FORMAT: &str = "\

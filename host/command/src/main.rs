@@ -11,6 +11,7 @@ mod help;
 mod output;
 mod progress;
 mod reading;
+mod repairing;
 mod space;
 mod text;
 mod trial;
@@ -50,7 +51,7 @@ const fn command(
     }
 }
 
-const COMMANDS: [Command; 11] = [
+const COMMANDS: [Command; 12] = [
     command("info", help::INFO, &[], &[], reading::info),
     command("check", help::CHECK, &[], &[], reading::check),
     command("ls", help::LS, &[], &["numeric"], reading::ls),
@@ -72,6 +73,7 @@ const COMMANDS: [Command; 11] = [
         &[],
         changing::recover,
     ),
+    command("repair", help::REPAIR, &[], &["yes"], repairing::repair),
     command(
         "format",
         help::FORMAT,

@@ -60,7 +60,7 @@ fn the_table_is_complete() {
         .filter(|line| line.contains(" CARD"))
         .map(|line| line.split("  ").next().unwrap())
         .collect();
-    assert_eq!(usages.len(), 11);
+    assert_eq!(usages.len(), 12);
     for usage in usages {
         let line = format!("| `goofs {usage}` |");
         assert!(section().contains(&line), "{line}");

@@ -2,9 +2,10 @@
 //! it is done a `List` of sector writes and barriers.
 
 use crate::device::SECTOR;
-use crate::error::Refusal;
+use crate::error::{Fault, Refusal};
 use crate::image::{
-    claimed, Edition, Image, Summary, ENTRIES_IN_TABLE_SECTOR, JOURNAL_SECTORS, LONGEST_TRANSFER,
+    claimed, number, Edition, Image, Summary, ENTRIES_IN_TABLE_SECTOR, JOURNAL_SECTORS,
+    LONGEST_TRANSFER, OCCUPIED,
 };
 
 /// Bytes of a list's record: its position in the list, from 0 on, the sector number, the contents.
@@ -69,6 +70,34 @@ pub enum Change<'c> {
         data: &'c [u8],
         time: u64,
     },
+}
+
+/// What a repair does: the extents that it frees, and the first fault that remains.
+#[derive(Clone, Debug, PartialEq, Eq)]
+pub struct Repair {
+    pub list: List,
+    pub freed: Vec<Freed>,
+    pub remains: Option<Fault>,
+}
+
+/// An extent that a repair frees, what the table says of it, and why it is freed.
+#[derive(Clone, Debug, PartialEq, Eq)]
+pub struct Freed {
+    pub extent: u64,
+    /// The index of a directory entry.
+    pub file: u64,
+    /// Counted in extents.
+    pub offset: u64,
+    pub why: WhyFreed,
+}
+
+/// The name is that of the file.
+#[derive(Clone, Debug, PartialEq, Eq)]
+pub enum WhyFreed {
+    NoFile,
+    PastTheEnd(Vec<u8>),
+    /// A lower extent has its place in the file.
+    Doubled(Vec<u8>),
 }
 
 /// A write list.
@@ -166,6 +195,65 @@ impl Image {
         Refusal::judge(answer.code, answer.fault, answer.place)?;
         bytes.truncate(answer.length as usize);
         Ok(List { bytes })
+    }
+
+    /// What a repair does to this volume, which is clean but may have faults.
+    pub fn repair(&self) -> Result<Repair, Refusal> {
+        let mut bytes = vec![0; records(0, MOST_TABLE_SECTORS) * RECORD];
+        let answer = crate::repair(&self.bytes, &mut bytes);
+        Refusal::judge(answer.code, answer.fault, answer.place)?;
+        bytes.truncate(answer.length as usize);
+        let list = List { bytes };
+        let freed = self.freed(&list);
+        Ok(Repair {
+            list,
+            freed,
+            remains: Fault::remaining(answer.fault, answer.place),
+        })
+    }
+
+    /// The table entries that a list frees: its targets are table sectors.
+    fn freed(&self, list: &List) -> Vec<Freed> {
+        let summary = self.summary();
+        let groups = list.groups();
+        let targets = groups.get(2).into_iter().flatten();
+        let mut freed = Vec::new();
+        for target in targets {
+            let first = (target.sector - summary.table_at()) * ENTRIES_IN_TABLE_SECTOR;
+            let before = &self.bytes[target.sector as usize * SECTOR..][..SECTOR];
+            let entries = before.chunks_exact(4).zip(target.contents.chunks_exact(4));
+            for (extent, (old, new)) in (first..).zip(entries) {
+                if old != new {
+                    let (file, offset) = (number(&old[..2]), number(&old[2..]));
+                    freed.push(Freed {
+                        extent,
+                        file,
+                        offset,
+                        why: self.why_freed(file, offset),
+                    });
+                }
+            }
+        }
+        freed
+    }
+
+    fn why_freed(&self, file: u64, offset: u64) -> WhyFreed {
+        let summary = self.summary();
+        if file >= summary.files {
+            return WhyFreed::NoFile;
+        }
+        let entry = &self.bytes[(2 + file as usize) * SECTOR..][..SECTOR];
+        if entry[..2] != OCCUPIED {
+            return WhyFreed::NoFile;
+        }
+        let before = offset * summary.extent_sectors * SECTOR as u64;
+        let at = summary.edition.name_at();
+        let length = number(&entry[at - 2..at]) as usize;
+        let name = entry[at..at + length.min(summary.edition.longest_name())].to_vec();
+        match number(&entry[2..10]) <= before {
+            true => WhyFreed::PastTheEnd(name),
+            false => WhyFreed::Doubled(name),
+        }
     }
 
     /// The list that finishes a change that was cut; empty if none was.

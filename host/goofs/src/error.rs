@@ -126,6 +126,11 @@ impl Fault {
         Fault { kind, place }
     }
 
+    /// What a repair leaves: none if the number is 0.
+    pub(crate) fn remaining(number: u64, place: u64) -> Option<Fault> {
+        (number != 0).then(|| Fault::new(number, place))
+    }
+
     /// The number of the fault, 21 to 26.
     pub fn number(self) -> u64 {
         match self.kind {

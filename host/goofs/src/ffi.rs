@@ -39,6 +39,10 @@ results! {
     /// `length` bytes of the list are filled.
     ChangeAnswer { code, fault, place, length }
 
+    /// `length` bytes of the list are filled; `freed` table entries are freed by it. With code 0 the
+    /// fault and its place are the first that remains, 0 and 0 if none does.
+    RepairAnswer { code, fault, place, length, freed }
+
     /// `length` bytes of the list are filled.
     RecoverAnswer { code, length }
 
@@ -150,6 +154,9 @@ calls! {
         image: bytes, name: bytes, offset: u64, data: bytes, time: u64, list: buffer
     ) -> ChangeAnswer;
 
+    /// The list that frees the extents that belong to no file; on a clean volume with any fault.
+    repair is goofs_repair(image: bytes, list: buffer) -> RepairAnswer;
+
     /// The list that finishes an interrupted change; empty for a clean volume.
     recover is goofs_recover(image: bytes, list: buffer) -> RecoverAnswer;
 
@@ -207,6 +214,7 @@ mod tests {
             );
             assert_eq!(goofs_recover(null(), 0, null_mut(), 0).code, one);
             assert_eq!(goofs_recover_slice(null(), 0, 1, null_mut(), 0).code, one);
+            assert_eq!(goofs_repair(null(), 0, null_mut(), 0).code, one);
             let too_short = goofs_format_record(1_313, 255, 1, 1, 0, 0, 0, null_mut(), 0);
             assert_eq!(too_short.code, 14);
             assert_eq!(goofs_carry_out(null_mut(), 0, null(), 0), one);

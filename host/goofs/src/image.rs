@@ -20,6 +20,8 @@ const DIRECTORY_AT: usize = 2;
 const ROOT_TIMES: usize = 16;
 const ENTRY_TIMES: usize = 26;
 const NO_FILE: [u8; 2] = [255, 255];
+/// The mark of an occupied entry.
+pub(crate) const OCCUPIED: [u8; 2] = [255, 255];
 const FREE: [u8; 2] = [0, 0];
 
 /// It can't be cloned, as a volume may be far longer than the memory.
@@ -118,7 +120,7 @@ impl Edition {
     }
 
     /// Where the name stands in a directory entry, after two times and its length.
-    const fn name_at(self) -> usize {
+    pub(crate) const fn name_at(self) -> usize {
         ENTRY_TIMES + 2 * self.time_bytes() + 2
     }
 
@@ -221,7 +223,7 @@ impl Entry {
     }
 }
 
-fn number(bytes: &[u8]) -> u64 {
+pub(crate) fn number(bytes: &[u8]) -> u64 {
     bytes
         .iter()
         .fold(0, |sum, byte| sum << 8 | u64::from(*byte))

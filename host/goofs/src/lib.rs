@@ -3,8 +3,8 @@
 //! Every call takes an image of any bytes and gives back numbers; `code` is 0 or says why the call
 //! was refused, and a refused call leaves its buffer as it was.
 //! - `summary`, `check`, `check_with`, `find`, `list` and `read` change nothing;
-//! - `create`, `delete`, `rename`, `resize`, `write`, `recover` and `recover_slice` only read the image
-//!   too, and fill a lent list of sector writes;
+//! - `create`, `delete`, `rename`, `resize`, `write`, `repair`, `recover` and `recover_slice` only read
+//!   the image too, and fill a lent list of sector writes;
 //! - `format_record` gives the records of a format one at a time;
 //! - `carry_out` does the writes of a list, and is the only call that changes an image.
 //!
@@ -37,9 +37,9 @@ pub mod volume;
 
 pub use ffi::{
     carry_out, check, check_with, create, delete, find, format_record, list, read, recover,
-    recover_slice, rename, resize, summary, write,
+    recover_slice, rename, repair, resize, summary, write,
 };
 pub use ffi::{
     ChangeAnswer, CheckAnswer, FindAnswer, FormatRecordAnswer, ListAnswer, ReadAnswer,
-    RecoverAnswer, SliceAnswer, SummaryAnswer,
+    RecoverAnswer, RepairAnswer, SliceAnswer, SummaryAnswer,
 };

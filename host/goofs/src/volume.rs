@@ -4,7 +4,7 @@
 use std::io;
 use std::ops::ControlFlow;
 
-use crate::change::{step, Change, Format, List, Step, FORMAT_BARRIERS};
+use crate::change::{step, Change, Format, List, Repair, Step, FORMAT_BARRIERS};
 use crate::device::{Device, SECTOR};
 use crate::error::{Error, Interrupted};
 use crate::image::{Image, State};
@@ -113,6 +113,13 @@ impl<D: Device> Volume<D> {
         let id = image.unused_id(&[])?;
         let save = Save::new(image, name, id, None, time)?;
         self.apply(&save.changes(contents))
+    }
+
+    /// Frees the extents that belong to no file. Nothing of a file changes.
+    pub fn repair(&mut self) -> Result<Repair, Error> {
+        let repair = self.image()?.repair()?;
+        self.carry_out(&repair.list, 0)?;
+        Ok(repair)
     }
 
     /// Finishes a change that was cut. Gives whether there was one.

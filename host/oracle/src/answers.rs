@@ -190,6 +190,17 @@ pub struct ChangeAnswer {
     pub length: u64,
 }
 
+/// With 0, fault and place are the first fault that remains.
+#[derive(Clone, Copy, Debug, Default, PartialEq, Eq)]
+pub struct RepairAnswer {
+    pub code: u64,
+    pub fault: u64,
+    pub place: u64,
+    /// Table entries.
+    pub freed: u64,
+    pub length: u64,
+}
+
 #[derive(Clone, Copy, Debug, Default, PartialEq, Eq)]
 pub struct RecoverAnswer {
     pub code: u64,
@@ -259,7 +270,13 @@ macro_rules! from_refusal {
     )*};
 }
 
-from_refusal!(FindAnswer, ListAnswer, ReadAnswer, ChangeAnswer);
+from_refusal!(
+    FindAnswer,
+    ListAnswer,
+    ReadAnswer,
+    ChangeAnswer,
+    RepairAnswer
+);
 
 impl From<Refusal> for CheckAnswer {
     fn from(refusal: Refusal) -> CheckAnswer {

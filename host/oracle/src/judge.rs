@@ -44,6 +44,14 @@ impl<'i> Volume<'i> {
         self.geometry
     }
 
+    /// The volume as it would be with these sectors before its data area.
+    pub fn with_front<'f>(&self, front: &'f [u8]) -> Volume<'f> {
+        Volume {
+            image: front,
+            ..*self
+        }
+    }
+
     pub fn sector(&self, sector: Sector) -> &'i [u8; SECTOR] {
         layout::sector(self.image, sector)
     }
@@ -161,7 +169,11 @@ pub fn open_clean(image: &[u8]) -> Result<Volume<'_>, Refusal> {
 
 /// Opens an image as a sound volume: refusals 1 to 7.
 pub fn open_sound(image: &[u8]) -> Result<SoundVolume<'_>, Refusal> {
-    let volume = open_clean(image)?;
+    judge(open_clean(image)?)
+}
+
+/// Refusal 7 of a clean volume.
+pub fn judge(volume: Volume<'_>) -> Result<SoundVolume<'_>, Refusal> {
     judge_marks(volume)?;
     judge_names_and_sizes(volume)?;
     judge_same_names(volume)?;

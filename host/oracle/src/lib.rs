@@ -9,6 +9,7 @@
 //! - `sorted_check`: the check with lent scratch;
 //! - `changes`: create, delete, resize and write;
 //! - `rename`: rename, also onto an existing name;
+//! - `repair`: freeing extents that belong to no file;
 //! - `recovery`: finishing a transaction that a power cut interrupted, at once or in slices;
 //! - `format`: the geometry for a sector count, and the format's records;
 //! - `lists`: write lists and carrying them out;
@@ -34,6 +35,7 @@ pub mod lists;
 pub mod power;
 pub mod recovery;
 pub mod rename;
+pub mod repair;
 pub mod report;
 pub mod request;
 pub mod sorted_check;
@@ -46,6 +48,7 @@ pub use ledger::Ledger;
 pub use lists::carry_out;
 pub use recovery::{recover, recover_slice};
 pub use rename::rename;
+pub use repair::repair;
 pub use request::{Answer, Request};
 pub use sorted_check::check_with_scratch;
 

@@ -2,7 +2,8 @@
 use mathlib.Core.Path.{sym, _∙_}
 use native.Mathlib.Omega.{arith}
 use Rattle.model.specs.Disk.{view}
-use Rattle.soundness.proofs.Laws.{at-21, at-22, at-23, at-24, from-25}
+use Rattle.allocation.specs.Marks.{tableFault}
+use Rattle.soundness.proofs.Laws.{in-order, at-21, at-22, at-23, at-24, from-25}
 use borrow.Author.Needs.{needs}
 use Rattle.soundness.proofs.first_fault_with.Statement.{statement}
 use Rattle.soundness.proofs.first_fault_with.Tie as tie
@@ -16,7 +17,8 @@ enum-known-i c = search needs
 returns : tie.Need-returns
 returns c =
     let s = c .before .before .before .before .before .before in
-    at-21 (view (s .args .img .now)) (s .args .g) (s .pre .0 .is) (c .before .i .given .0 .0) (sym (c .before .before .before .fault21 .ensures) ∙ c .before .i .given .1)
+    rw (in-order (view (s .args .img .now)) (s .args .g) (s .pre .0 .is))
+    (at-21 (view (s .args .img .now)) (s .args .g) (tableFault (s .args .g) (view (s .args .img .now))) (c .before .i .given .0 .0) (sym (c .before .before .before .fault21 .ensures) ∙ c .before .i .given .1))
 
 enum-told : tie.Need-enum-told
 enum-told c = search needs
@@ -30,8 +32,9 @@ enum-known-i-2 c = search needs
 returns-2 : tie.Need-returns-2
 returns-2 c =
     let s = c .before .before .before .before .before .before .before .before .before in
-    at-22 (view (s .args .img .now)) (s .args .g) (s .pre .0 .is) (sym (c .before .before .before .before .before .before .fault21 .ensures) ∙ c .before .before .before .before .enum-told .given .1)
-    (c .before .i2 .given .0 .0) (sym (c .before .before .before .fault22 .ensures) ∙ c .before .i2 .given .1)
+    rw (in-order (view (s .args .img .now)) (s .args .g) (s .pre .0 .is))
+    (at-22 (view (s .args .img .now)) (s .args .g) (tableFault (s .args .g) (view (s .args .img .now))) (sym (c .before .before .before .before .before .before .fault21 .ensures) ∙ c .before .before .before .before .enum-told .given .1)
+    (c .before .i2 .given .0 .0) (sym (c .before .before .before .fault22 .ensures) ∙ c .before .i2 .given .1))
 
 enum-told-2 : tie.Need-enum-told-2
 enum-told-2 c = search needs
@@ -48,10 +51,11 @@ same-length c = search needs
 returns-3 : tie.Need-returns-3
 returns-3 c =
     let s = c .before .before .before .before .before .before .before .before .before .before .before .before .before .before .before in
-    at-23 (view (s .args .img .now)) (s .args .g) (s .pre .0 .is)
+    rw (in-order (view (s .args .img .now)) (s .args .g) (s .pre .0 .is))
+    (at-23 (view (s .args .img .now)) (s .args .g) (tableFault (s .args .g) (view (s .args .img .now)))
     (sym (c .before .before .before .before .before .before .before .before .before .before .before .before .fault21 .ensures) ∙ c .before .before .before .before .before .before .before .before .before .before .enum-told .given .1)
     (sym (c .before .before .before .before .before .before .before .before .before .fault22 .ensures) ∙ c .before .before .before .before .before .before .before .enum-told2 .given .1) (c .before .i3 .given .0 .0)
-    (sym (c .before .before .before .before .before .fault23-with .ensures) ∙ c .before .i3 .given .1)
+    (sym (c .before .before .before .before .before .fault23-with .ensures) ∙ c .before .i3 .given .1))
 
 enum-told-3 : tie.Need-enum-told-3
 enum-told-3 c = search needs
@@ -70,11 +74,12 @@ same-length-2 c = search needs
 returns-4 : tie.Need-returns-4
 returns-4 c =
     let s = c .before .before .before .before .before .before .before .before .before .before .before .before .before .before .before .before .before .before .before .before .before in
-    at-24 (view (s .args .img .now)) (s .args .g) (s .pre .0 .is)
+    rw (in-order (view (s .args .img .now)) (s .args .g) (s .pre .0 .is))
+    (at-24 (view (s .args .img .now)) (s .args .g) (tableFault (s .args .g) (view (s .args .img .now)))
     (sym (c .before .before .before .before .before .before .before .before .before .before .before .before .before .before .before .before .before .before .fault21 .ensures) ∙ c .before .before .before .before .before .before .before .before .before .before .before .before .before .before .before .before .enum-told .given .1)
     (sym (c .before .before .before .before .before .before .before .before .before .before .before .before .before .before .before .fault22 .ensures) ∙ c .before .before .before .before .before .before .before .before .before .before .before .before .before .enum-told2 .given .1)
     (sym (c .before .before .before .before .before .before .before .before .before .before .before .fault23-with .ensures) ∙ c .before .before .before .before .before .before .before .enum-told3 .given .1) (c .before .file .given .0 .0)
-    (sym (c .before .before .before .before .before .fault24-with .ensures) ∙ c .before .file .given .1)
+    (sym (c .before .before .before .before .before .fault24-with .ensures) ∙ c .before .file .given .1))
 
 enum-told-4 : tie.Need-enum-told-4
 enum-told-4 c = search needs
@@ -92,11 +97,12 @@ returns-5 : tie.Need-returns-5
 returns-5 c =
     let b = c .before .before .before .before .before .before .before .before .before .before .before .before in
     let s = b .before .before .before .before .before .before .before .before .before .before .before .before in
-    from-25 (view (s .args .img .now)) (s .args .g) (s .pre .0 .is)
+    rw (in-order (view (s .args .img .now)) (s .args .g) (s .pre .0 .is))
+    (c .before .before .faults-by .ensures ∙ from-25 (view (s .args .img .now)) (s .args .g) (tableFault (s .args .g) (view (s .args .img .now)))
     (sym (c .before .before .before .before .before .before .before .before .before .before .before .before .before .before .before .before .before .before .before .before .before .fault21 .ensures) ∙ c .before .before .before .before .before .before .before .before .before .before .before .before .before .before .before .before .before .before .before .enum-told .given .1)
     (sym (c .before .before .before .before .before .before .before .before .before .before .before .before .before .before .before .before .before .before .fault22 .ensures) ∙ c .before .before .before .before .before .before .before .before .before .before .before .before .before .before .before .before .enum-told2 .given .1)
     (sym (c .before .before .before .before .before .before .before .before .before .before .before .before .before .before .fault23-with .ensures) ∙ c .before .before .before .before .before .before .before .before .before .before .enum-told3 .given .1)
-    (sym (c .before .before .before .before .before .before .before .before .fault24-with .ensures) ∙ c .before .before .before .before .enum-told4 .given .1) (c .before .before .faults-by .result) (c .before .before .faults-by .ensures)
+    (sym (c .before .before .before .before .before .before .before .before .fault24-with .ensures) ∙ c .before .before .before .before .enum-told4 .given .1))
 
 pub first-fault-with-spec : {M : Type 1} → statement M
 first-fault-with-spec =

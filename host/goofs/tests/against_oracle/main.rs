@@ -23,6 +23,7 @@ mod older_names;
 mod older_volumes;
 mod recoveries;
 mod renames;
+mod repairs;
 mod runs;
 mod sample;
 mod scratch;

@@ -2,7 +2,9 @@
 //! that show a stray byte.
 
 use crate::counts::{count, Compared};
-use oracle::answers::{code, CheckAnswer, FormatRecordAnswer, RecoverAnswer, SliceAnswer};
+use oracle::answers::{
+    code, CheckAnswer, FormatRecordAnswer, RecoverAnswer, RepairAnswer, SliceAnswer,
+};
 use oracle::layout::Edition;
 use oracle::testing::buffers::{LentBuffer, LentScratch};
 use oracle::testing::requests::{create, delete, find, read, rename, resize, shortened, write};
@@ -178,6 +180,30 @@ impl Subject for Both {
         found
     }
 
+    fn repair(&self, image: &[u8], list_length: usize) -> (RepairAnswer, Vec<u8>) {
+        let expected = Oracle.repair(image, list_length);
+        let mut list = LentBuffer::new(list_length);
+        let answer = as_oracle!(
+            goofs::repair(image, list.lent()),
+            RepairAnswer {
+                code,
+                fault,
+                place,
+                length,
+                freed,
+            }
+        );
+        let filled = answer.length as usize;
+        let found = (answer, list.filled(filled));
+        let what = || format!("repair with {list_length} bytes lent");
+        assert_eq!(found.0, expected.0, "{}", what());
+        same_bytes(&found.1, &expected.1, what);
+        count_buffer(answer.code, filled, list_length, || {
+            Oracle.repair(image, list_length + 1).0.code
+        });
+        found
+    }
+
     fn format_record(
         &self,
         format: &FormatRequest,
@@ -319,12 +345,13 @@ pub fn calls() -> Vec<Request> {
     ]
 }
 
-/// Puts all calls and recovery to an image and gives what check says.
+/// Puts all calls, recovery and repair to an image and gives what check says.
 pub fn calls_alike(image: &[u8]) -> CheckAnswer {
     for request in calls() {
         alike(&request, image, ANY_LIST);
     }
     Both.recover(image, ANY_LIST);
+    Both.repair(image, ANY_LIST);
     checks_alike(&Both, image)
 }
 

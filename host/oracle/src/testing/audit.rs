@@ -10,16 +10,10 @@ use crate::request::Request;
 /// Panics if the list of a changing call on this image breaks a rule. The ledgers stand before and
 /// after it.
 pub fn audit(request: &Request, before: &Ledger, after: &Ledger, image: &[u8], list: &[u8]) {
-    let geometry = before.geometry();
     let groups = groups(list);
-    assert_eq!(groups.len(), 4);
-    let records: usize = groups.iter().map(Vec::len).sum();
-    assert_eq!(list.len(), (records + 4) * RECORD);
-    audit_records(list);
-
-    let targets = &groups[2];
-    assert_eq!(target_sectors(targets), expected_targets(before, after));
-    for target in targets {
+    let (data, targets) = audit_groups(before.geometry(), image, &groups, list);
+    assert_eq!(targets, expected_targets(before, after));
+    for target in &groups[2] {
         assert_eq!(
             target.contents,
             expected_target(before, after, image, target.sector),
@@ -27,13 +21,29 @@ pub fn audit(request: &Request, before: &Ledger, after: &Ledger, image: &[u8], l
             target.sector
         );
     }
+    audit_data(request, before, after, image, &groups[0][..data]);
+}
+
+/// Panics if the list breaks a rule that is the same for all calls. Gives the number of its data
+/// sectors, and its targets.
+pub fn audit_groups(
+    geometry: Geometry,
+    image: &[u8],
+    groups: &[Group],
+    list: &[u8],
+) -> (usize, Vec<u64>) {
+    assert_eq!(groups.len(), 4);
+    let records: usize = groups.iter().map(Vec::len).sum();
+    assert_eq!(list.len(), (records + 4) * RECORD);
+    audit_records(list);
+    let targets = &groups[2];
     audit_superblock(&groups[1], image, targets.len() as u16);
     audit_superblock(&groups[3], image, 0);
     let journal_sectors = targets.len().div_ceil(32);
     let (data, staged) = groups[0].split_at(groups[0].len() - targets.len() - journal_sectors);
     let (copies, journal) = staged.split_at(targets.len());
     audit_staging(geometry, copies, journal, targets);
-    audit_data(request, before, after, image, data);
+    (data.len(), target_sectors(targets))
 }
 
 /// Every record tells its position, a barrier's contents are zero, and the last one is a barrier.

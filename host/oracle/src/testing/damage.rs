@@ -133,7 +133,7 @@ pub fn spoil_fields(rounds: usize, judge: fn(&[u8]) -> CheckAnswer) {
     let faults = (21..=26).map(|fault| (7, fault));
     for kind in faults.chain([(0, 0), (2, 0), (3, 0), (4, 0), (5, 0), (6, 0)]) {
         let times = seen.get(&kind).copied().unwrap_or(0);
-        assert!(times > 100, "{kind:?} is too rare: {seen:?}");
+        assert!(times > rounds / 120, "{kind:?} is too rare: {seen:?}");
     }
 }
 

@@ -9,12 +9,15 @@ pub mod cuts;
 pub mod damage;
 pub mod images;
 pub mod records;
+pub mod repairs;
 pub mod requests;
 pub mod runs;
 pub mod slices;
 pub mod volumes;
 
-use crate::answers::{code, CheckAnswer, FormatRecordAnswer, RecoverAnswer, Refusal, SliceAnswer};
+use crate::answers::{
+    code, CheckAnswer, FormatRecordAnswer, RecoverAnswer, Refusal, RepairAnswer, SliceAnswer,
+};
 use crate::request::{Answer, Request};
 use crate::sorted_check::scratch_length;
 use crate::FormatRequest;
@@ -44,6 +47,8 @@ pub trait Subject {
     fn carry_out(&self, image: &mut [u8], list: &[u8]) -> u64;
 
     fn check_with_scratch(&self, image: &[u8], scratch_length: usize) -> CheckAnswer;
+
+    fn repair(&self, image: &[u8], list_length: usize) -> (RepairAnswer, Vec<u8>);
 }
 
 /// The oracle alone: nothing outside its answer's bytes may change.
@@ -93,6 +98,12 @@ impl Subject for Oracle {
         let answer = crate::check_with_scratch(image, scratch.lent());
         scratch.assert_kept(answer.code);
         answer
+    }
+
+    fn repair(&self, image: &[u8], list_length: usize) -> (RepairAnswer, Vec<u8>) {
+        let mut list = LentBuffer::new(list_length);
+        let answer = crate::repair(image, list.lent());
+        (answer, list.filled(answer.length as usize))
     }
 }
 

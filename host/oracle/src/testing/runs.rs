@@ -13,7 +13,7 @@ use super::requests::{create, resize, shortened};
 use super::slices::expected_slice;
 use super::volumes::{format_list, Volume};
 use super::{checks_alike, Counts, Oracle, Subject};
-use crate::answers::{code, Refusal};
+use crate::answers::{code, Refusal, RepairAnswer};
 use crate::draw::Draw;
 use crate::layout::{put32, superblock, Geometry, LONGEST_SPAN, SECTOR};
 use crate::ledger::{File, Ledger};
@@ -237,6 +237,9 @@ impl Run<'_> {
         if self.draw.one_in(12) {
             let checked = checks_alike(self.subject, &self.volume.image);
             assert_eq!(checked.code, code::DONE);
+            // In a run there is nothing to mend.
+            let repaired = self.subject.repair(&self.volume.image, 0);
+            assert_eq!(repaired, (RepairAnswer::default(), Vec::new()));
         }
         if self.draw.one_in(40) {
             self.volume.disturb(&mut self.draw);

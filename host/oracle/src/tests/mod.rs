@@ -11,6 +11,7 @@ mod judging;
 mod names;
 mod refusals;
 mod renames;
+mod repairs;
 mod runs;
 mod scratch;
 mod slices;

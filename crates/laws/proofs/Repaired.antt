@@ -16,11 +16,10 @@ use Rattle.model.specs.Entry.{Entry}
 use Rattle.model.specs.Catalogue.{Catalogue, Owner, isFree, isPart, ownedFrom, entryOr, extentOf}
 use Rattle.model.specs.Faults.{holdsOf, fault25, fault26, exact}
 use Rattle.model.specs.Repair.{isStray, repaired}
 use Rattle.laws.proofs.Booleans.{and-left, and-right, and-yes, and-false, or-none}
 use Rattle.laws.proofs.Count.{countBelow-mono, countBelow-anyBelow}
 use Rattle.laws.proofs.Search.{first-ext, allBelow-yes, allBelow-at, allBelow-ext, countBelow-ext, anyBelow-no, anyBelow-true, none-at}
 use Rattle.laws.proofs.Seeking.{orFound, first-suc, anyBelow-first}
-use Rattle.safety.proofs.Rep.{NoFaults}
 
 -- ---- the lowest index that passes
 
@@ -67,7 +66,7 @@ and-yes-right false = refl
 
 module _ (c : Catalogue) where
   -- what makes an entry w at extent e stray
-  abbrev strayBy : ℕ → Owner → Bool
+  abbrev pub strayBy : ℕ → Owner → Bool
   strayBy e w =
       isFree (c .entries (w .file)) || leb (extentsFor (c .geometry) (entryOr (c .entries (w .file)) .size)) (w .offset)
       || anyBelow (λ k. isPart (w .file) (w .offset) (c .table k)) e
@@ -249,21 +248,3 @@ module _ (c : Catalogue) where
             go : (k : ℕ) → k < e → (b : Bool) → isPart i (w .offset) (c .table k) ≡ b → isPart (w .file) (w .offset) (c .table k) ≡ false
             go k m true y = absurd (omega (arith, one, countBelow-two (λ k. isPart i (w .offset) (c .table k)) (c .geometry .extents) k e m l y here))
             go k m false y = ap (λ n. isPart n (w .offset) (c .table k)) f ∙ y
-
-  -- where there is no fault, none is stray
-  pub sound-unstrayed : NoFaults c → ((i : ℕ) (x : Entry) → c .entries i ≡ some x → i < c .geometry .files) → (e : ℕ) → e < c .geometry .extents → isStray c e ≡ false
-  unfolding fault25 fault26 isStray
-  sound-unstrayed h inside e l = by (c .table e) refl (h .f25 e l)
-    where
-      occupied : (o : Option Entry) → isFree o ≡ false → o ≡ some (entryOr o)
-      occupied none q = absurd (true≢false q)
-      occupied (some x) q = refl
-
-      by : (t : Option Owner) → c .table e ≡ t → holdsOf t (λ w. isFree (c .entries (w .file)) || leb (usable (c .geometry)) e) ≡ false → isStray c e ≡ false
-      by none z q = ap (λ (t : Option Owner). holdsOf t (strayBy e)) z
-      by (some w) z q =
-          let has = occupied (c .entries (w .file)) (or-none (isFree (c .entries (w .file))) (leb (usable (c .geometry)) e) q .0) in
-          let x = entryOr (c .entries (w .file)) in
-          exact-kept (w .file) x has
-          (not-false _ (sym (ap (λ (o : Option Entry). holdsOf o (λ y. not (exact c (w .file) (extentsFor (c .geometry) (y .size))))) has) ∙ h .f26 (w .file) (inside (w .file) x has)))
-          e l w z refl

@@ -1,0 +1,65 @@
+-- `repair::put_freed_sector` meets its contract. The sector holds an extent that is freed, or none.
+use Prim.Native.Nat.{_+_}
+use mathlib.Core.Path.{sym, _∙_}
+use native.Mathlib.Omega.{arith}
+use Rattle.model.specs.Geometry.{tableAt}
+use Rattle.model.specs.Disk.{view}
+use Rattle.delete.proofs.Laws.{added-none, added-copy}
+use Rattle.repair.specs.Strays.{isMarked}
+use Rattle.repair.proofs.Freeing.{freed-hit, freed-miss}
+use borrow.Author.Needs.{needs}
+use Rattle.repair.proofs.put_freed_sector.Statement.{statement}
+use Rattle.repair.proofs.put_freed_sector.Tie as tie
+
+holds-marked-requires : tie.Need-holds-marked-requires
+holds-marked-requires c κs = search needs
+
+freed-requires : tie.Need-freed-requires
+freed-requires c κs = search needs
+
+table-sector-requires : tie.Need-table-sector-requires
+table-sector-requires c κs = search needs
+
+put-copy-requires : tie.Need-put-copy-requires
+put-copy-requires c κs = search needs
+
+same-length : tie.Need-same-length
+same-length c = search needs
+
+same-length-2 : tie.Need-same-length-2
+same-length-2 c = search needs
+
+returns : tie.Need-returns
+returns c =
+    let q = c .before .before .before .before in
+    let f = c .before .before .before .before .before .before .before .before in
+    let s = c .before .before .before .before .before .before .before .before .before .before .before .before .before .before .before in
+    let a = s .args in
+    let held = sym (c .before .before .before .before .before .before .before .before .before .before .holds-marked .ensures)
+    ∙ c .before .before .before .before .before .before .before .before .before .if1 .taken in (
+      rw (freed-hit (isMarked (a .marks .now) (a .g .extents)) (a .g) (view (a .img .now)) (a .t) held)
+          (added-copy {s = tableAt (a .g) + a .t} (rw (← f .freed .ensures) (q .put-copy .ensures .0)) (rw (← q .before .table-sector .ensures) (q .put-copy .ensures .1)) (omega arith)),
+      (rw held (q .put-copy .ensures .0 .next), omega (arith, q .put-copy .ensures .0 .next)),
+    )
+
+returns-2 : tie.Need-returns-2
+returns-2 c =
+    let s = c .before .before .before .before .before .before in
+    let a = s .args in
+    let none = sym (c .before .holds-marked .ensures) ∙ c .if1 .left in (
+      rw (freed-miss (isMarked (a .marks .now) (a .g .extents)) (a .g) (view (a .img .now)) (a .t) none) (added-none _ _ _ _),
+      (rw none (omega arith), omega arith),
+    )
+
+pub put-freed-sector-spec : {M : Type 1} → statement M
+put-freed-sector-spec =
+    tie.close
+    (tie.spec
+    holds-marked-requires
+    freed-requires
+    table-sector-requires
+    put-copy-requires
+    same-length
+    same-length-2
+    returns
+    returns-2)

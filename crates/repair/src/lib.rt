@@ -1,0 +1,524 @@
+// Repair: the table entries that no file needs, freed in one transaction. A byte for each extent says whether it is freed; repeated
+// offsets are found by chained hashing, as `duplicates` finds names and ids.
+use model::Extent;
+use model::FileIndex;
+use model::Geometry;
+use model::Lowest;
+use model::Repaired;
+use model::Soundness;
+use model::Verdict;
+ghost use mathlib.Core.Path.{_≡_};
+ghost use mathlib.Core.Bool.{true, false, cond};
+ghost use mathlib.Core.Option.{some};
+ghost use Prim.Native.Nat.{ℕ, _+_, _*_, _≤_, _<_};
+ghost use lib.Dec.{eqb};
+ghost use lib.ListN.{length, getD};
+ghost use Rattle.model.specs.Search.{first, anyBelow, countBelow};
+ghost use Rattle.model.specs.Geometry.{usable, tableAt, tableSectors};
+ghost use Rattle.model.specs.Disk.{view};
+ghost use Rattle.model.specs.Table.{freeFile, tableFile, tableOffset, freedIn};
+ghost use Rattle.model.specs.Catalogue.{catalogueOf};
+ghost use Rattle.model.specs.Faults.{fault21, fault26, faultsIn};
+ghost use Rattle.model.specs.WriteList.{recordSize, recordCount, groupsFor, closed, Emitted};
+ghost use Rattle.model.specs.Opened.{Bounded, Opened};
+ghost use Rattle.model.specs.Repair.{isStray, repaired, takenReserve, doneBut, repairAnswer, repairList};
+ghost use Rattle.delete.specs.Staging.{Added};
+ghost use Rattle.repair.specs.Strays.{bucketOf, Linked, samePart, Found, isMarked, Kept};
+ghost use Rattle.repair.specs.Freeing.{holdsFreed, freedSector, freeingPlan, Mends};
+
+// ---- which extents are freed
+
+// Which of `buckets` buckets the entry of extent e belongs to.
+fn bucket_of(img: &[u8], g: Geometry, e: Extent, buckets: usize) -> usize
+    requires { ⌜ Opened (now img) g ⌝ }
+    requires { ⌜ e .0 < g .extents ⌝ }
+    requires { ⌜ (0 < buckets) × (buckets ≤ 65536) ⌝ }
+    ensures { λ r. ⌜ r ≡ bucketOf buckets (tableFile g (view (now (img .entry))) (e .0)) (tableOffset g (view (now (img .entry))) (e .0)) ⌝ }
+    ensures { λ r. ⌜ r < buckets ⌝ }
+{
+    let part = table::table_file(img, g, e) * 65536 + table::table_offset(img, g, e);
+    (duplicates::mixed(0, part) as usize) * buckets / 4294967296
+}
+
+// Extent k has extent e's file and offset.
+fn is_same_part(img: &[u8], g: Geometry, e: Extent, k: Extent) -> bool
+    requires { ⌜ Opened (now img) g ⌝ }
+    requires { ⌜ (e .0 < g .extents) × (k .0 < g .extents) ⌝ }
+    ensures { λ r. ⌜ r ≡ samePart g (view (now (img .entry))) (e .0) (k .0) ⌝ }
+{
+    if table::table_file(img, g, k) == table::table_file(img, g, e) {
+        return table::table_offset(img, g, k) == table::table_offset(img, g, e);
+    }
+    false
+}
+
+// An extent below e has its file and offset. `b` is the bucket of both.
+fn is_repeated(img: &[u8], g: Geometry, e: usize, b: usize, chains: &[u32]) -> bool
+    requires { ⌜ Opened (now img) g ⌝ }
+    requires { ⌜ (e < g .extents) × (b < length (now chains)) × (e ≤ length (now chains)) ⌝ }
+    requires { ⌜ b ≡ bucketOf (length (now chains)) (tableFile g (view (now img)) e) (tableOffset g (view (now img)) e) ⌝ }
+    requires { ⌜ eqb (tableFile g (view (now img)) e) freeFile ≡ false ⌝ }
+    requires { ⌜ Linked g (view (now img)) e (now chains) ⌝ }
+    ensures { λ r. ⌜ r ≡ anyBelow (samePart g (view (now (img .entry))) e) e ⌝ }
+{
+    let mut j = (chains[b] / 65536) as usize;
+    while j != 0 {
+        if is_same_part(img, g, Extent(e as u64), Extent((j - 1) as u64)) {
+            return true;
+        }
+        j = (chains[j - 1] % 65536) as usize;
+    }
+    false
+}
+
+// Extent e isn't free, and is freed; `again`: an extent below it has its file and offset. An offset has 16 bits, so the bytes before it
+// are counted where the size, which can be any number of 64 bits, can't be rounded up.
+fn is_needless(img: &[u8], g: Geometry, e: Extent, again: bool) -> bool
+    requires { ⌜ Opened (now img) g ⌝ }
+    requires { ⌜ e .0 < g .extents ⌝ }
+    requires { ⌜ eqb (tableFile g (view (now img)) (e .0)) freeFile ≡ false ⌝ }
+    requires { ⌜ again ≡ anyBelow (samePart g (view (now img)) (e .0)) (e .0) ⌝ }
+    ensures { λ r. ⌜ r ≡ isStray (catalogueOf (view (now (img .entry)))) (e .0) ⌝ }
+{
+    let f = table::table_file(img, g, e);
+    if f < g.files {
+        let i = FileIndex(f);
+        if directory::is_occupied(img, i) {
+            let before = table::table_offset(img, g, e) * (512 * (g.extent_sectors as u64));
+            if directory::size_at(img, i) <= before {
+                return true;
+            }
+            return again;
+        }
+        return true;
+    }
+    true
+}
+
+// Whether extent e is freed. Where it isn't free it has joined its chain.
+fn is_stray(img: &[u8], g: Geometry, e: usize, chains: &mut [u32]) -> bool
+    requires { ⌜ Opened (now img) g ⌝ }
+    requires { ⌜ (e < g .extents) × (length (now chains) ≤ 65536) × (g .extents ≤ length (now chains)) ⌝ }
+    requires { ⌜ Linked g (view (now img)) e (now chains) ⌝ }
+    ensures { λ r. ⌜ r ≡ isStray (catalogueOf (view (now (img .entry)))) e ⌝ }
+    ensures { λ r. ⌜ Linked g (view (now (img .entry))) (e + 1) (now (chains .exit)) ⌝ }
+{
+    let extent = Extent(e as u64);
+    if table::table_file(img, g, extent) == 65535 {
+        return false;
+    }
+    let b = bucket_of(img, g, extent, chains.len());
+    let again = is_repeated(img, g, e, b, chains);
+    duplicates::enter(e, b, chains);
+    is_needless(img, g, extent, again)
+}
+
+fn bit(b: bool) -> u8
+    ensures { λ r. ⌜ (r ≡ cond b 1 0) × (r ≤ 1) ⌝ }
+{
+    if b {
+        return 1;
+    }
+    0
+}
+
+// The byte of each extent says whether it is freed. How many are.
+fn mark_strays(img: &[u8], g: Geometry, chains: &mut [u32], marks: &mut [u8]) -> u64
+    requires { ⌜ Opened (now img) g ⌝ }
+    requires { ⌜ (length (now chains) ≤ 65536) × (g .extents ≤ length (now chains)) × (g .extents ≤ length (now marks)) ⌝ }
+    requires { ⌜ ((b : ℕ) → b < length (now chains) → getD (now chains) b 0 ≡ 0) ⌝ }
+    ensures { λ r. ⌜ Found g (view (now (img .entry))) (g .extents) (now (marks .exit)) ⌝ }
+    ensures { λ r. ⌜ r ≡ countBelow (isStray (catalogueOf (view (now (img .entry))))) (g .extents) ⌝ }
+{
+    let n = g.extents as usize;
+    let mut found: u64 = 0;
+    let mut e: usize = 0;
+    while e < n {
+        let one = bit(is_stray(img, g, e, chains));
+        marks[e] = one;
+        found += one as u64;
+        e += 1;
+    }
+    found
+}
+
+// ---- their table sectors
+
+fn is_marked(marks: &[u8], g: Geometry, e: Extent) -> bool
+    requires { ⌜ g .extents ≤ length (now marks) ⌝ }
+    ensures { λ r. ⌜ r ≡ isMarked (now (marks .entry)) (g .extents) (e .0) ⌝ }
+{
+    if e.0 < g.extents {
+        let k = e.0 as usize;
+        return marks[k] == 1;
+    }
+    false
+}
+
+// Table sector t holds an extent that is freed.
+fn holds_marked(marks: &[u8], g: Geometry, t: u64) -> bool
+    requires { ⌜ Bounded g ⌝ }
+    requires { ⌜ (g .extents ≤ length (now marks)) × (t < tableSectors g) ⌝ }
+    ensures { λ r. ⌜ r ≡ holdsFreed (isMarked (now (marks .entry)) (g .extents)) t ⌝ }
+{
+    let mut k: u64 = 0;
+    while k < 128 {
+        if is_marked(marks, g, g.table_extent(t, k)) {
+            return true;
+        }
+        k += 1;
+    }
+    false
+}
+
+// How many table sectors hold one.
+fn marked_sectors(marks: &[u8], g: Geometry) -> u64
+    requires { ⌜ Bounded g ⌝ }
+    requires { ⌜ g .extents ≤ length (now marks) ⌝ }
+    ensures { λ r. ⌜ r ≡ countBelow (holdsFreed (isMarked (now (marks .entry)) (g .extents))) (tableSectors g) ⌝ }
+    ensures { λ r. ⌜ r ≤ tableSectors g ⌝ }
+{
+    let n = g.table_sectors();
+    let mut found: u64 = 0;
+    let mut t: u64 = 0;
+    while t < n {
+        found += bit(holds_marked(marks, g, t)) as u64;
+        t += 1;
+    }
+    found
+}
+
+// Table sector t with its marked entries freed.
+fn freed(img: &[u8], g: Geometry, marks: &[u8], t: u64) -> [u8; 512]
+    requires { ⌜ Opened (now img) g ⌝ }
+    requires { ⌜ (g .extents ≤ length (now marks)) × (t < tableSectors g) ⌝ }
+    ensures { λ r. ⌜ r ≡ freedIn (λ k. isMarked (now (marks .entry)) (g .extents) (128 * t + k)) (view (now (img .entry)) (tableAt g + t)) 128 ⌝ }
+{
+    let mut a = fields::sector(img, g.table_sector(t));
+    let mut k: usize = 0;
+    while k < 128 {
+        let hit = is_marked(marks, g, g.table_extent(t, k as u64));
+        table::free_one(&mut a, k, hit);
+        k += 1;
+    }
+    a
+}
+
+// Its copy, freed, is record k, if it holds one.
+fn put_freed_sector(
+    list: &mut [u8],
+    k: usize,
+    numbers: &mut [u64],
+    img: &[u8],
+    g: Geometry,
+    marks: &[u8],
+    t: u64,
+) -> usize
+    requires { ⌜ Opened (now img) g ⌝ }
+    requires { ⌜ (g .extents ≤ length (now marks)) × (t < tableSectors g) ⌝ }
+    requires { ⌜ ((k + 1) * recordSize ≤ length (now list)) × (k < length (now numbers)) ⌝ }
+    ensures { λ r. ⌜ Added g (now (numbers .entry)) (now (list .entry)) k (freedSector (isMarked (now (marks .entry)) (g .extents)) g (view (now (img .entry))) t) (now (numbers .exit)) (now (list .exit)) r ⌝ }
+    ensures { λ r. ⌜ (r ≡ k + cond (holdsFreed (isMarked (now (marks .entry)) (g .extents)) t) 1 0) × (r ≤ k + 1) ⌝ }
+{
+    if holds_marked(marks, g, t) {
+        let s = freed(img, g, marks, t);
+        return commit::put_copy(list, k, g, numbers, k, g.table_sector(t), s);
+    }
+    k
+}
+
+// The copies of all such table sectors, from record 0 on.
+fn put_freed(list: &mut [u8], numbers: &mut [u64], img: &[u8], g: Geometry, marks: &[u8]) -> usize
+    requires { ⌜ Opened (now img) g ⌝ }
+    requires { ⌜ g .extents ≤ length (now marks) ⌝ }
+    requires { ⌜ ((countBelow (holdsFreed (isMarked (now marks) (g .extents))) (tableSectors g) + 1) * recordSize ≤ length (now list)) × (tableSectors g ≤ length (now numbers)) ⌝ }
+    ensures { λ r. ⌜ Added g (now (numbers .entry)) (now (list .entry)) 0 (freeingPlan (isMarked (now (marks .entry)) (g .extents)) g (view (now (img .entry))) .targets) (now (numbers .exit)) (now (list .exit)) r ⌝ }
+    ensures { λ r. ⌜ (r ≡ countBelow (holdsFreed (isMarked (now (marks .entry)) (g .extents))) (tableSectors g)) × (r ≤ tableSectors g) ⌝ }
+{
+    let n = g.table_sectors();
+    let mut j: usize = 0;
+    let mut t: u64 = 0;
+    while t < n {
+        j = put_freed_sector(list, j, numbers, img, g, marks, t);
+        t += 1;
+    }
+    j
+}
+
+// The whole list, which has room for it.
+fn put_repair(img: &[u8], g: Geometry, marks: &[u8], list: &mut [u8]) -> usize
+    requires { ⌜ Opened (now img) g ⌝ }
+    requires { ⌜ g .extents ≤ length (now marks) ⌝ }
+    requires { ⌜ recordCount 0 (countBelow (holdsFreed (isMarked (now marks) (g .extents))) (tableSectors g)) * recordSize ≤ length (now list) ⌝ }
+    ensures { λ r. ⌜ Emitted (now (list .entry)) 0 (closed (groupsFor (view (now (img .entry))) (some (freeingPlan (isMarked (now (marks .entry)) (g .extents)) g (view (now (img .entry))))))) (now (list .exit)) r ⌝ }
+{
+    let mut numbers = [0u64; 1024];
+    let n = put_freed(list, &mut numbers, img, g, marks);
+    commit::put_commit(list, n, img, g, &numbers, n)
+}
+
+// ---- files that lack an extent
+
+// Extent e is counted for its file, if it stays.
+fn count_extent(img: &[u8], g: Geometry, e: usize, marks: &[u8], kept: &mut [u32])
+    requires { ⌜ Opened (now img) g ⌝ }
+    requires { ⌜ (e < g .extents) × (g .extents ≤ length (now marks)) × (g .files ≤ length (now kept)) ⌝ }
+    requires { ⌜ Kept g (view (now img)) (isMarked (now marks) (g .extents)) e (now kept) ⌝ }
+    ensures { λ _. ⌜ Kept g (view (now (img .entry))) (isMarked (now (marks .entry)) (g .extents)) (e + 1) (now (kept .exit)) ⌝ }
+{
+    let extent = Extent(e as u64);
+    if is_marked(marks, g, extent) {
+        return;
+    }
+    let f = table::table_file(img, g, extent) as usize;
+    if f < g.files as usize {
+        kept[f] = kept[f] + 1;
+        return;
+    }
+}
+
+// How many extents of each file stay.
+fn count_kept(img: &[u8], g: Geometry, marks: &[u8], kept: &mut [u32])
+    requires { ⌜ Opened (now img) g ⌝ }
+    requires { ⌜ (g .extents ≤ length (now marks)) × (g .files ≤ length (now kept)) ⌝ }
+    ensures { λ _. ⌜ Kept g (view (now (img .entry))) (isMarked (now (marks .entry)) (g .extents)) (g .extents) (now (kept .exit)) ⌝ }
+{
+    fields::clear(kept);
+    let n = g.extents as usize;
+    let mut e: usize = 0;
+    while e < n {
+        count_extent(img, g, e, marks, kept);
+        e += 1;
+    }
+}
+
+// File i has fewer than its size needs. None that stay are too many, or of one offset.
+fn is_lacking(img: &[u8], g: Geometry, i: usize, kept: &[u32]) -> bool
+    requires { ⌜ Opened (now img) g ⌝ }
+    requires { ⌜ (i < g .files) × (g .files ≤ length (now kept)) ⌝ }
+    requires { ⌜ Kept g (view (now img)) (isStray (catalogueOf (view (now img)))) (g .extents) (now kept) ⌝ }
+    ensures { λ r. ⌜ r ≡ fault26 (repaired (catalogueOf (view (now (img .entry))))) i ⌝ }
+{
+    let index = FileIndex(i as u64);
+    if directory::is_occupied(img, index) {
+        let needed = table::extents_for(g, directory::size_at(img, index));
+        if kept[i] as u64 == needed {
+            return false;
+        }
+        return true;
+    }
+    false
+}
+
+// The lowest such file.
+fn first_lacking(img: &[u8], g: Geometry, kept: &[u32]) -> Lowest
+    requires { ⌜ Opened (now img) g ⌝ }
+    requires { ⌜ g .files ≤ length (now kept) ⌝ }
+    requires { ⌜ Kept g (view (now img)) (isStray (catalogueOf (view (now img)))) (g .extents) (now kept) ⌝ }
+    ensures { λ r. ⌜ r ≡ first (fault26 (repaired (catalogueOf (view (now (img .entry)))))) (g .files) ⌝ }
+{
+    let n = g.files as usize;
+    let mut i: usize = 0;
+    while i < n {
+        if is_lacking(img, g, i, kept) {
+            return Lowest::At(i);
+        }
+        i += 1;
+    }
+    Lowest::Nowhere
+}
+
+// ---- a repair of a clean volume whose reserve is free
+
+struct Mended {
+    // the list is too short
+    short: bool,
+    freed: u64,
+    length: u64,
+    // the lowest file that lacks an extent
+    lacking: Lowest,
+}
+
+// By way of arrays that are lent, the numbers 0.
+fn mend_in(
+    img: &[u8],
+    g: Geometry,
+    list: &mut [u8],
+    numbers: &mut [u32],
+    marks: &mut [u8],
+) -> Mended
+    requires { ⌜ Opened (now img) g ⌝ }
+    requires { ⌜ (length (now numbers) ≤ 65536) × (g .extents ≤ length (now numbers)) × (g .files ≤ length (now numbers)) × (g .extents ≤ length (now marks)) ⌝ }
+    requires { ⌜ ((b : ℕ) → b < length (now numbers) → getD (now numbers) b 0 ≡ 0) ⌝ }
+    ensures { λ r. ⌜ Mends (view (now (img .entry))) (now (list .entry)) r (now (list .exit)) ⌝ }
+{
+    let freed = mark_strays(img, g, numbers, marks);
+    let sectors = marked_sectors(marks, g);
+    count_kept(img, g, marks, numbers);
+    let lacking = first_lacking(img, g, numbers);
+    if freed == 0 {
+        return Mended {
+            short: false,
+            freed: 0,
+            length: 0,
+            lacking,
+        };
+    }
+    let needed = lists::RECORD_SIZE * delete::records_for(sectors);
+    if needed <= list.len() {
+        put_repair(img, g, marks, list);
+        return Mended {
+            short: false,
+            freed,
+            length: needed as u64,
+            lacking,
+        };
+    }
+    Mended {
+        short: true,
+        freed: 0,
+        length: 0,
+        lacking,
+    }
+}
+
+fn mend_few(img: &[u8], g: Geometry, list: &mut [u8]) -> Mended
+    requires { ⌜ Opened (now img) g ⌝ }
+    requires { ⌜ (g .files ≤ 1024) × (g .extents ≤ 1024) ⌝ }
+    ensures { λ r. ⌜ Mends (view (now (img .entry))) (now (list .entry)) r (now (list .exit)) ⌝ }
+{
+    let mut numbers = [0u32; 1024];
+    let mut marks = [0u8; 1024];
+    mend_in(img, g, list, &mut numbers, &mut marks)
+}
+
+fn mend_more(img: &[u8], g: Geometry, list: &mut [u8]) -> Mended
+    requires { ⌜ Opened (now img) g ⌝ }
+    requires { ⌜ (g .files ≤ 8192) × (g .extents ≤ 8192) ⌝ }
+    ensures { λ r. ⌜ Mends (view (now (img .entry))) (now (list .entry)) r (now (list .exit)) ⌝ }
+{
+    let mut numbers = [0u32; 8192];
+    let mut marks = [0u8; 8192];
+    mend_in(img, g, list, &mut numbers, &mut marks)
+}
+
+fn mend_many(img: &[u8], g: Geometry, list: &mut [u8]) -> Mended
+    requires { ⌜ Opened (now img) g ⌝ }
+    ensures { λ r. ⌜ Mends (view (now (img .entry))) (now (list .entry)) r (now (list .exit)) ⌝ }
+{
+    let mut numbers = [0u32; 65536];
+    let mut marks = [0u8; 65536];
+    mend_in(img, g, list, &mut numbers, &mut marks)
+}
+
+// The larger of F and N.
+fn most(g: Geometry) -> u64
+    requires { ⌜ Bounded g ⌝ }
+    ensures { λ r. ⌜ (g .files ≤ r) × (g .extents ≤ r) × (r ≤ 65535) ⌝ }
+{
+    if g.files <= g.extents {
+        return g.extents;
+    }
+    g.files
+}
+
+// By way of arrays for `room` files and extents, or for 8 times as many. It calls itself to keep the longer arrays out of the stack of
+// a volume that doesn't use them (docs/DECISIONS.md).
+fn mend_with(img: &[u8], g: Geometry, list: &mut [u8], room: u64) -> Mended
+    requires { ⌜ Opened (now img) g ⌝ }
+    requires { ⌜ 0 < room ⌝ }
+    ensures { λ r. ⌜ Mends (view (now (img .entry))) (now (list .entry)) r (now (list .exit)) ⌝ }
+{
+    if most(g) <= room {
+        if room <= 1024 {
+            return mend_few(img, g, list);
+        }
+        if room <= 8192 {
+            return mend_more(img, g, list);
+        }
+        return mend_many(img, g, list);
+    }
+    mend_with(img, g, list, room * 8)
+}
+
+// ---- the call
+
+// The lowest extent of the reserve that isn't free.
+fn taken_reserve(img: &[u8], g: Geometry) -> Lowest
+    requires { ⌜ Opened (now img) g ⌝ }
+    ensures { λ r. ⌜ r ≡ takenReserve (catalogueOf (view (now (img .entry)))) ⌝ }
+{
+    let n = g.extents;
+    let mut e = g.usable();
+    while e < n {
+        if table::table_file(img, g, Extent(e)) != 65535 {
+            return Lowest::At(e as usize);
+        }
+        e += 1;
+    }
+    Lowest::Nowhere
+}
+
+// Done, with the first fault that remains: what is wrong with the directory stays, every table entry is then a file's, and a file may
+// lack an extent.
+fn remaining(img: &[u8], g: Geometry, lacking: Lowest) -> Verdict
+    requires { ⌜ Opened (now img) g ⌝ }
+    requires { ⌜ takenReserve (catalogueOf (view (now img))) ≡ Lowest.Nowhere ⌝ }
+    requires { ⌜ lacking ≡ first (fault26 (repaired (catalogueOf (view (now img))))) (catalogueOf (view (now img)) .geometry .files) ⌝ }
+    ensures { λ r. ⌜ r ≡ doneBut (faultsIn (fault21 (view (now (img .entry)))) (repaired (catalogueOf (view (now (img .entry)))))) ⌝ }
+{
+    if let Soundness::Faulty(n, p) = soundness::directory_fault(img, g) {
+        return Verdict {
+            number: 0,
+            fault: n,
+            place: p,
+        };
+    }
+    match lacking {
+        Lowest::At(i) => Verdict {
+            number: 0,
+            fault: 26,
+            place: i as u64,
+        },
+        Lowest::Nowhere => volume::refusal(0),
+    }
+}
+
+fn refused(verdict: Verdict) -> Repaired
+    ensures { λ r. ⌜ r ≡ record { verdict = verdict; freed = 0; length = 0 } ⌝ }
+{
+    Repaired {
+        verdict,
+        freed: 0,
+        length: 0,
+    }
+}
+
+pub fn repair(img: &[u8], list: &mut [u8]) -> Repaired
+    ensures { λ r. ⌜ r ≡ repairAnswer (length (now (img .entry))) (view (now (img .entry))) (length (now (list .entry))) ⌝ }
+    ensures { λ _. ⌜ now (list .exit) ≡ repairList (length (now (img .entry))) (view (now (img .entry))) (now (list .entry)) ⌝ }
+{
+    let v = soundness::clean_verdict(img);
+    if v.number == 0 {
+        let g = volume::geometry_in(img);
+        if let Lowest::At(e) = taken_reserve(img, g) {
+            return refused(Verdict {
+                number: 7,
+                fault: 25,
+                place: e as u64,
+            });
+        }
+        let m = mend_with(img, g, list, 1024);
+        if m.short {
+            return refused(volume::refusal(14));
+        }
+        let lacking = m.lacking;
+        let verdict = remaining(img, g, lacking);
+        return Repaired {
+            verdict,
+            freed: m.freed,
+            length: m.length,
+        };
+    }
+    refused(v)
+}

@@ -3,18 +3,18 @@
 -- Assumes nothing.
 use Prim.Native.Nat.{ℕ, zero, suc, _+_, _≤_, _<_}
 use mathlib.Core.Path.{_≡_, refl, sym, ap, ap₂, _∙_, fun-ext}
-use mathlib.Core.Bool.{Bool, true, false, cond, not, _&&_, _||_, true≢false, false≢true}
+use mathlib.Core.Bool.{Bool, true, false, cond, not, _&&_, _||_, false≢true}
 use mathlib.Core.Option.{Option, none, some, Option·none-ne-some}
 use native.Mathlib.Omega.{arith}
 use lib.Dec.{eqb, leb}
-use borrow.Author.Tests.{eqb-true, eq-eqb, lt-leb, leb-true, leb-false, not-false}
+use borrow.Author.Tests.{eqb-true, eq-eqb, lt-leb, leb-true, leb-false}
 use Rattle.model.specs.declared.Lowest.{Lowest}
 use Rattle.model.specs.declared.Lowest.the-variants.{At, Nowhere}
 use Rattle.model.specs.Search.{scan, first, anyBelow, allBelow, countBelow, isAt, indexOf}
 use Rattle.model.specs.Geometry.{usable, extentsFor}
 use Rattle.model.specs.Entry.{Entry}
 use Rattle.model.specs.Catalogue.{Catalogue, Owner, isFree, isPart, ownedFrom, entryOr, extentOf}
-use Rattle.model.specs.Faults.{holdsOf, fault25, fault26, exact}
+use Rattle.model.specs.Faults.{holdsOf, fault25, exact}
 use Rattle.model.specs.Repair.{isStray, repaired}
 use Rattle.laws.proofs.Booleans.{and-left, and-right, and-yes, and-false, or-none}
 use Rattle.laws.proofs.Count.{countBelow-mono, countBelow-anyBelow}

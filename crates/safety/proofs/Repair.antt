@@ -27,7 +27,7 @@ use Rattle.model.specs.declared.Soundness.the-variants.{Sound}
 use Rattle.model.specs.declared.Verdict.{Verdict}
 use Rattle.model.specs.declared.Checked.{Checked}
 use Rattle.model.specs.Bytes.{bytesFrom}
-use Rattle.model.specs.Search.{first, anyBelow, allBelow}
+use Rattle.model.specs.Search.{first, anyBelow}
 use Rattle.model.specs.Geometry.{superblockAt, entryAt, usable, extentSectors, extentsFor, extentAt, dataAt, reserveAt}
 use Rattle.model.specs.Disk.{view}
 use Rattle.model.specs.Entry.{Entry, entryIn, isOccupied}

@@ -63,7 +63,7 @@ fn sample(table: &mut CallTable) {
     table.rename("rename, to a new name", input, &image, name, b"new");
     table.rename("rename, onto 2 extents", input, &image, b"empty", name);
     let mut leaked = image.clone();
-    lose_first_entry(&mut leaked);
+    mark_entry(&mut leaked, 0, 0);
     table.repair("repair, 2 extents", input, &leaked);
 
     let mut list = vec![0; LONGEST_LIST];
@@ -149,9 +149,9 @@ fn one_file(table: &mut CallTable) {
     table.resize("resize, to nothing", input, &image, b"all", 0);
     table.delete("delete, all extents", input, &image, b"all");
     table.repair("repair, nothing to free", input, &image);
-    lose_first_entry(&mut image);
+    mark_entry(&mut image, 1_023, 0);
     table.repair("repair, all extents", input, &image);
-    keep_first_entry(&mut image);
+    mark_entry(&mut image, 1_023, 255);
     let mut list = vec![0; LONGEST_LIST];
     let length = oracle::delete(&image, b"all", 2, &mut list).length as usize;
     cut(&mut image, &list[..length]);
@@ -179,13 +179,9 @@ fn one_file(table: &mut CallTable) {
     );
 }
 
-/// Directory entry 0 becomes free, and its file's extents leak.
-fn lose_first_entry(image: &mut [u8]) {
-    image[2 * SECTOR..][..2].fill(0);
-}
-
-fn keep_first_entry(image: &mut [u8]) {
-    image[2 * SECTOR..][..2].fill(255);
+/// A directory entry's mark: 0 frees it, and its file's extents leak; 255 gives it back.
+fn mark_entry(image: &mut [u8], index: usize, byte: u8) {
+    image[(2 + index) * SECTOR..][..2].fill(byte);
 }
 
 /// Power fails when the start mark has landed.

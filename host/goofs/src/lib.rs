@@ -8,7 +8,7 @@
 //! - `format_record` gives the records of a format one at a time;
 //! - `carry_out` does the writes of a list, and is the only call that changes an image.
 //!
-//! A call takes up to 266 KiB of stack and no heap (measured; see `bench/README.md`): a thread that
+//! A call takes up to 331 KiB of stack and no heap (measured; see `bench/README.md`): a thread that
 //! makes calls needs a stack of at least 512 KiB.
 //!
 //! The static library is looked for in the repository that this crate stands in, or in the folder

@@ -3,7 +3,7 @@
  * A slice passes as pointer then length; the pointer may be null where the length is 0. Slices of one call must not overlap.
  * No call keeps a pointer, takes memory or touches anything but the slices that it is lent. Every call ends with an answer, on
  * any bytes and any arguments. Measured, a call uses at most 16 KiB of stack on a volume of 255 files and 3 extents, and with 65,535 of
- * each at most 266 KiB (resize; check 257 KiB).
+ * each at most 331 KiB (repair; resize 266 KiB, check 257 KiB).
  *
  * `code` is a number of `enum goofs_code`; the lowest whose condition holds is given. With any code but 0 all other result numbers
  * are 0 (except fault and place with 7) and no byte of a buffer has changed.

@@ -11,7 +11,7 @@
 //! A volume is of one of two editions (`image::Edition`), which differ in the width of their times; all
 //! calls take both, and times of 64 bits.
 //!
-//! A call takes up to 266 KiB of stack and no heap (measured; see `bench/README.md`): a thread that
+//! A call takes up to 331 KiB of stack and no heap (measured; see `bench/README.md`): a thread that
 //! makes calls needs a stack of at least 512 KiB.
 //!
 //! The static library is looked for in the repository that this crate stands in, or in the folder

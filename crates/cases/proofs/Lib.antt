@@ -3,3 +3,4 @@ pub mod Computed
 pub mod Literals
 pub mod Edges
 pub mod RepairsComputed
+pub mod EditionsComputed

@@ -3,6 +3,7 @@ use mathlib.Core.Path.{refl}
 use Rattle.model.specs.Bytes.{beAt, beBytes, bytesFrom, put, onesSector, zeroSector}
 use Rattle.model.specs.Search.{scan, anyBelow, allBelow, countBelow, equalBytes}
 use Rattle.model.specs.Geometry.{inBounds}
+use Rattle.model.specs.Edition.{layoutOf, isEdition}
 use Rattle.model.specs.Superblock.{isVolume, geometryIn, journalLength, stateOf, newSuperblock}
 use Rattle.model.specs.Root.{rootIn, newRootSector, updatedRootSector}
 use Rattle.model.specs.Entry.{nameIn, entryIn, isOccupied, hasZero, badName, newEntrySector, updatedEntrySector, renamedEntrySector}
@@ -17,7 +18,7 @@ use Rattle.model.specs.Read.{sizeNamed, readConditions, readBy, readAnswer}
 use Rattle.cases.specs.Literals.{Literals}
 
 pub literals : Literals
-unfolding beAt beBytes bytesFrom put onesSector zeroSector scan anyBelow allBelow countBelow equalBytes inBounds isVolume geometryIn journalLength stateOf newSuperblock
+unfolding beAt beBytes bytesFrom put onesSector zeroSector scan anyBelow allBelow countBelow equalBytes inBounds layoutOf isEdition isVolume geometryIn journalLength stateOf newSuperblock
     rootIn newRootSector updatedRootSector nameIn entryIn isOccupied hasZero badName newEntrySector updatedEntrySector renamedEntrySector tableFile tableOffset takenIn freedIn
     entriesIn journalSector catalogueOf fileNamed entryOf fault21 fault22 fault23 fault24 fault25 exact fault26 firstFault
     verdictOf isWhole fitsImage imageVerdict soundVerdict judged barrier recordBytes superblockVerdict superblockAnswer sizeNamed readConditions readBy readAnswer

@@ -1,5 +1,6 @@
--- The table of the cases P1 to P10, a second one of literal bytes, a third of edges.
+-- The table of the cases P1 to P10, a second one of literal bytes, a third of edges; cases of a repair, and of the second edition.
 pub mod Cases
 pub mod Literals
 pub mod Edges
 pub mod Repairs
+pub mod Editions

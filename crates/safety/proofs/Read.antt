@@ -97,8 +97,8 @@ module _ (L : Ledger) (img : List ℕ) (rep : Rep L img) (name : List ℕ) (offs
 
   -- as the ledger's words say it
   conditions-are : v ≡ verdictOf (verdicts (step (read name offset asked room) L .refusals))
-  unfolding readConditions sizeNamed step
-  conditions-are = rw (name-is name, named-is L name, entry-named L name)
+  unfolding readConditions sizeNamed step catalogue
+  conditions-are = rw (name-is L name, named-is L name, entry-named L name)
 
   abbrev n : ℕ
   n = readCount (sizeNamed (catalogue L) name) offset asked

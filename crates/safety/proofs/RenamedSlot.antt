@@ -1,6 +1,6 @@
 -- A slot that gets a new name: an image that shows its entry renamed and the root updated represents the ledger with the file renamed, where
 -- no other file has the name. Assumes nothing.
-use Prim.Native.Nat.{ℕ, _^_, _<_}
+use Prim.Native.Nat.{ℕ, _<_}
 use mathlib.Core.Path.{_≡_, refl, sym, ap, _∙_, subst, fun-ext}
 use mathlib.Core.Logic.{_≢_}
 use mathlib.Core.Bool.{Bool, true, false, cond, not, _&&_}
@@ -26,7 +26,7 @@ use Rattle.safety.proofs.Apply.{over-here, over-skip, over-none}
 use Rattle.safety.proofs.Plan.{UsableGeometry}
 use Rattle.safety.proofs.Commit.{Ready}
 use Rattle.safety.proofs.Frame.{Outside, Shows}
-use Rattle.safety.proofs.Rep.{Rep, rep-geometry, cat-is, catalogue-geometry}
+use Rattle.safety.proofs.Rep.{Rep, Timely, rep-geometry, cat-is, catalogue-geometry}
 use Rattle.safety.proofs.Preserved.{out-front, out-table, out-data, slotIn, entry-is, table-keep, bytes-keep-at}
 use Rattle.safety.proofs.Fields.{root-updated, renamed-occupied, renamed-entry, occupied-mark}
 use Rattle.safety.proofs.Replaced.{replaced, table-by, disjoint-by, among-and, Admissible}
@@ -34,8 +34,8 @@ use Rattle.safety.proofs.Rewritten.{bytes-of, all-kept, rep-replaced}
 use Rattle.safety.proofs.Extents.{exactly}
 use Rattle.safety.proofs.KeptFile.{entry-of, occupied, slot-within, size-small, usable-owned, admissible-id}
 
-module _ (L : Ledger) (img : List ℕ) (rep : Rep L img) (i : ℕ) (f : File) (has : L .slots i ≡ some f) (name : List ℕ) (good : badName name ≡ false)
-    (unused : (k : ℕ) → k < L .geometry .files → k ≢ i → hasName name (catalogue L .entries k) ≡ false) (time : ℕ) (ht : time < 2 ^ 32) where
+module _ (L : Ledger) (img : List ℕ) (rep : Rep L img) (i : ℕ) (f : File) (has : L .slots i ≡ some f) (name : List ℕ) (good : badName (L .geometry .edition) name ≡ false)
+    (unused : (k : ℕ) → k < L .geometry .files → k ≢ i → hasName name (catalogue L .entries k) ≡ false) (time : ℕ) (ht : Timely L time) where
   abbrev y : File
   y = renamedFile name time f
 
@@ -71,10 +71,10 @@ module _ (L : Ledger) (img : List ℕ) (rep : Rep L img) (i : ℕ) (f : File) (h
   -- ---- on an image that shows root and entry
 
   abbrev w1 : Record
-  w1 = sectorWrite rootAt (updatedRootSector time (view img rootAt))
+  w1 = sectorWrite rootAt (updatedRootSector (L .geometry .edition) time (view img rootAt))
 
   abbrev w2 : Record
-  w2 = renamedRecord (view img) i name time
+  w2 = renamedRecord (catalogue L) (view img) i name time
 
   module _ (out : List ℕ) (ready : Ready (L .geometry) out) (shows : Shows (L .geometry) (w1 ∷ w2 ∷ []) img out) where
     geo : UsableGeometry (L .geometry)
@@ -87,7 +87,7 @@ module _ (L : Ledger) (img : List ℕ) (rep : Rep L img) (i : ℕ) (f : File) (h
     unfolding renamedRecord
     at-other j o n0 n1 ni = shows j o n0 ∙ over-skip w1 (w2 ∷ []) j _ n1 ∙ over-skip w2 [] j _ ni ∙ over-none j _
 
-    at-root : view out rootAt ≡ updatedRootSector time (view img rootAt)
+    at-root : view out rootAt ≡ updatedRootSector (L .geometry .edition) time (view img rootAt)
     unfolding renamedRecord
     at-root =
         shows 1 (out-front (L .geometry) geo 1 (omega arith)) (λ e. omega arith) ∙ over-here w1 (w2 ∷ []) _ ∙ over-skip w2 [] 1 _ (λ e. omega arith) ∙ over-none 1 _
@@ -100,17 +100,17 @@ module _ (L : Ledger) (img : List ℕ) (rep : Rep L img) (i : ℕ) (f : File) (h
         ∙ over-here w2 [] _ ∙ over-none (entryAt i) _
 
     entry-new : catalogueOf (view out) .entries i ≡ some (renamedEntry name time (f .entry))
-    unfolding renamedRecord
+    unfolding renamedRecord catalogue
     entry-new =
         let q = occupied L img rep i f has in
         let s = view img (entryAt i) in
         entry-is (L .geometry) (view out) (view out) (ready .volume .geometry) (ready .volume .geometry) i ∙ ap (λ (s : List ℕ). slotIn (L .geometry) s i) at-entry
-        ∙ (λ j. cond (q .0 j && (renamed-occupied name time s ∙ q .1) j)
-        (some ((renamed-entry name time s (length-view img (entryAt i)) good ht ∙ ap (renamedEntry name time) (q .2)) j)) none)
+        ∙ (λ j. cond (q .0 j && (renamed-occupied (L .geometry .edition) name time s ∙ q .1) j)
+        (some ((renamed-entry (L .geometry .edition) name time s (length-view img (entryAt i)) good ht ∙ ap (renamedEntry name time) (q .2)) j)) none)
 
     mark-new : fault21 (view out) i ≡ false
-    unfolding fault21 renamedRecord
-    mark-new = occupied-mark (view out (entryAt i)) (ap isOccupied at-entry ∙ renamed-occupied name time (view img (entryAt i)) ∙ occupied L img rep i f has .1)
+    unfolding fault21 renamedRecord catalogue
+    mark-new = occupied-mark (view out (entryAt i)) (ap isOccupied at-entry ∙ renamed-occupied (L .geometry .edition) name time (view img (entryAt i)) ∙ occupied L img rep i f has .1)
 
     table-shown : (e : ℕ) → catalogueOf (view out) .table e ≡ catalogue L .table e
     table-shown e =
@@ -137,7 +137,7 @@ module _ (L : Ledger) (img : List ℕ) (rep : Rep L img) (i : ℕ) (f : File) (h
         let l : i < L .geometry .files = here in
         rep-replaced L img rep (updatedRoot time (L .root)) i (some y) out (record {
           ready = ready;
-          new-root = ap rootIn at-root ∙ root-updated time (view img rootAt) (length-view img rootAt) ht ∙ ap (updatedRoot time) (rep .says .root);
+          new-root = ap (rootIn (L .geometry .edition)) at-root ∙ root-updated (L .geometry .edition) time (view img rootAt) (length-view img rootAt) ht ∙ ap (updatedRoot time) (rep .says .root);
           mark = mark-new;
           entry = entry-new;
           entries = λ k q ne. at-other (entryAt k) (out-front (L .geometry) geo (entryAt k) (omega arith)) (λ z. omega arith) (λ z. omega arith) (λ z. ne (omega arith));

@@ -16,7 +16,7 @@ use Rattle.model.specs.Root.{accessedRootSector}
 use Rattle.model.specs.Entry.{fieldsOf, noFields}
 use Rattle.model.specs.Catalogue.{Catalogue, catalogueOf, entryOf, isFree}
 use Rattle.model.specs.Refusals.{Conditions, given, refusal}
-use Rattle.model.specs.WriteList.{Plan, sectorWrite, groupsFor, listLength, Decision, decided, listAfter}
+use Rattle.model.specs.WriteList.{Plan, oneTarget, groupsFor, listLength, Decision, decided, listAfter}
 
 -- 8 bad time; 8, 9, and 14 by the output's length
 unfoldable pub listConditions : Catalogue → ℕ → ℕ → ℕ → Conditions
@@ -25,7 +25,7 @@ listConditions c i time room =
     ∷ (ltb room (length (entryOf c i .name)), refusal 14) ∷ []
 
 unfoldable pub listPlan : Catalogue → Disk → ℕ → Plan
-listPlan c d time = record { dataSectors = []; targets = sectorWrite rootAt (accessedRootSector (c .geometry .edition) time (d rootAt)) ∷ [] }
+listPlan c d time = oneTarget rootAt (accessedRootSector (c .geometry .edition) time (d rootAt))
 
 -- room is the output's length, space the list's
 unfoldable pub listDecision : ℕ → Disk → ℕ → ℕ → ℕ → ℕ → Decision

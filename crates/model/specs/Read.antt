@@ -17,7 +17,7 @@ use Rattle.model.specs.Edition.{badTime}
 use Rattle.model.specs.Entry.{badName, accessedEntrySector}
 use Rattle.model.specs.Catalogue.{Catalogue, catalogueOf, fileNamed, entryOf, fileBytes}
 use Rattle.model.specs.Refusals.{Conditions, given, refusal}
-use Rattle.model.specs.WriteList.{Plan, sectorWrite, groupsFor, listLength, Decision, decided, listAfter}
+use Rattle.model.specs.WriteList.{Plan, oneTarget, groupsFor, listLength, Decision, decided, listAfter}
 
 -- "a read or write of more than 65,536 bytes"
 abbrev pub longestTransfer : ℕ
@@ -38,7 +38,7 @@ readConditions c name offset asked time room =
     ∷ (ltb room (readCount (sizeNamed c name) offset asked), refusal 14) ∷ []
 
 unfoldable pub readPlan : Catalogue → Disk → FileNumber → ℕ → Plan
-readPlan c d i time = record { dataSectors = []; targets = sectorWrite (entryAt i) (accessedEntrySector (c .geometry .edition) time (d (entryAt i))) ∷ [] }
+readPlan c d i time = oneTarget (entryAt i) (accessedEntrySector (c .geometry .edition) time (d (entryAt i)))
 
 -- room is the output's length, space the list's
 unfoldable pub readDecision : ℕ → Disk → List ℕ → ℕ → ℕ → ℕ → ℕ → ℕ → Decision

@@ -4,7 +4,7 @@ use Prim.Native.Nat.{ℕ, _*_, _^_, _<_}
 use mathlib.Core.Path.{_≡_, refl, sym, ap, _∙_, subst, fun-ext}
 use mathlib.Core.Logic.{_≢_}
 use mathlib.Core.Bool.{Bool, true, false, cond, true≢false}
-use mathlib.Core.List.{List, [], _∷_}
+use mathlib.Core.List.{List, []}
 use mathlib.Core.Option.{Option, none, some}
 use native.Mathlib.Omega.{arith}
 use lib.Dec.{eqb}
@@ -39,7 +39,6 @@ use Rattle.safety.proofs.Rep.{Rep, timely, rep-geometry, cat-is}
 use Rattle.safety.proofs.Changing.{Passed, Judges, Carries, decision-is, own-is, length-is, effect-judged}
 use Rattle.safety.proofs.Preserved.{out-front, part-keeps}
 use Rattle.safety.proofs.Fields.{length-accessedRootSector, root-accessed, length-accessedEntrySector, accessed-occupied, accessed-entry}
-use Rattle.safety.proofs.Replaced.{replaced}
 use Rattle.safety.proofs.Read.{read-judges, read-found}
 use Rattle.safety.proofs.KeptFile.{occupied, slot-within, well-named, name-apart}
 use Rattle.safety.proofs.RewrittenEntry.{rep-rewritten}
@@ -215,14 +214,16 @@ module _ (L : Ledger) (img : List ℕ) (rep : Rep L img) (k time room space : �
         let was = occupied L img rep k f there in
         let l : k < L .geometry .files = slot-within L img rep k f there in
         let ok : WellFormed (L .geometry) (oneTarget rootAt s) = one-fits L img rep rootAt s (omega arith) (omega arith) whl in
+        let front = out-front (L .geometry) (rep-geometry L img rep) in
         record {
           fits = ok;
           done = subst (λ (slots : ℕ → Option File). Rep (record { geometry = L .geometry; root = accessedRoot time (L .root); slots = slots }) (uncut (L .geometry) img (oneTarget rootAt s)))
               (fun-ext (same-slot L k f there))
               (rep-rewritten L img rep k f there (accessedRoot time (L .root)) refl (f .entry) (good L img rep k f there) (unused L img rep k f there) refl refl _
               (ready-uncut (L .geometry) img (oneTarget rootAt s) (rep-geometry L img rep) ok (rep .ready)) (view img (entryAt k))
-              (ap (rootIn e) (one-here L img rep rootAt s (omega arith) (omega arith) whl) ∙ root-accessed e time (view img rootAt) (length-view img rootAt) fits ∙ ap (accessedRoot time) (rep .says .root))
-              (one-other L img rep rootAt s (omega arith) (omega arith) whl (entryAt k) (out-front (L .geometry) (rep-geometry L img rep) (entryAt k) (omega arith)) (λ z. omega arith) (λ z. omega arith))
+              (ap (rootIn e) (one-here L img rep rootAt s (omega arith) (omega arith) whl) ∙ root-accessed e time (view img rootAt) (length-view img rootAt) fits
+              ∙ ap (accessedRoot time) (rep .says .root))
+              (one-other L img rep rootAt s (omega arith) (omega arith) whl (entryAt k) (front (entryAt k) (omega arith)) (λ z. omega arith) (λ z. omega arith))
               (was .1) (was .2) (λ j o n0 n1 ni. one-other L img rep rootAt s (omega arith) (omega arith) whl j o n0 n1));
           partly = λ p m. part-keeps L img (oneTarget rootAt s) rep ok refl p m;
         }

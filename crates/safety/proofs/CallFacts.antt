@@ -20,7 +20,8 @@ use Rattle.safety.proofs.Delete.{delete-same, delete-effect}
 use Rattle.safety.proofs.Resize.{resize-same, resize-effect}
 use Rattle.safety.proofs.Write.{write-same, write-effect}
 use Rattle.safety.proofs.Rename.{rename-same, rename-effect}
-use Rattle.safety.proofs.Naming.{rooted-other, create-fresh, read-found, delete-found, resize-found, write-found, created-other, freed-other, renewed-other, resized-other, written-other, rename-found, renamed-other}
+use Rattle.safety.proofs.Naming.{read-found, create-fresh, delete-found, resize-found, write-found, rename-found}
+use Rattle.safety.proofs.Naming.{rooted-other, created-other, freed-other, renewed-other, resized-other, written-other, renamed-other}
 
 pub record CallFacts (c : Call) : Type 0 where
   -- its answer is the ledger's, and its effect, whole or cut

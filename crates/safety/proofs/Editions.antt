@@ -2,12 +2,11 @@
 -- one edition into one of the other. Assumes nothing.
 use Prim.Native.Nat.{ℕ}
 use mathlib.Core.Path.{_≡_, refl, sym, ap, _∙_}
-use mathlib.Core.Bool.{Bool, true, false, cond, not, _&&_, false≢true}
+use mathlib.Core.Bool.{Bool, true, false, cond, not, false≢true}
 use mathlib.Core.List.{List, [], _∷_}
 use mathlib.Core.Option.{Option}
 use lib.Dec.{eqb, ltb}
 use lib.ListN.{length}
-use Rattle.model.specs.declared.Geometry.{Geometry}
 use Rattle.model.specs.declared.Verdict.{Verdict}
 use Rattle.model.specs.declared.Changed.{Changed}
 use Rattle.model.specs.Search.{equalBytes}
@@ -56,7 +55,7 @@ module _ (img : List ℕ) (ok : checkAnswer (length img) (view img) .verdict .nu
   wide-refused check h = absurd (never (geometryOn img .edition) h)
   wide-refused (find name) h = absurd (never (geometryOn img .edition) h)
   wide-refused (list k time room space) h = ap (λ (a : Changed). a .verdict .number) (list-as-changed (length img) (view img) k time room space) ∙ first-8 _ h _ _ space
-  wide-refused (read name offset count time room space) h = 
+  wide-refused (read name offset count time room space) h =
       ap (λ (a : Changed). a .verdict .number) (read-as-changed (length img) (view img) name offset count time room space) ∙ first-8 _ h _ _ space
   wide-refused (create name id mode time room) h = first-8 _ h _ _ room
   wide-refused (delete name time room) h = first-8 _ h _ _ room

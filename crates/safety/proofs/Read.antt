@@ -82,12 +82,14 @@ module _ (L : Ledger) (img : List ℕ) (rep : Rep L img) (name : List ℕ) (offs
   unfolding readAnswer readDecision readOf
   answer-is =
       ap (λ (x : Decision). readOf x (view img) name offset asked) (decision-is L img rep (read name offset asked time room space) conditions plan space (recordCount 0 1) read-judges)
-      ∙ ap (λ (x : Catalogue). given v (record { verdict = v; count = readCount (sizeNamed x name) offset asked; length = listLength (groupsFor (view img) (cond (isDone v) (plan (catalogue L)) none)) }) notRead)
-      (cat-is L img rep)
+      ∙ ap (λ (x : Catalogue). given v (record { verdict = v; count = readCount (sizeNamed x name) offset asked; length = listed (isDone v) }) notRead) (cat-is L img rep)
       ∙ ap (λ (m : ℕ). given v (record { verdict = v; count = n; length = m }) notRead)
       (length-is L img rep (read name offset asked time room space) conditions plan space (recordCount 0 1) read-judges (isDone v))
       ∙ go (isDone v)
     where
+      listed : Bool → ℕ
+      listed b = listLength (groupsFor (view img) (cond b (plan (catalogue L)) none))
+
       go : (b : Bool) → cond {A = BytesRead} b (record { verdict = v; count = n; length = cond b (recordCount 0 1 * recordSize) 0 }) (notRead v) ≡ answered b v
       go true = refl
       go false = refl

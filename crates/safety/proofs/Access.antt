@@ -10,20 +10,20 @@ use native.Mathlib.Omega.{arith}
 use lib.Dec.{eqb}
 use lib.ListN.{length}
 use borrow.Author.Tests.{eqb-true, not-false}
-use Rattle.model.specs.declared.Fields.{Fields}
 use Rattle.model.specs.declared.Listed.{Listed}
 use Rattle.model.specs.declared.BytesRead.{BytesRead}
 use Rattle.model.specs.declared.Verdict.{Verdict}
+use Rattle.model.specs.declared.Changed.{Changed}
 use Rattle.model.specs.Search.{isAt, indexOf}
 use Rattle.model.specs.Geometry.{rootAt, entryAt, journalAt}
 use Rattle.model.specs.Disk.{Disk, view}
 use Rattle.model.specs.Root.{rootIn, accessedRootSector}
 use Rattle.model.specs.Entry.{badName, fieldsOf, accessedEntrySector}
-use Rattle.model.specs.Catalogue.{Catalogue, isFree, fileNamed, hasName, entryOf}
+use Rattle.model.specs.Catalogue.{Catalogue, catalogueOf, isFree, fileNamed, hasName, entryOf}
 use Rattle.model.specs.Refusals.{Conditions, andThen, given, isDone, judged}
 use Rattle.model.specs.WriteList.{Plan, oneTarget, sectorWrite, groupsFor, listLength, recordSize, recordCount, Decision, ownVerdict, decided, answerOf}
 use Rattle.model.specs.Listing.{listConditions, listPlan, listDecision, notListed, listedOf, copiedOf, listAnswer, listCopies}
-use Rattle.model.specs.Read.{readConditions, readPlan, readDecision, notRead, readOf, readAnswer}
+use Rattle.model.specs.Read.{readCount, sizeNamed, readConditions, readPlan, readDecision, notRead, readOf, readAnswer}
 use Rattle.model.specs.Ledger.{Ledger, File, fileOr, catalogue, withSlot, withFile, list, read, listed, entryFields, accessedEntry, accessedFile, accessedRoot, step, answer}
 use Rattle.model.specs.Run.{volumeAnswer, onVolume}
 use Rattle.laws.proofs.Disk.{length-view}
@@ -36,7 +36,7 @@ use Rattle.safety.proofs.Commit.{uncut, ready-uncut}
 use Rattle.safety.proofs.Frame.{Outside, done-shows}
 use Rattle.safety.proofs.Bounds.{copies-fit, count-waits}
 use Rattle.safety.proofs.Rep.{Rep, timely, rep-geometry, cat-is}
-use Rattle.safety.proofs.Changing.{Passed, Judges, Carries, decision-is, own-is, length-is, effect-judged}
+use Rattle.safety.proofs.Changing.{Passed, Judges, Carries, decision-is, own-is, given-is, effect-judged}
 use Rattle.safety.proofs.Preserved.{out-front, part-keeps}
 use Rattle.safety.proofs.Fields.{length-accessedRootSector, root-accessed, length-accessedEntrySector, accessed-occupied, accessed-entry}
 use Rattle.safety.proofs.Read.{read-judges, read-found}
@@ -46,49 +46,37 @@ use Rattle.safety.proofs.Induction.{Effect}
 
 -- ---- of a write list they answer what a changing call does: the verdict, and the list's length
 
-of-list : (len : ℕ) (d : Disk) (cs : Conditions) (plan : Option Plan) (space : ℕ) (fields : Fields)
-    → let x = decided len d cs plan space in
-    let a : Listed = given (x .verdict) (record { verdict = x .verdict; fields = fields; length = listLength (groupsFor d (x .plan)) }) notListed in
-    record { verdict = a .verdict; length = a .length } ≡ answerOf d x
+-- an answer made of the verdict and the list's length, or of the verdict of a refusal; how both are read off it
+as-changed : {A : Type 0} (len : ℕ) (d : Disk) (cs : Conditions) (plan : Option Plan) (space : ℕ) (made : Verdict → ℕ → A) (refuse : Verdict → A) (read-off : A → Changed)
+    → ((v : Verdict) (n : ℕ) → read-off (made v n) ≡ record { verdict = v; length = n }) → ((v : Verdict) → read-off (refuse v) ≡ record { verdict = v; length = 0 })
+    → let x = decided len d cs plan space in read-off (given (x .verdict) (made (x .verdict) (listLength (groupsFor d (x .plan)))) refuse) ≡ answerOf d x
 unfolding decided groupsFor
-of-list len d cs plan space fields = go (isDone v)
+as-changed len d cs plan space made refuse read-off done refused = go (isDone v)
   where
     v : Verdict
     v = andThen (judged len d) (ownVerdict cs space (listLength (groupsFor d plan)))
 
-    go : (b : Bool)
-        → let a : Listed = cond b (record { verdict = v; fields = fields; length = listLength (groupsFor d (cond b plan none)) }) (notListed v) in
-        record { verdict = a .verdict; length = a .length } ≡ answerOf d (record { verdict = v; plan = cond b plan none })
-    go true = refl
-    go false = refl
-
-of-read : (len : ℕ) (d : Disk) (cs : Conditions) (plan : Option Plan) (space count : ℕ)
-    → let x = decided len d cs plan space in
-    let a : BytesRead = given (x .verdict) (record { verdict = x .verdict; count = count; length = listLength (groupsFor d (x .plan)) }) notRead in
-    record { verdict = a .verdict; length = a .length } ≡ answerOf d x
-unfolding decided groupsFor
-of-read len d cs plan space count = go (isDone v)
-  where
-    v : Verdict
-    v = andThen (judged len d) (ownVerdict cs space (listLength (groupsFor d plan)))
-
-    go : (b : Bool)
-        → let a : BytesRead = cond b (record { verdict = v; count = count; length = listLength (groupsFor d (cond b plan none)) }) (notRead v) in
-        record { verdict = a .verdict; length = a .length } ≡ answerOf d (record { verdict = v; plan = cond b plan none })
-    go true = refl
-    go false = refl
+    go : (b : Bool) → read-off (cond b (made v (listLength (groupsFor d (cond b plan none)))) (refuse v)) ≡ answerOf d (record { verdict = v; plan = cond b plan none })
+    go true = done v _
+    go false = refused v
 
 module _ (len : ℕ) (d : Disk) where
   pub list-as-changed : (i time room space : ℕ)
       → let a = listAnswer len d i time room space in record { verdict = a .verdict; length = a .length } ≡ answerOf d (listDecision len d i time room space)
   unfolding listAnswer listedOf listDecision
-  list-as-changed i time room space = of-list len d _ _ space _
+  list-as-changed i time room space =
+      as-changed len d (listConditions (catalogueOf d) i time room) (some (listPlan (catalogueOf d) d time)) space
+      (λ v n. record { verdict = v; fields = fieldsOf (entryOf (catalogueOf d) i); length = n }) notListed
+      (λ (a : Listed). record { verdict = a .verdict; length = a .length }) (λ v n. refl) (λ v. refl)
 
   pub read-as-changed : (name : List ℕ) (offset asked time room space : ℕ)
       → let a = readAnswer len d name offset asked time room space in
       record { verdict = a .verdict; length = a .length } ≡ answerOf d (readDecision len d name offset asked time room space)
   unfolding readAnswer readOf readDecision
-  read-as-changed name offset asked time room space = of-read len d _ _ space _
+  read-as-changed name offset asked time room space =
+      as-changed len d (readConditions (catalogueOf d) name offset asked time room) (some (readPlan (catalogueOf d) d (indexOf (fileNamed (catalogueOf d) name)) time)) space
+      (λ v n. record { verdict = v; count = readCount (sizeNamed (catalogueOf d) name) offset asked; length = n }) notRead
+      (λ (a : BytesRead). record { verdict = a .verdict; length = a .length }) (λ v n. refl) (λ v. refl)
 
 -- ---- a plan of one target, a sector of root or directory
 
@@ -172,13 +160,8 @@ module _ (L : Ledger) (img : List ℕ) (rep : Rep L img) (k time room space : �
       ap (λ (x : Decision). listedOf x (view img) k) decision-here
       ∙ ap (λ (x : Catalogue). given v (record { verdict = v; fields = fieldsOf (entryOf x k); length = listLength (groupsFor (view img) (cond (isDone v) (plan (catalogue L)) none)) }) notListed)
       (cat-is L img rep)
-      ∙ ap (λ (m : ℕ). given v (record { verdict = v; fields = fieldsOf (entryOf (catalogue L) k); length = m }) notListed)
-      (length-is L img rep (list k time room space) conditions plan space (recordCount 0 1) judges (isDone v))
-      ∙ go (isDone v)
-    where
-      go : (b : Bool) → cond {A = Listed} b (record { verdict = v; fields = fieldsOf (entryOf (catalogue L) k); length = cond b (recordCount 0 1 * recordSize) 0 }) (notListed v) ≡ answered b v
-      go true = refl
-      go false = refl
+      ∙ given-is L img rep (list k time room space) conditions plan space (recordCount 0 1) judges
+      (λ n. record { verdict = v; fields = fieldsOf (entryOf (catalogue L) k); length = n }) notListed
 
   copies-are : listCopies (length img) (view img) k time room space ≡ cond (isDone v) (entryOf (catalogue L) k .name) []
   unfolding listCopies copiedOf

@@ -64,6 +64,13 @@ cut-kept (resize name size time room) h L mask = absurd (false≢true h)
 cut-kept (write name offset bytes time room) h L mask = absurd (false≢true h)
 cut-kept (rename old new time room) h L mask = absurd (false≢true h)
 
+unset : {L₀ : Ledger} {img img′ : List ℕ} {fs : List Feed} {rs : List Answer} (c : Call) → asks c ≡ true → (p : Plan) (x : Cut) (r : SoundRun L₀ steady img fs rs) (fit : Fits c)
+    (planned : volumePlan c img ≡ some p) → RecoveredTo (stored (landed x (groupsFor (view img) (some p))) img) img′ → startMark x ≡ false → Unset img img′
+unset {L₀} {img} {img′} {fs} c h p x r fit planned m e = record {
+  files = kept-file c p x r fit planned m (cut-kept c h (ledgerFrom L₀ fs)) e;
+  root = ap (λ (k : Catalogue). k .root) (kept-catalogue c p x r fit planned m (cut-kept c h (ledgerFrom L₀ fs)) e);
+}
+
 -- ---- a read
 
 -- what it gives of a file: "min(count, size - offset) bytes", and a list of 9 records
@@ -122,14 +129,7 @@ module _ {L₀ : Ledger} {img : List ℕ} {fs : List Feed} {rs : List Answer} (n
 
       go : (b : Bool) → startMark x ≡ b → ((startMark x ≡ true) × AfterRead name time file img img′) ⊎ ((startMark x ≡ false) × Unset img img′)
       go true e = inl (e, after-read z img′ (told-by c p x r fit planned m true e))
-      go false e =
-          inr (
-            e,
-            record {
-              files = kept-file c p x r fit planned m (cut-kept c refl L) e;
-              root = ap (λ (k : Catalogue). k .root) (kept-catalogue c p x r fit planned m (cut-kept c refl L) e);
-            },
-          )
+      go false e = inr (e, unset c refl p x r fit planned m e)
 
 -- ---- a list
 
@@ -178,14 +178,7 @@ module _ {L₀ : Ledger} {img : List ℕ} {fs : List Feed} {rs : List Answer} (i
 
       go : (b : Bool) → startMark x ≡ b → ((startMark x ≡ true) × AfterList time img img′) ⊎ ((startMark x ≡ false) × Unset img img′)
       go true e = inl (e, after-list z img′ (told-by q p x r fit planned m true e))
-      go false e =
-          inr (
-            e,
-            record {
-              files = kept-file q p x r fit planned m (cut-kept q refl M) e;
-              root = ap (λ (k : Catalogue). k .root) (kept-catalogue q p x r fit planned m (cut-kept q refl M) e);
-            },
-          )
+      go false e = inr (e, unset q refl p x r fit planned m e)
 
 -- ---- however many of them
 

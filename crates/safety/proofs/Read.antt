@@ -23,7 +23,7 @@ use Rattle.laws.proofs.WriteList.{plan-needs}
 use Rattle.safety.proofs.OwnWords.{named-is, entry-is, file-is, entry-named, time-is, name-is, answers}
 use Rattle.safety.proofs.Searches.{place-found}
 use Rattle.safety.proofs.Rep.{Rep, cat-is}
-use Rattle.safety.proofs.Changing.{Passed, passed-by, earlier-done, Judges, decision-is, own-is, length-is}
+use Rattle.safety.proofs.Changing.{Passed, passed-by, earlier-done, Judges, decision-is, own-is, given-is}
 
 bytesFrom-tabulate : (f : ℕ → ℕ) (size off n : ℕ) → off + n ≤ size → bytesFrom (tabulate f 0 size) off n ≡ tabulate f off n
 unfolding bytesFrom tabulate
@@ -83,16 +83,11 @@ module _ (L : Ledger) (img : List ℕ) (rep : Rep L img) (name : List ℕ) (offs
   answer-is =
       ap (λ (x : Decision). readOf x (view img) name offset asked) (decision-is L img rep (read name offset asked time room space) conditions plan space (recordCount 0 1) read-judges)
       ∙ ap (λ (x : Catalogue). given v (record { verdict = v; count = readCount (sizeNamed x name) offset asked; length = listed (isDone v) }) notRead) (cat-is L img rep)
-      ∙ ap (λ (m : ℕ). given v (record { verdict = v; count = n; length = m }) notRead)
-      (length-is L img rep (read name offset asked time room space) conditions plan space (recordCount 0 1) read-judges (isDone v))
-      ∙ go (isDone v)
+      ∙ given-is L img rep (read name offset asked time room space) conditions plan space (recordCount 0 1) read-judges
+      (λ m. record { verdict = v; count = n; length = m }) notRead
     where
       listed : Bool → ℕ
       listed b = listLength (groupsFor (view img) (cond b (plan (catalogue L)) none))
-
-      go : (b : Bool) → cond {A = BytesRead} b (record { verdict = v; count = n; length = cond b (recordCount 0 1 * recordSize) 0 }) (notRead v) ≡ answered b v
-      go true = refl
-      go false = refl
 
   -- a file of the name is there
   pub read-found : isAt (fileNamed (catalogue L) name) ≡ true → L .slots (indexOf (fileNamed (catalogue L) name)) ≡ some (fileOr (L .slots (indexOf (fileNamed (catalogue L) name))))

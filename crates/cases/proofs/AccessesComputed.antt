@@ -15,8 +15,8 @@ use Rattle.model.specs.WriteList.{barrier, staging, copies, journalOf, groupA, 
 use Rattle.model.specs.Format.{doubled, geometryFor}
 use Rattle.model.specs.Listing.{listConditions, listPlan, listDecision, listedOf, copiedOf, listAnswer, listCopies, listOutput, listingList}
 use Rattle.model.specs.Read.{sizeNamed, readConditions, readPlan, readDecision, readOf, readAnswer, readGives, readOutput, readList}
-use Rattle.model.specs.Ledger.{catalogue, firstLedger, writtenRecords, ledgerFrom, holderOf, positionAmong, slotNamed, freeSlot, unheldExtent, fileOf, afterWrite, written, newEntry}
-use Rattle.model.specs.Ledger.{updatedEntry, updatedRoot, accessedEntry, accessedRoot, step, lowest, unfitTime, unfitName, unfitNewName}
+use Rattle.model.specs.Ledger.{catalogue, firstLedger, ledgerFrom, holderOf, positionAmong, slotNamed, freeSlot, unheldExtent, fileOf, newEntry}
+use Rattle.model.specs.Ledger.{updatedRoot, accessedEntry, accessedRoot, step, lowest, unfitTime, unfitName, unfitNewName}
 use Rattle.cases.specs.Accesses.{Accesses}
 
 pub accesses : Accesses
@@ -25,8 +25,8 @@ unfolding beAt beBytes bytesFrom put onesSector zeroSector scan anyBelow allBelo
     tableFile tableOffset takenIn catalogueOf fileNamed entryOf extentOf sectorOf fileByte fileBytes fault21 fault22 fault23 fault24 fault25 exact fault26 firstFault
     verdictOf isWhole fitsImage imageVerdict soundVerdict judged barrier staging copies journalOf groupA groupsOf groupsFor decided listBytes emit doubled geometryFor
     listConditions listPlan listDecision listedOf copiedOf listAnswer listCopies listOutput listingList sizeNamed readConditions readPlan readDecision readOf readAnswer
-    readGives readOutput readList catalogue firstLedger writtenRecords ledgerFrom holderOf positionAmong slotNamed freeSlot unheldExtent fileOf afterWrite written
-    newEntry updatedEntry updatedRoot accessedEntry accessedRoot step lowest unfitTime unfitName unfitNewName
+    readGives readOutput readList catalogue firstLedger ledgerFrom holderOf positionAmong slotNamed freeSlot unheldExtent fileOf
+    newEntry updatedRoot accessedEntry accessedRoot step lowest unfitTime unfitName unfitNewName
 accesses = record {
   entry-accessed = refl;
   root-accessed = refl;

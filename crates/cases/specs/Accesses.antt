@@ -15,7 +15,7 @@ use Rattle.model.specs.Refusals.{done, refusal}
 use Rattle.model.specs.Listing.{listPlan, listAnswer, listOutput, listingList}
 use Rattle.model.specs.Read.{readPlan, readAnswer, readOutput, readList}
 use Rattle.model.specs.Ledger.{fileOr, find, list, read, Call, Feed, whole, cutMarked, cutUnmarked}
-use Rattle.cases.specs.Cases.{called, groups, order, behind, known, after, pair}
+use Rattle.cases.specs.Cases.{called, groups, order, behind, known, after, makes}
 use Rattle.cases.specs.Literals.{cleanSuperblock, entry, diskOf, sampleBytes}
 
 abbrev pub disk : Disk
@@ -39,6 +39,9 @@ notListed n = record { verdict = refusal n; fields = noFields; length = 0 }
 
 -- ---- on the ledger, with two files
 
+abbrev pub two : List Feed
+two = makes 98 ∷ makes 97 ∷ []
+
 -- "b" read at 7, nothing of it; the directory listed at 7
 abbrev pub reading : Call
 reading = read (called 98) 0 0 7 0 4752
@@ -49,7 +52,7 @@ listing = list 0 7 1 4752
 -- the access times of the root and of both files after a call, whole or cut
 abbrev pub times : Feed → List ℕ
 times f =
-    let L = after (f ∷ pair) in
+    let L = after (f ∷ two) in
     L .root .accessTime ∷ fileOr (L .slots 0) .entry .accessTime ∷ fileOr (L .slots 1) .entry .accessTime ∷ []
 
 pub record Accesses : Type 0 where
@@ -61,8 +64,8 @@ pub record Accesses : Type 0 where
   pub root-accessed-2 : accessedRootSector 2 72623859790382856 onesSector
       ≡ replicate 16 255 ++ (1 ∷ 2 ∷ 3 ∷ 4 ∷ 5 ∷ 6 ∷ 7 ∷ 8 ∷ []) ++ replicate 488 255
   -- "one target": 9 records, 4,752 bytes; of a read the entry, of a list the root
-  pub read-order : (d : Disk) → order (groups d (readPlan (known pair) d 1 0)) ≡ (674 ∷ 257 ∷ behind (3 ∷ []))
-  pub list-order : (d : Disk) → order (groups d (listPlan (known pair) d 0)) ≡ (674 ∷ 257 ∷ behind (1 ∷ []))
+  pub read-order : (d : Disk) → order (groups d (readPlan (known two) d 1 0)) ≡ (674 ∷ 257 ∷ behind (3 ∷ []))
+  pub list-order : (d : Disk) → order (groups d (listPlan (known two) d 0)) ≡ (674 ∷ 257 ∷ behind (1 ∷ []))
   -- a read of its byte; of 0 bytes, and at its end; 14 for either buffer, also of 0 bytes; 12 before 14; 8 before 12, for more than 65,536
   -- bytes and for a wide time
   pub reads-give : (reads 0 1 0 1 4752 ∷ reads 0 0 0 0 4752 ∷ reads 1 5 0 0 4752 ∷ []) ≡ (gave 1 ∷ gave 0 ∷ gave 0 ∷ [])
@@ -83,9 +86,9 @@ pub record Accesses : Type 0 where
   pub outputs : (readOutput sampleBytes disk (called 97) 0 1 0 (5 ∷ 5 ∷ []) 4752 ∷ listOutput sampleBytes disk 0 0 (5 ∷ 5 ∷ []) 4752 ∷ [])
       ≡ ((0 ∷ 5 ∷ []) ∷ (97 ∷ 5 ∷ []) ∷ [])
   -- "The ledger records these times": version and change time stay; a cut call counts exactly if its start mark landed
-  pub read-entry : known (whole reading ∷ pair) .entries 1
+  pub read-entry : known (whole reading ∷ two) .entries 1
       ≡ some (record { size = 0; version = 0; id = 98; mode = 0; accessTime = 7; changeTime = 0; name = called 98 })
-  pub list-root : after (whole listing ∷ pair) .root ≡ record { version = 2; id = 1; mode = 0; accessTime = 7; changeTime = 0 }
+  pub list-root : after (whole listing ∷ two) .root ≡ record { version = 2; id = 1; mode = 0; accessTime = 7; changeTime = 0 }
   pub set : (times (whole reading) ∷ times (cutMarked reading) ∷ times (whole listing) ∷ times (cutMarked listing) ∷ [])
       ≡ ((0 ∷ 0 ∷ 7 ∷ []) ∷ (0 ∷ 0 ∷ 7 ∷ []) ∷ (7 ∷ 0 ∷ 0 ∷ []) ∷ (7 ∷ 0 ∷ 0 ∷ []) ∷ [])
   -- find stays silent; 8, 9, 12 and 14 leave the times

@@ -4,3 +4,4 @@ pub mod Literals
 pub mod Edges
 pub mod RepairsComputed
 pub mod EditionsComputed
+pub mod AccessesComputed

@@ -133,7 +133,7 @@ pub record Edges : Type 0 where
       ∷ record { number = 0; sector = record { 0 = 290 } } ∷ record { number = 0; sector = record { 0 = 674 } }
       ∷ record { number = 3; sector = record { 0 = 0 } } ∷ [])
   -- the lowest number: index 255 is bad (8), and no occupied entry (9)
-  pub lowest : listAnswer sampleBytes (diskOf zeroSector zeroSector onesSector) 255 0 .verdict ≡ refusal 8
+  pub lowest : listAnswer sampleBytes (diskOf zeroSector zeroSector onesSector) 255 0 0 0 .verdict ≡ refusal 8
   -- "bytes not named here stay"
   pub tail-stays : getD (updatedEntrySector 1 1 0 onesSector) 511 0 ≡ 255
   -- two files without a fault; 21 mark 1; 22 no name, 65,536 x 3 + 1 bytes; 23 the same name; 24 id 0, the root's, the same id

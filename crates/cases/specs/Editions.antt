@@ -17,7 +17,7 @@ use Rattle.model.specs.Entry.{newEntrySector, updatedEntrySector, renamedEntryS
 use Rattle.model.specs.Refusals.{done}
 use Rattle.model.specs.Summary.{superblockAnswer, checkAnswer}
 use Rattle.model.specs.Format.{Format, geometryFor, formatAnswer}
-use Rattle.model.specs.Ledger.{Ledger, find, create, delete, resize, write, rename, Call, answer, numberOf, whole, ledgerAfter}
+use Rattle.model.specs.Ledger.{Ledger, find, list, read, create, delete, resize, write, rename, Call, answer, numberOf, whole, ledgerAfter}
 use Rattle.cases.specs.Cases.{called}
 use Rattle.cases.specs.Literals.{padded, sampleBytes}
 
@@ -66,14 +66,14 @@ after edition = ledgerAfter (formatOf edition 0) (whole (create (called 97) 97 0
 abbrev pub gives : ℕ → Call → ℕ
 gives edition c = numberOf (answer c (after edition))
 
--- what each call that takes a time answers: create, delete, a resize to the same size, a write of 0 bytes, a rename, one to itself, and the
--- delete of a name that isn't there
+-- what each call that takes a time answers: create, delete, a resize to the same size, a write of 0 bytes, a rename, one to itself, a list, a
+-- read of 0 bytes, and the delete of a name that isn't there
 abbrev pub timed : ℕ → ℕ → List ℕ
 timed edition time =
     gives edition (create (called 98) 98 0 time 5808) ∷ gives edition (delete (called 97) time 5808)
     ∷ gives edition (resize (called 97) 0 time 0) ∷ gives edition (write (called 97) 0 [] time 0)
     ∷ gives edition (rename (called 97) (called 98) time 5808) ∷ gives edition (rename (called 97) (called 97) time 0)
-    ∷ gives edition (delete (called 98) time 5808) ∷ []
+    ∷ gives edition (list 0 time 1 4752) ∷ gives edition (read (called 97) 0 0 time 0 4752) ∷ gives edition (delete (called 98) time 5808) ∷ []
 
 -- names of so many bytes: found, created, and given by a rename
 abbrev pub named : ℕ → ℕ → List ℕ
@@ -109,9 +109,9 @@ pub record Editions : Type 0 where
   pub long-names : (checks 2 468 ∷ checks 2 469 ∷ checks 1 469 ∷ [])
       ≡ (done ∷ record { number = 7; fault = 22; place = 0 } ∷ done ∷ [])
   -- 4,294,967,295 and one more on edition 1, also where nothing would be stored; and the widest time on edition 2
-  pub narrow : timed 1 4294967295 ≡ (0 ∷ 0 ∷ 0 ∷ 0 ∷ 0 ∷ 0 ∷ 9 ∷ [])
-  pub wide : timed 1 4294967296 ≡ (8 ∷ 8 ∷ 8 ∷ 8 ∷ 8 ∷ 8 ∷ 8 ∷ [])
-  pub widest : timed 2 (2 ^ 64 - 1) ≡ (0 ∷ 0 ∷ 0 ∷ 0 ∷ 0 ∷ 0 ∷ 9 ∷ [])
+  pub narrow : timed 1 4294967295 ≡ (0 ∷ 0 ∷ 0 ∷ 0 ∷ 0 ∷ 0 ∷ 0 ∷ 0 ∷ 9 ∷ [])
+  pub wide : timed 1 4294967296 ≡ (8 ∷ 8 ∷ 8 ∷ 8 ∷ 8 ∷ 8 ∷ 8 ∷ 8 ∷ 8 ∷ [])
+  pub widest : timed 2 (2 ^ 64 - 1) ≡ (0 ∷ 0 ∷ 0 ∷ 0 ∷ 0 ∷ 0 ∷ 0 ∷ 0 ∷ 9 ∷ [])
   -- formats of editions 0 to 3; a wide time; and 8 before 9
   pub formatted : (formats 0 0 0 ∷ formats 1 0 0 ∷ formats 2 0 0 ∷ formats 3 0 0 ∷ formats 1 4294967295 0 ∷ formats 1 4294967296 0
       ∷ formats 2 (2 ^ 64 - 1) 0 ∷ formats 3 0 262 ∷ formats 1 4294967296 262 ∷ formats 2 0 262 ∷ [])

@@ -45,9 +45,9 @@ abbrev pub diskOf : List ℕ → List ℕ → Disk
 diskOf superblock file k =
     cond (eqb k 0) superblock (cond (eqb k 1) (newRootSector 1 1 0 0) (cond (eqb k 2) file (cond (eqb k 289) (takenIn 0 0 0 onesSector) zeroSector)))
 
--- the verdict of a read of an image of so many bytes
+-- the verdict of a read of an image of so many bytes, at time 0 and with a list of 9 records
 abbrev pub readOf : ℕ → List ℕ → List ℕ → ℕ → ℕ → ℕ → ℕ → Verdict
-readOf len superblock file letter offset asked room = readAnswer len (diskOf superblock file) (called letter) offset asked room .verdict
+readOf len superblock file letter offset asked room = readAnswer len (diskOf superblock file) (called letter) offset asked 0 room 4752 .verdict
 
 abbrev pub sampleBytes : ℕ
 sampleBytes = 672256

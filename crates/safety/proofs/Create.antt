@@ -71,7 +71,7 @@ module _ (L : Ledger) (img : List ℕ) (rep : Rep L img) (name : List ℕ) (id m
 
   decides : Decides L img (create name id mode time room) conditions (λ x. some (plan x)) room createCount
   unfolding onVolume createDecision step createConditions catalogue
-  decides = record { volume = refl; reply = refl; conditions = rw (time-is L time, new-name-is L name, named-is L name, ids-is L id, slot-is L); refusing = refl; size = size }
+  decides = record { volume = refl; reply = refl; judges = record { conditions = rw (time-is L time, new-name-is L name, named-is L name, ids-is L id, slot-is L); refusing = refl; size = size } }
 
   pub create-same : volumeAnswer (create name id mode time room) img ≡ answer (create name id mode time room) L
   create-same = same-changing L img rep _ _ _ room createCount decides

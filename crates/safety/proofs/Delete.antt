@@ -77,7 +77,7 @@ module _ (L : Ledger) (img : List ℕ) (rep : Rep L img) (name : List ℕ) (time
 
   decides : Decides L img (delete name time room) conditions (λ x. some (plan x)) room records
   unfolding onVolume deleteDecision step deleteConditions nameConditions catalogue
-  decides = record { volume = refl; reply = refl; conditions = rw (time-is L time, name-is L name, named-is L name); refusing = refl; size = size }
+  decides = record { volume = refl; reply = refl; judges = record { conditions = rw (time-is L time, name-is L name, named-is L name); refusing = refl; size = size } }
 
   pub delete-same : volumeAnswer (delete name time room) img ≡ answer (delete name time room) L
   delete-same = same-changing L img rep _ _ _ room records decides

@@ -2,13 +2,13 @@
 -- one edition into one of the other. Assumes nothing.
 use Prim.Native.Nat.{ℕ}
 use mathlib.Core.Path.{_≡_, refl, sym, ap, _∙_}
-use mathlib.Core.Bool.{Bool, true, false, cond, not, _&&_, false≢true}
+use mathlib.Core.Bool.{Bool, true, false, cond, not, false≢true}
 use mathlib.Core.List.{List, [], _∷_}
 use mathlib.Core.Option.{Option}
 use lib.Dec.{eqb, ltb}
 use lib.ListN.{length}
-use Rattle.model.specs.declared.Geometry.{Geometry}
 use Rattle.model.specs.declared.Verdict.{Verdict}
+use Rattle.model.specs.declared.Changed.{Changed}
 use Rattle.model.specs.Search.{equalBytes}
 use Rattle.model.specs.Disk.{view}
 use Rattle.model.specs.Edition.{badTime}
@@ -16,6 +16,8 @@ use Rattle.model.specs.Catalogue.{catalogueOf}
 use Rattle.model.specs.Refusals.{Conditions, verdictOf, andThen, refusal}
 use Rattle.model.specs.WriteList.{Plan, groupsFor, listLength, decided}
 use Rattle.model.specs.Summary.{checkAnswer}
+use Rattle.model.specs.Listing.{listConditions, listDecision}
+use Rattle.model.specs.Read.{readConditions, readDecision}
 use Rattle.model.specs.Create.{createConditions, createDecision}
 use Rattle.model.specs.Delete.{deleteConditions, deleteDecision}
 use Rattle.model.specs.Resize.{resizeConditions, resizeDecision}
@@ -27,6 +29,7 @@ use Rattle.model.specs.Run.{onVolume, volumeAnswer, arguments, steady}
 use Rattle.laws.proofs.Booleans.{and-false}
 use Rattle.safety.specs.Described.{SoundRun}
 use Rattle.safety.specs.Room.{geometryOn}
+use Rattle.safety.proofs.Access.{list-as-changed, read-as-changed}
 use Rattle.safety.proofs.NoRoom.{own-is}
 use Rattle.safety.proofs.Theorem.{represents}
 
@@ -46,13 +49,14 @@ module _ (img : List ℕ) (ok : checkAnswer (length img) (view img) .verdict .nu
       ∙ ap (λ (t : Bool). andThen (cond t (refusal 8) (verdictOf cs)) (verdictOf ((ltb room (listLength (groupsFor (view img) plan)), refusal 14) ∷ [])) .number) h
 
   pub wide-refused : (c : Call) → badTime (geometryOn img .edition) (arguments c .time) ≡ true → numberOf (volumeAnswer c img) ≡ 8
-  unfolding onVolume createDecision deleteDecision resizeDecision writeDecision renameDecision createConditions deleteConditions resizeConditions writeConditions
-      renameConditions catalogueOf
+  unfolding onVolume listDecision readDecision createDecision deleteDecision resizeDecision writeDecision renameDecision listConditions readConditions createConditions
+      deleteConditions resizeConditions writeConditions renameConditions catalogueOf
   wide-refused summary h = absurd (never (geometryOn img .edition) h)
   wide-refused check h = absurd (never (geometryOn img .edition) h)
   wide-refused (find name) h = absurd (never (geometryOn img .edition) h)
-  wide-refused (list k room) h = absurd (never (geometryOn img .edition) h)
-  wide-refused (read name offset count room) h = absurd (never (geometryOn img .edition) h)
+  wide-refused (list k time room space) h = ap (λ (a : Changed). a .verdict .number) (list-as-changed (length img) (view img) k time room space) ∙ first-8 _ h _ _ space
+  wide-refused (read name offset count time room space) h =
+      ap (λ (a : Changed). a .verdict .number) (read-as-changed (length img) (view img) name offset count time room space) ∙ first-8 _ h _ _ space
   wide-refused (create name id mode time room) h = first-8 _ h _ _ room
   wide-refused (delete name time room) h = first-8 _ h _ _ room
   wide-refused (resize name size time room) h = first-8 _ h _ _ room
@@ -70,8 +74,8 @@ unfolding step afterWrite afterRename
 done-geometry summary L = refl
 done-geometry check L = refl
 done-geometry (find name) L = refl
-done-geometry (list k room) L = refl
-done-geometry (read name offset count room) L = refl
+done-geometry (list k time room space) L = refl
+done-geometry (read name offset count time room space) L = refl
 done-geometry (create name id mode time room) L = refl
 done-geometry (delete name time room) L = refl
 done-geometry (resize name size time room) L = either (ltb size (fileOf L name .entry .size)) _ _ L refl (either (eqb (length (zeroBytes _)) 0) L _ L refl refl)
@@ -83,8 +87,8 @@ unfolding step
 cut-geometry summary L mask = refl
 cut-geometry check L mask = refl
 cut-geometry (find name) L mask = refl
-cut-geometry (list k room) L mask = refl
-cut-geometry (read name offset count room) L mask = refl
+cut-geometry (list k time room space) L mask = refl
+cut-geometry (read name offset count time room space) L mask = refl
 cut-geometry (create name id mode time room) L mask = refl
 cut-geometry (delete name time room) L mask = refl
 cut-geometry (resize name size time room) L mask = refl

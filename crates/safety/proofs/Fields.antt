@@ -13,9 +13,9 @@ use Rattle.model.specs.Bytes.{Field, beAt, beBytes, bytesFrom, numberIn, put, w
 use Rattle.model.specs.Search.{allBelow, equalBytes}
 use Rattle.model.specs.Superblock.{superblockField, magic, newSuperblock, geometryIn, journalLength, isVolume}
 use Rattle.model.specs.Edition.{EditionLayout, firstEdition, secondEdition, layoutOf, isEdition}
-use Rattle.model.specs.Root.{rootField, rootIn, updatedRootSector, newRootSector}
-use Rattle.model.specs.Entry.{entryField, nameIn, entryIn, isOccupied, badName, newEntrySector, freeMark, occupiedMark, updatedEntrySector, renamedEntrySector}
-use Rattle.model.specs.Ledger.{newEntry, updatedEntry, renamedEntry, updatedRoot, newRoot}
+use Rattle.model.specs.Root.{rootField, rootIn, updatedRootSector, accessedRootSector, newRootSector}
+use Rattle.model.specs.Entry.{entryField, nameIn, entryIn, isOccupied, badName, newEntrySector, freeMark, occupiedMark, updatedEntrySector, renamedEntrySector, accessedEntrySector}
+use Rattle.model.specs.Ledger.{newEntry, updatedEntry, renamedEntry, accessedEntry, updatedRoot, accessedRoot, newRoot}
 use Rattle.laws.proofs.Bytes.{length-put, length-zeroSector, number-same, bytes-other, bytesFrom-put-same, zeros-at}
 use Rattle.laws.proofs.Edition.{by-edition, name-ends, name-bound, FitsTimes, edition-small}
 use Rattle.laws.proofs.Named.{short-name}
@@ -70,6 +70,22 @@ module _ (edition : ℕ) where
       stored s 512 (ns x) l (lies (λ y. apartIn (ns y)) refl refl edition) (lies (λ y. endIn 512 (ns y)) refl refl edition) (mod-lt _ (lit< tt), (h .rootChangeTime, tt)) in
       let k = kept-all s (others x) (ns x) (lies (λ y. allApart (others y) (ns y)) refl refl edition) in
       λ j. record { version = r .0 j; id = k .0 j; mode = k .1 .0 j; accessTime = k .1 .1 .0 j; changeTime = r .1 .0 j }
+
+  pub length-accessedRootSector : (time : ℕ) (s : List ℕ) → length (accessedRootSector edition time s) ≡ length s
+  unfolding accessedRootSector
+  length-accessedRootSector time s = simp length-put
+
+  pub root-accessed : (time : ℕ) (s : List ℕ) → length s ≡ 512 → FitsTimes (layoutOf edition) time
+      → rootIn edition (accessedRootSector edition time s) ≡ accessedRoot time (rootIn edition s)
+  unfolding rootIn accessedRootSector accessedRoot
+  root-accessed time s l h =
+      let ns : EditionLayout → Numbers = λ x. (x .rootAccessTime, time) ∷ [] in
+      let others : EditionLayout → List Field = λ x. rootField .version ∷ rootField .id ∷ rootField .mode ∷ x .rootChangeTime ∷ [] in
+      let x = layoutOf edition in
+      let r : Holds (withStores s (storesOf (ns x))) (ns x) =
+      stored s 512 (ns x) l (lies (λ y. apartIn (ns y)) refl refl edition) (lies (λ y. endIn 512 (ns y)) refl refl edition) (h .rootAccessTime, tt) in
+      let k = kept-all s (others x) (ns x) (lies (λ y. allApart (others y) (ns y)) refl refl edition) in
+      λ j. record { version = k .0 j; id = k .1 .0 j; mode = k .1 .1 .0 j; accessTime = r .0 j; changeTime = k .1 .1 .1 .0 j }
 
   pub length-newRootSector : (id mode time : ℕ) → length (newRootSector edition id mode time) ≡ 512
   unfolding newRootSector
@@ -320,6 +336,52 @@ module _ (edition : ℕ) (name : List ℕ) (time : ℕ) (s : List ℕ) where
           accessTime = remain .1 .1 .1 .1 .0 j;
           changeTime = p6 j;
           name = renamed-name j;
+        }
+
+-- ---- an entry whose access time was set, as read leaves it
+
+module _ (edition time : ℕ) (s : List ℕ) where
+  abbrev set : EditionLayout → Numbers
+  set x = (x .accessTime, time) ∷ []
+
+  -- the fields that stay
+  abbrev unset : EditionLayout → List Field
+  unset x = entryField .mark ∷ entryField .size ∷ entryField .version ∷ entryField .id ∷ entryField .mode ∷ x .changeTime ∷ x .nameLength ∷ []
+
+  abbrev accessed : List ℕ
+  accessed = withStores s (storesOf (set (layoutOf edition)))
+
+  untouched : Alike accessed s (unset (layoutOf edition))
+  untouched = kept-all s (unset (layoutOf edition)) (set (layoutOf edition)) (lies (λ x. allApart (unset x) (set x)) refl refl edition)
+
+  pub length-accessedEntrySector : length (accessedEntrySector edition time s) ≡ length s
+  unfolding accessedEntrySector
+  length-accessedEntrySector = simp length-put
+
+  pub accessed-occupied : isOccupied (accessedEntrySector edition time s) ≡ isOccupied s
+  unfolding isOccupied accessedEntrySector
+  accessed-occupied = ap (λ n. eqb n occupiedMark) (untouched .0)
+
+  module _ (l : length s ≡ 512) (ht : FitsTimes (layoutOf edition) time) where
+    accessed-name : nameIn edition (accessedEntrySector edition time s) ≡ nameIn edition s
+    unfolding nameIn accessedEntrySector
+    accessed-name =
+        ap (λ k. bytesFrom accessed (layoutOf edition .name) k) (untouched .1 .1 .1 .1 .1 .1 .0)
+        ∙ kept-behind s (layoutOf edition .name) (numberIn s (layoutOf edition .nameLength)) (set (layoutOf edition)) (lies (λ x. endIn (x .name) (set x)) refl refl edition)
+
+    pub accessed-entry : entryIn edition (accessedEntrySector edition time s) ≡ accessedEntry time (entryIn edition s)
+    unfolding entryIn accessedEntry accessedEntrySector
+    accessed-entry =
+        let r : Holds accessed (set (layoutOf edition)) =
+        stored s 512 (set (layoutOf edition)) l (lies (λ x. apartIn (set x)) refl refl edition) (lies (λ x. endIn 512 (set x)) refl refl edition) (ht .accessTime, tt) in
+        λ j. record {
+          size = untouched .1 .0 j;
+          version = untouched .1 .1 .0 j;
+          id = untouched .1 .1 .1 .0 j;
+          mode = untouched .1 .1 .1 .1 .0 j;
+          accessTime = r .0 j;
+          changeTime = untouched .1 .1 .1 .1 .1 .0 j;
+          name = accessed-name j;
         }
 
 pub zero-free : isOccupied zeroSector ≡ false

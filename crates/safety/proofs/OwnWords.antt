@@ -9,7 +9,7 @@ use mathlib.Core.Option.{Option, none, some}
 use native.Mathlib.Omega.{arith}
 use lib.Dec.{eqb, leb, ltb}
 use lib.ListN.{length, getD}
-use borrow.Author.Tests.{eqb-true, ne-eqb, le-ltb}
+use borrow.Author.Tests.{eqb-true, eqb-false, ne-eqb, le-ltb}
 use Rattle.model.specs.declared.Lowest.{Lowest}
 use Rattle.model.specs.declared.Lowest.the-variants.{At, Nowhere}
 use Rattle.model.specs.declared.Verdict.{Verdict}
@@ -168,6 +168,15 @@ number-refused n (found a) = refl
 number-refused n (listed a bytes) = refl
 number-refused n (gave a bytes) = refl
 number-refused n (changed a) = refl
+
+-- its answer where no condition holds
+pub reply-given : (s : Step) → numberOf (s .reply) ≡ 0 → numberOf (answerBy s) ≡ 0 → answerBy s ≡ s .reply
+reply-given s e z = go (eqb (lowest (s .refusals)) 0) refl z
+  where
+    go : (b : Bool) → eqb (lowest (s .refusals)) 0 ≡ b → numberOf (cond b (s .reply) (refused (lowest (s .refusals)) (s .reply))) ≡ 0
+        → cond b (s .reply) (refused (lowest (s .refusals)) (s .reply)) ≡ s .reply
+    go true q k = refl
+    go false q k = absurd (eqb-false (lowest (s .refusals)) 0 q (sym (number-refused (lowest (s .refusals)) (s .reply)) ∙ k))
 
 pub number-is : (s : Step) → numberOf (s .reply) ≡ 0 → numberOf (answerBy s) ≡ verdictOf (verdicts (s .refusals)) .number
 number-is s e = go (eqb (lowest (s .refusals)) 0) refl ∙ sym (ap (λ (v : Verdict). v .number) (verdict-is (s .refusals)))

@@ -45,7 +45,7 @@ use Rattle.safety.proofs.Read.{file-there}
 use Rattle.safety.proofs.FreedTable.{freed, length-freed, freed-few, freed-metadata, freed-whole, freed-rising, before-table}
 use Rattle.safety.proofs.FreedSlot.{rep-freed}
 use Rattle.safety.proofs.KeptFile.{name-apart}
-use Rattle.safety.proofs.RenamedSlot.{rep-renamed}
+use Rattle.safety.proofs.RewrittenEntry.{rep-renamed}
 use Rattle.safety.proofs.Induction.{Effect}
 
 -- the name of a file that has it
@@ -104,7 +104,7 @@ module _ (L : Ledger) (img : List ℕ) (rep : Rep L img) (old new : List ℕ) (t
 
   decides : Decides L img (rename old new time room) conditions plan room records
   unfolding onVolume renameDecision step renameConditions catalogue
-  decides = record { volume = refl; reply = refl; conditions = rw (time-is L time, name-is L old, new-name-is L new, named-is L old); refusing = refl; size = size }
+  decides = record { volume = refl; reply = refl; judges = record { conditions = rw (time-is L time, name-is L old, new-name-is L new, named-is L old); refusing = refl; size = size } }
 
   pub rename-same : volumeAnswer (rename old new time room) img ≡ answer (rename old new time room) L
   rename-same = same-changing L img rep _ _ _ room records decides

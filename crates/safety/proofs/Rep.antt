@@ -1,9 +1,9 @@
 -- THE INVARIANT of a run: what an image and the ledger have in common between two calls. It follows that a sound volume opens, and
--- what summary, check, find and list answer. Assumes nothing.
+-- what summary, check and find answer. Assumes nothing.
 use Prim.Native.Nat.{ℕ, _^_, _<_}
 use mathlib.Core.Path.{_≡_, refl, sym, ap, _∙_, fun-ext}
 use mathlib.Core.Bool.{Bool, true, false, cond, not, _&&_, _||_, true≢false}
-use mathlib.Core.List.{List, []}
+use mathlib.Core.List.{List}
 use lib.ListN.{length}
 use mathlib.Core.Option.{some, Option, none, Option·none-ne-some}
 use lib.Dec.{eqb, ltb}
@@ -25,14 +25,13 @@ use Rattle.model.specs.Faults.{fault21, fault22, fault23, fault24, fault25, fau
 use Rattle.model.specs.Refusals.{verdictOf, andThen, given, done, refusal, stateNumber, faultVerdict, soundVerdict, judged, imageVerdict}
 use Rattle.model.specs.Summary.{noSummary, summaryAnswer, checkAnswer}
 use Rattle.model.specs.Find.{nameConditions, foundBy, findAnswer, notFound}
-use Rattle.model.specs.Listing.{listConditions, listVerdict, listedBy, copiedBy, listAnswer, listCopies, notListed}
-use Rattle.model.specs.Ledger.{Ledger, File, fileOr, positionAmong, holderOf, catalogue, summary, check, find, list, summarized, checked, found, listed, entryOfFile, entryFields, lowest, step, answer}
+use Rattle.model.specs.Ledger.{Ledger, File, fileOr, positionAmong, holderOf, catalogue, summary, check, find, summarized, checked, found, entryOfFile, entryFields, lowest, step, answer}
 use Rattle.model.specs.Run.{volumeAnswer, onVolume}
 use Rattle.model.specs.Demand3.{Says}
 use Rattle.model.specs.Opened.{Bounded}
 use Rattle.laws.proofs.Edition.{FitsTimes, time-fits}
 use Rattle.laws.proofs.Search.{first-none, length-tabulate}
-use Rattle.safety.proofs.OwnWords.{free-if, named-is, entry-is, entry-named, named-conditions, answers}
+use Rattle.safety.proofs.OwnWords.{named-is, entry-named, named-conditions, answers}
 use Rattle.safety.proofs.Superblock.{volume-accepted}
 use Rattle.safety.proofs.Plan.{UsableGeometry}
 use Rattle.safety.proofs.Commit.{Ready}
@@ -194,12 +193,3 @@ module _ (L : Ledger) (img : List ℕ) (rep : Rep L img) where
     where
       at : ℕ
       at = indexOf (fileNamed (catalogue L) name)
-
-  pub list-same : (k room : ℕ) → volumeAnswer (list k room) img ≡ answer (list k room) L
-  unfolding onVolume step listAnswer listCopies listVerdict listedBy copiedBy listConditions catalogue entryFields fieldsOf
-  list-same k room =
-      (λ i. let v = andThen (opens i) (verdictOf (listConditions (cat-is i) k room)) in listed (listedBy v (cat-is i) k) (copiedBy v (cat-is i) k))
-      ∙ answers (step (list k room) L)
-      (λ b v. let e = entryOf (catalogue L) k in listed (cond b (record { verdict = v; fields = fieldsOf e }) (notListed v)) (cond b (e .name) []))
-      (rw (entry-is L k)) (λ n. refl)
-      (verdictOf (listConditions (catalogue L) k room)) (rw (free-if (L .slots k), entry-is L k))

@@ -97,9 +97,11 @@ module _ (L : Ledger) (img : List ℕ) (rep : Rep L img) (name : List ℕ) (z ti
   decides = record {
     volume = refl;
     reply = refl;
-    conditions = rw (time-is L time, name-is L name, named-is L name, entry-named L name, unheld-is L);
-    refusing = refl;
-    size = size;
+    judges = record {
+      conditions = rw (time-is L time, name-is L name, named-is L name, entry-named L name, unheld-is L);
+      refusing = refl;
+      size = size;
+    };
   }
 
   pub resize-same : volumeAnswer (resize name z time room) img ≡ answer (resize name z time room) L

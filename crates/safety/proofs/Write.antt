@@ -119,9 +119,11 @@ module _ (L : Ledger) (img : List ℕ) (rep : Rep L img) (name : List ℕ) (offs
   decides = record {
     volume = refl;
     reply = refl;
-    conditions = rw (time-is L time, name-is L name, named-is L name, entry-named L name, unheld-is L);
-    refusing = refl;
-    size = rw (entry-named L name) (write-length L img i offset bytes time);
+    judges = record {
+      conditions = rw (time-is L time, name-is L name, named-is L name, entry-named L name, unheld-is L);
+      refusing = refl;
+      size = rw (entry-named L name) (write-length L img i offset bytes time);
+    };
   }
 
   pub write-same : volumeAnswer (write name offset bytes time room) img ≡ answer (write name offset bytes time room) L

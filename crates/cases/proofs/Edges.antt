@@ -3,6 +3,7 @@ use mathlib.Core.Path.{refl}
 use Rattle.model.specs.Bytes.{beAt, beBytes, bytesFrom, put, onesSector, zeroSector}
 use Rattle.model.specs.Search.{scan, anyBelow, allBelow, countBelow, equalBytes, tabulate}
 use Rattle.model.specs.Geometry.{inBounds}
+use Rattle.model.specs.Edition.{layoutOf, isEdition, badTime}
 use Rattle.model.specs.Superblock.{isVolume, geometryIn, journalLength, stateOf, newSuperblock}
 use Rattle.model.specs.Root.{rootIn, newRootSector}
 use Rattle.model.specs.Entry.{nameIn, entryIn, isOccupied, hasZero, badName, newEntrySector, updatedEntrySector}
@@ -11,10 +12,10 @@ use Rattle.model.specs.Journal.{sourceAt, targetAt, entriesIn, journalSector}
 use Rattle.model.specs.Catalogue.{catalogueOf, entryOf}
 use Rattle.model.specs.Faults.{fault21, fault22, fault23, fault24, fault25, exact, fault26, firstFault}
 use Rattle.model.specs.Refusals.{verdictOf, isWhole, fitsImage, imageVerdict, soundVerdict, judged}
-use Rattle.model.specs.WriteList.{barrier, recordBytes, listBytes}
+use Rattle.model.specs.WriteList.{barrier, recordBytes, listBytes, staging, copies, journalOf, groupA, groupsOf, groupsFor, decided}
 use Rattle.model.specs.Summary.{superblockVerdict, superblockAnswer, checkAnswer}
 use Rattle.model.specs.Scratch.{soundVerdictWith, judgedWith, checkWithAnswer}
-use Rattle.model.specs.Listing.{listConditions, listedBy, listVerdict, listAnswer}
+use Rattle.model.specs.Listing.{listConditions, listPlan, listDecision, listedOf, listAnswer}
 use Rattle.model.specs.Recovery.{isData, isMetadata, goodEntry, replayedSector, replayed, recoveryGroups, recoveryVerdict}
 use Rattle.model.specs.Search.{concatenated}
 use Rattle.model.specs.Format.{doubled, geometryFor, canFormat, formatVerdict, formatAnswer}
@@ -22,12 +23,12 @@ use Rattle.model.specs.CarryOut.{positionIn, recordIn, badRecord, carryVerdict,
 use Rattle.cases.specs.Edges.{Edges}
 
 pub edges : Edges
-unfolding beAt beBytes bytesFrom put onesSector zeroSector scan anyBelow allBelow countBelow equalBytes tabulate concatenated inBounds isVolume geometryIn journalLength stateOf newSuperblock
-    rootIn newRootSector nameIn entryIn isOccupied hasZero badName newEntrySector updatedEntrySector tableFile tableOffset takenIn sourceAt targetAt
-    entriesIn journalSector catalogueOf entryOf fault21 fault22 fault23 fault24 fault25 exact fault26 firstFault
-    verdictOf isWhole fitsImage imageVerdict soundVerdict judged barrier recordBytes listBytes superblockVerdict superblockAnswer checkAnswer soundVerdictWith judgedWith checkWithAnswer
-    listConditions listedBy listVerdict listAnswer isData isMetadata goodEntry replayedSector replayed recoveryGroups recoveryVerdict
-    doubled geometryFor canFormat formatVerdict formatAnswer positionIn recordIn badRecord carryVerdict carryAnswer
+unfolding beAt beBytes bytesFrom put onesSector zeroSector scan anyBelow allBelow countBelow equalBytes tabulate concatenated inBounds layoutOf isEdition badTime isVolume
+    geometryIn journalLength stateOf newSuperblock rootIn newRootSector nameIn entryIn isOccupied hasZero badName newEntrySector updatedEntrySector tableFile tableOffset
+    takenIn sourceAt targetAt entriesIn journalSector catalogueOf entryOf fault21 fault22 fault23 fault24 fault25 exact fault26 firstFault verdictOf isWhole fitsImage
+    imageVerdict soundVerdict judged barrier recordBytes listBytes superblockVerdict superblockAnswer checkAnswer soundVerdictWith judgedWith checkWithAnswer
+    listConditions listPlan listDecision listedOf listAnswer groupsFor groupsOf groupA copies staging journalOf decided isData isMetadata goodEntry replayedSector replayed recoveryGroups recoveryVerdict doubled geometryFor canFormat
+    formatVerdict formatAnswer positionIn recordIn badRecord carryVerdict carryAnswer
 edges = record {
   table-sectors = refl;
   files = refl;

@@ -3,3 +3,5 @@ pub mod Computed
 pub mod Literals
 pub mod Edges
 pub mod RepairsComputed
+pub mod EditionsComputed
+pub mod AccessesComputed

@@ -19,15 +19,15 @@ use Rattle.model.specs.Write.{writePlan}
 use Rattle.model.specs.Rename.{renamePlan}
 use Rattle.model.specs.Ledger.{Ledger, catalogue, Call, create, delete, write, rename, changed, answer, numberOf, Feed, whole, ledgerAfter}
 
--- a format with F 255
+-- a format with F 255, of edition 1, as all of this table
 abbrev pub formatOf : ℕ → Format
-formatOf sectors = record { sectors = sectors; files = 255; id = 1; mode = 0; time = 0 }
+formatOf sectors = record { sectors = sectors; files = 255; edition = 1; id = 1; mode = 0; time = 0 }
 
 abbrev pub sample : Format
 sample = formatOf 1313
 
 abbrev pub shape : ℕ → ℕ → Geometry
-shape extents extentSectors = record { files = 255; extents = extents; «extent_sectors» = extentSectors }
+shape extents extentSectors = record { files = 255; extents = extents; «extent_sectors» = extentSectors; edition = 1 }
 
 -- a format that is accepted: its first record is given
 abbrev pub Accepted : ℕ → Type 0
@@ -100,17 +100,17 @@ table fs = tabulate (known fs .table) 0 4
 
 pub record Cases : Type 0 where
   -- P1 the geometry: journal 257, table 289, data 290, reserve from 674
-  pub P1 : geometryFor 1313 255 ≡ shape 4 128
+  pub P1 : geometryFor 1313 255 1 ≡ shape 4 128
   pub P1-accepted : Accepted 1313
   pub P1-areas : areas (shape 4 128) ≡ (1 ∷ 1 ∷ 257 ∷ 289 ∷ 290 ∷ 674 ∷ [])
   -- P2 1,057 sectors give N 2; P3 1,056 refused 8
-  pub P2 : geometryFor 1057 255 ≡ shape 2 128
+  pub P2 : geometryFor 1057 255 1 ≡ shape 2 128
   pub P2-accepted : Accepted 1057
   pub P3 : formatAnswer (formatOf 1056) 0 528 .number ≡ 8
   -- P4 8,389,408 give S 128, N 65,535; P5 8,389,409 give S 256, N 32,768
-  pub P4 : geometryFor 8389408 255 ≡ shape 65535 128
+  pub P4 : geometryFor 8389408 255 1 ≡ shape 65535 128
   pub P4-accepted : Accepted 8389408
-  pub P5 : geometryFor 8389409 255 ≡ shape 32768 256
+  pub P5 : geometryFor 8389409 255 1 ≡ shape 32768 256
   pub P5-accepted : Accepted 8389409
   -- P6 first create in the sample writes sectors 674, 675, 257, barrier, 0, barrier, 1, 2, barrier, 0, barrier: 11 records, 5,720 bytes
   pub P6 : (d : Disk) → order (groups d (createPlan (known []) d (called 97) 97 0 0)) ≡ (674 ∷ 675 ∷ 257 ∷ behind (1 ∷ 2 ∷ []))

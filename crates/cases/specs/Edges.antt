@@ -34,37 +34,37 @@ use Rattle.cases.specs.Literals.{padded, cleanSuperblock, sampleBytes}
 
 -- what format answers when asked for the first record of a volume of so many files and sectors
 abbrev pub formats : ℕ → ℕ → ℕ
-formats files sectors = formatAnswer (record { sectors = sectors; files = files; id = 1; mode = 0; time = 0 }) 0 528 .number
+formats files sectors = formatAnswer (record { sectors = sectors; files = files; edition = 1; id = 1; mode = 0; time = 0 }) 0 528 .number
 
 -- what the summary answers of a superblock
 abbrev pub ofSuperblock : List ℕ → Summarized
 ofSuperblock s = superblockAnswer 512 (λ k. s)
 
 abbrev pub superblockOf : ℕ → ℕ → ℕ → List ℕ
-superblockOf files extents extentSectors = newSuperblock (record { files = files; extents = extents; «extent_sectors» = extentSectors }) 0
+superblockOf files extents extentSectors = newSuperblock (record { files = files; extents = extents; «extent_sectors» = extentSectors; edition = 1 }) 0
 
 abbrev pub sampleSummary : Summary
 sampleSummary = record { geometry = shape 4 128; state = Clean }
 
 abbrev pub noSummary : Summary
-noSummary = record { geometry = record { files = 0; extents = 0; «extent_sectors» = 0 }; state = Clean }
+noSummary = record { geometry = record { files = 0; extents = 0; «extent_sectors» = 0; edition = 0 }; state = Clean }
 
 -- ---- faults: the sample's disk with a file of one name and id in its first entry, another in its fourth, and a table sector
 
 abbrev pub diskOf : List ℕ → List ℕ → List ℕ → Disk
 diskOf first fourth table k =
     cond (eqb k 0) cleanSuperblock
-    (cond (eqb k 1) (newRootSector 1 0 0) (cond (eqb k 2) first (cond (eqb k 5) fourth (cond (eqb k 289) table zeroSector))))
+    (cond (eqb k 1) (newRootSector 1 1 0 0) (cond (eqb k 2) first (cond (eqb k 5) fourth (cond (eqb k 289) table zeroSector))))
 
 abbrev pub checks : List ℕ → List ℕ → List ℕ → Verdict
 checks first fourth table = checkAnswer sampleBytes (diskOf first fourth table) .verdict
 
 -- an empty file of that name and id; one of so many bytes
 abbrev pub empty : ℕ → ℕ → List ℕ
-empty letter id = newEntrySector (called letter) id 0 0
+empty letter id = newEntrySector 1 (called letter) id 0 0
 
 abbrev pub sized : ℕ → List ℕ
-sized size = updatedEntrySector size 0 (empty 97 5)
+sized size = updatedEntrySector 1 size 0 (empty 97 5)
 
 abbrev pub fault : ℕ → ℕ → Verdict
 fault n place = record { number = 7; fault = n; place = place }
@@ -98,9 +98,9 @@ pub record Edges : Type 0 where
   pub most-sectors : (formats 255 (2 ^ 47 + 800) ∷ formats 255 (2 ^ 47 + 801) ∷ []) ≡ (0 ∷ 8 ∷ [])
   -- the last record of the sample's format, and the position after it
   pub positions : (formatAnswer sample 261 528 .number ∷ formatAnswer sample 262 528 .number ∷ formatAnswer sample 261 527 .number ∷ []) ≡ (0 ∷ 9 ∷ 14 ∷ [])
-  -- 2 another magic, version 2; 3 F 254, N 1, S 127; none of the three
+  -- 2 another magic, version 3; 3 F 254, N 1, S 127; none of the three
   pub superblocks : (ofSuperblock (padded (0 ∷ 255 ∷ 0 ∷ 4 ∷ 0 ∷ 0 ∷ 0 ∷ 128 ∷ 47 ∷ 71 ∷ 79 ∷ 111 ∷ 47 ∷ 70 ∷ 83 ∷ 47 ∷ 0 ∷ 1 ∷ [])) .number
-      ∷ ofSuperblock (padded (0 ∷ 255 ∷ 0 ∷ 4 ∷ 0 ∷ 0 ∷ 0 ∷ 128 ∷ 47 ∷ 71 ∷ 111 ∷ 111 ∷ 47 ∷ 70 ∷ 83 ∷ 47 ∷ 0 ∷ 2 ∷ [])) .number
+      ∷ ofSuperblock (padded (0 ∷ 255 ∷ 0 ∷ 4 ∷ 0 ∷ 0 ∷ 0 ∷ 128 ∷ 47 ∷ 71 ∷ 111 ∷ 111 ∷ 47 ∷ 70 ∷ 83 ∷ 47 ∷ 0 ∷ 3 ∷ [])) .number
       ∷ ofSuperblock (superblockOf 254 4 128) .number ∷ ofSuperblock (superblockOf 255 1 128) .number ∷ ofSuperblock (superblockOf 255 4 127) .number
       ∷ ofSuperblock (superblockOf 255 2 128) .number ∷ [])
       ≡ (2 ∷ 2 ∷ 3 ∷ 3 ∷ 3 ∷ 0 ∷ [])
@@ -115,12 +115,12 @@ pub record Edges : Type 0 where
       ∷ record { number = 0; sector = record { 0 = 290 } } ∷ record { number = 0; sector = record { 0 = 674 } }
       ∷ record { number = 3; sector = record { 0 = 0 } } ∷ [])
   -- the lowest number: index 255 is bad (8), and no occupied entry (9)
-  pub lowest : listAnswer sampleBytes (diskOf zeroSector zeroSector onesSector) 255 0 .verdict ≡ refusal 8
+  pub lowest : listAnswer sampleBytes (diskOf zeroSector zeroSector onesSector) 255 0 0 0 .verdict ≡ refusal 8
   -- "bytes not named here stay"
-  pub tail-stays : getD (updatedEntrySector 1 0 onesSector) 511 0 ≡ 255
+  pub tail-stays : getD (updatedEntrySector 1 1 0 onesSector) 511 0 ≡ 255
   -- two files without a fault; 21 mark 1; 22 no name, 65,536 x 3 + 1 bytes; 23 the same name; 24 id 0, the root's, the same id
   pub entries : (checks (empty 97 5) (empty 98 6) onesSector ∷ checks (empty 97 5) (padded (0 ∷ 1 ∷ [])) onesSector
-      ∷ checks (empty 97 5) (newEntrySector [] 6 0 0) onesSector ∷ checks (sized 196609) (empty 98 6) onesSector
+      ∷ checks (empty 97 5) (newEntrySector 1 [] 6 0 0) onesSector ∷ checks (sized 196609) (empty 98 6) onesSector
       ∷ checks (empty 97 5) (empty 97 6) onesSector ∷ checks (empty 97 5) (empty 98 0) onesSector ∷ checks (empty 97 5) (empty 98 1) onesSector
       ∷ checks (empty 97 5) (empty 98 5) onesSector ∷ [])
       ≡ (done ∷ fault 21 3 ∷ fault 22 3 ∷ fault 22 0 ∷ fault 23 3 ∷ fault 24 3 ∷ fault 24 3 ∷ fault 24 3 ∷ [])

@@ -1,4 +1,4 @@
--- Sectors and records of the sample as literal bytes, the states by the journal's length, and every refusal of one call: a second table
+-- Sectors and records of the sample, which is of edition 1, as literal bytes, the states by the journal's length, and every refusal of one call: a second table
 -- beside P1 to P10, so that a wrong field, width or order in a definition is seen without reading it.
 use Prim.Native.Nat.{ℕ, _+_, _-_}
 use mathlib.Core.Path.{_≡_}
@@ -39,15 +39,15 @@ cleanSuperblock = superblockUpTo (0 ∷ 0 ∷ [])
 -- ---- a disk with the sample's geometry, and a file "a" of 1 byte in its first extent, of which every refusal of read can be had
 
 abbrev pub entry : List ℕ
-entry = updatedEntrySector 1 0 (newEntrySector (called 97) 97 0 0)
+entry = updatedEntrySector 1 1 0 (newEntrySector 1 (called 97) 97 0 0)
 
 abbrev pub diskOf : List ℕ → List ℕ → Disk
 diskOf superblock file k =
-    cond (eqb k 0) superblock (cond (eqb k 1) (newRootSector 1 0 0) (cond (eqb k 2) file (cond (eqb k 289) (takenIn 0 0 0 onesSector) zeroSector)))
+    cond (eqb k 0) superblock (cond (eqb k 1) (newRootSector 1 1 0 0) (cond (eqb k 2) file (cond (eqb k 289) (takenIn 0 0 0 onesSector) zeroSector)))
 
--- the verdict of a read of an image of so many bytes
+-- the verdict of a read of an image of so many bytes, at time 0 and with a list of 9 records
 abbrev pub readOf : ℕ → List ℕ → List ℕ → ℕ → ℕ → ℕ → ℕ → Verdict
-readOf len superblock file letter offset asked room = readAnswer len (diskOf superblock file) (called letter) offset asked room .verdict
+readOf len superblock file letter offset asked room = readAnswer len (diskOf superblock file) (called letter) offset asked 0 room 4752 .verdict
 
 abbrev pub sampleBytes : ℕ
 sampleBytes = 672256
@@ -58,20 +58,20 @@ pub record Literals : Type 0 where
   pub clean : newSuperblock (shape 4 128) 0 ≡ cleanSuperblock
   pub read-back : superblockAnswer 512 (λ k. cleanSuperblock) ≡ record { number = 0; summary = record { geometry = shape 4 128; state = Clean } }
   -- root: 0 version, 4 id, 12 mode, 16 access time, 20 change time; and its version up, its change time set
-  pub root : newRootSector 72623859790382856 286397204 555885348
+  pub root : newRootSector 1 72623859790382856 286397204 555885348
       ≡ padded (0 ∷ 0 ∷ 0 ∷ 0 ∷ 1 ∷ 2 ∷ 3 ∷ 4 ∷ 5 ∷ 6 ∷ 7 ∷ 8 ∷ 17 ∷ 18 ∷ 19 ∷ 20 ∷ 33 ∷ 34 ∷ 35 ∷ 36 ∷ 33 ∷ 34 ∷ 35 ∷ 36 ∷ [])
-  pub root-updated : updatedRootSector 825373492 (newRootSector 72623859790382856 286397204 555885348)
+  pub root-updated : updatedRootSector 1 825373492 (newRootSector 1 72623859790382856 286397204 555885348)
       ≡ padded (0 ∷ 0 ∷ 0 ∷ 1 ∷ 1 ∷ 2 ∷ 3 ∷ 4 ∷ 5 ∷ 6 ∷ 7 ∷ 8 ∷ 17 ∷ 18 ∷ 19 ∷ 20 ∷ 33 ∷ 34 ∷ 35 ∷ 36 ∷ 49 ∷ 50 ∷ 51 ∷ 52 ∷ [])
   -- entry: 0 mark, 2 size, 10 version, 14 id, 22 mode, 26 access time, 30 change time, 34 name length, 36 name
-  pub created : newEntrySector (104 ∷ 105 ∷ []) 72623859790382856 286397204 555885348
+  pub created : newEntrySector 1 (104 ∷ 105 ∷ []) 72623859790382856 286397204 555885348
       ≡ padded (255 ∷ 255 ∷ 0 ∷ 0 ∷ 0 ∷ 0 ∷ 0 ∷ 0 ∷ 0 ∷ 0 ∷ 0 ∷ 0 ∷ 0 ∷ 0 ∷ 1 ∷ 2 ∷ 3 ∷ 4 ∷ 5 ∷ 6 ∷ 7 ∷ 8 ∷ 17 ∷ 18 ∷ 19 ∷ 20
       ∷ 33 ∷ 34 ∷ 35 ∷ 36 ∷ 33 ∷ 34 ∷ 35 ∷ 36 ∷ 0 ∷ 2 ∷ 104 ∷ 105 ∷ [])
   -- and a write's: size 258, version up, change time set
-  pub written : bytesFrom (updatedEntrySector 258 825373492 (newEntrySector (104 ∷ 105 ∷ []) 1 0 555885348)) 0 38
+  pub written : bytesFrom (updatedEntrySector 1 258 825373492 (newEntrySector 1 (104 ∷ 105 ∷ []) 1 0 555885348)) 0 38
       ≡ (255 ∷ 255 ∷ 0 ∷ 0 ∷ 0 ∷ 0 ∷ 0 ∷ 0 ∷ 1 ∷ 2 ∷ 0 ∷ 0 ∷ 0 ∷ 1 ∷ 0 ∷ 0 ∷ 0 ∷ 0 ∷ 0 ∷ 0 ∷ 0 ∷ 1 ∷ 0 ∷ 0 ∷ 0 ∷ 0
       ∷ 33 ∷ 34 ∷ 35 ∷ 36 ∷ 49 ∷ 50 ∷ 51 ∷ 52 ∷ 0 ∷ 2 ∷ 104 ∷ 105 ∷ [])
   -- T-01: and a rename's of it, from "hi" to "a": version up, change time set, name length 1, and no byte of the old name behind the new one
-  pub renamed : renamedEntrySector (97 ∷ []) 825373492 (newEntrySector (104 ∷ 105 ∷ []) 72623859790382856 286397204 555885348)
+  pub renamed : renamedEntrySector 1 (97 ∷ []) 825373492 (newEntrySector 1 (104 ∷ 105 ∷ []) 72623859790382856 286397204 555885348)
       ≡ padded (255 ∷ 255 ∷ 0 ∷ 0 ∷ 0 ∷ 0 ∷ 0 ∷ 0 ∷ 0 ∷ 0 ∷ 0 ∷ 0 ∷ 0 ∷ 1 ∷ 1 ∷ 2 ∷ 3 ∷ 4 ∷ 5 ∷ 6 ∷ 7 ∷ 8 ∷ 17 ∷ 18 ∷ 19 ∷ 20
       ∷ 33 ∷ 34 ∷ 35 ∷ 36 ∷ 49 ∷ 50 ∷ 51 ∷ 52 ∷ 0 ∷ 1 ∷ 97 ∷ [])
   -- table entry of extent 1: file index, offset; given to file 258 as its extent 3, and freed again

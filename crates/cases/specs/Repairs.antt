@@ -25,7 +25,7 @@ part file offset = some (record { file = file; offset = offset })
 -- files 0 and 1 of these sizes, and this table
 abbrev pub volume : ℕ → ℕ → List (Option Owner) → Catalogue
 volume a b table = record {
-  geometry = record { files = 255; extents = 10; «extent_sectors» = 128 };
+  geometry = record { files = 255; extents = 10; «extent_sectors» = 128; edition = 1 };
   root = record { version = 0; id = 1; mode = 0; accessTime = 0; changeTime = 0 };
   entries = λ i. cond (eqb i 0) (fileOfSize 97 a) (cond (eqb i 1) (fileOfSize 98 b) none);
   table = λ e. getD table e none;

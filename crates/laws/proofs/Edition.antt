@@ -2,11 +2,11 @@
 -- each of the two. Assumes nothing.
 use Prim.Native.Nat.{ℕ, _+_, _^_, _≤_, _<_}
 use mathlib.Core.Path.{_≡_, refl}
-use mathlib.Core.Bool.{Bool, true, false, cond, not, _&&_}
+use mathlib.Core.Bool.{Bool, true, false, cond, not, _&&_, _||_}
 use native.Mathlib.Omega.{arith}
 use lib.Dec.{eqb, ltb}
-use borrow.Author.Tests.{ltb-false}
-use Rattle.model.specs.Edition.{EditionLayout, firstEdition, secondEdition, layoutOf, badTime}
+use borrow.Author.Tests.{eqb-true, ltb-false}
+use Rattle.model.specs.Edition.{EditionLayout, firstEdition, secondEdition, layoutOf, isEdition, badTime}
 
 pub by-edition : (P : EditionLayout → Type 0) → P firstEdition → P secondEdition → (edition : ℕ) → P (layoutOf edition)
 unfolding layoutOf
@@ -53,3 +53,12 @@ time-fits edition time good h = go (eqb edition 2) good
     go false e =
         let n : time < 2 ^ 32 = (let q : time ≤ 4294967295 = ltb-false 4294967295 time e in omega arith) in
         record { accessTime = n; changeTime = n; rootAccessTime = n; rootChangeTime = n }
+
+-- an edition fits the superblock's version field
+pub edition-small : (edition : ℕ) → isEdition edition ≡ true → edition < 65536
+unfolding isEdition
+edition-small edition h = go (eqb edition 1) refl h
+  where
+    go : (b : Bool) → eqb edition 1 ≡ b → (b || eqb edition 2) ≡ true → edition < 65536
+    go true e k = omega (arith, eqb-true edition 1 e)
+    go false e k = omega (arith, eqb-true edition 2 k)

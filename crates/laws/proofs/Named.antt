@@ -74,7 +74,8 @@ module _ (d : Disk) where
       judge22 : fault22 (catalogueOf d) i ≡ false
       judge22 = first-missed (fault22 (catalogueOf d)) (geometryIn (d superblockAt) .files) (sound-22 d s) i l
 
-      go : Dec (layoutOf (editionOn d) .longestName < numberIn (d (entryAt i)) (layoutOf (editionOn d) .nameLength)) → numberIn (d (entryAt i)) (layoutOf (editionOn d) .nameLength) ≤ layoutOf (editionOn d) .longestName
+      go : Dec (layoutOf (editionOn d) .longestName < numberIn (d (entryAt i)) (layoutOf (editionOn d) .nameLength))
+          → numberIn (d (entryAt i)) (layoutOf (editionOn d) .nameLength) ≤ layoutOf (editionOn d) .longestName
       go (no h) = omega arith
       go (yes h) =
           let b : badName (editionOn d) (nameIn (editionOn d) (d (entryAt i))) ≡ true = long-name (editionOn d) (nameIn (editionOn d) (d (entryAt i))) (rw length-nameIn h) in

@@ -104,3 +104,7 @@ renamedEntrySector edition name time s =
     (setTo (entryField .version) (raised (numberIn s (entryField .version))) ∷ setTo (layoutOf edition .changeTime) time
     ∷ setTo (layoutOf edition .nameLength) (length name) ∷ (layoutOf edition .name, bytesFrom [] 0 (layoutOf edition .longestName))
     ∷ (layoutOf edition .name, name) ∷ [])
+
+-- T-02, read's: "the access time set and the version unchanged"; all else stays
+unfoldable pub accessedEntrySector : ℕ → ℕ → List ℕ → List ℕ
+accessedEntrySector edition time s = withStores s (setTo (layoutOf edition .accessTime) time ∷ [])

@@ -15,9 +15,9 @@ pub mod Refusals
 pub mod Summary
 pub mod Scratch
 pub mod Find
+pub mod WriteList
 pub mod Listing
 pub mod Read
-pub mod WriteList
 pub mod Create
 pub mod Delete
 pub mod Write

@@ -34,6 +34,10 @@ unfoldable pub updatedRootSector : ℕ → ℕ → List ℕ → List ℕ
 updatedRootSector edition time s =
     withStores s (setTo (rootField .version) (raised (numberIn s (rootField .version))) ∷ setTo (layoutOf edition .rootChangeTime) time ∷ [])
 
+-- T-02, list's: "the access time set and the version unchanged"; all else stays
+unfoldable pub accessedRootSector : ℕ → ℕ → List ℕ → List ℕ
+accessedRootSector edition time s = withStores s (setTo (layoutOf edition .rootAccessTime) time ∷ [])
+
 -- format's: "root (version 0, given id, mode and time, for both times)"; "unused bytes are zero"
 unfoldable pub newRootSector : ℕ → ℕ → ℕ → ℕ → List ℕ
 newRootSector edition id mode time =

@@ -74,6 +74,10 @@ pub record Plan : Type 0 where
   pub dataSectors : List Record
   pub targets : List Record
 
+-- of a call with one target and no data
+abbrev pub oneTarget : SectorNumber → List ℕ → Plan
+oneTarget s c = record { dataSectors = []; targets = sectorWrite s c ∷ [] }
+
 abbrev pub Group : Type 0
 Group = List Record
 

@@ -96,15 +96,17 @@ pub struct Found {
     pub fields: Fields,
 }
 
-// The name's bytes stand in the output; their count is the field `name_length`.
+// The name's bytes stand in the output; their count is the field `name_length`. Of list and read too, `length` is the write list's in bytes.
 pub struct Listed {
     pub verdict: Verdict,
     pub fields: Fields,
+    pub length: u64,
 }
 
 pub struct BytesRead {
     pub verdict: Verdict,
     pub count: u64,
+    pub length: u64,
 }
 
 // Create, delete, resize, write: the write list's length in bytes.

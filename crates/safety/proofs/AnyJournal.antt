@@ -46,7 +46,8 @@ few-sectors : (g : Geometry) → inBounds g ≡ true → (g .files ≤ mostFiles
 unfolding inBounds
 few-sectors g h =
     let most = leb 255 (g .files) && leb (g .files) mostFiles && leb 2 (g .extents) && leb (g .extents) 65535 in
-    let b = bounds (record { files = g .files; extents = g .extents; «extent_sectors» = 128 }) (and-yes most (leb 128 128) (and-left most (leb 128 (extentSectors g)) h) refl) (omega arith) in
+    let b = bounds (record { files = g .files; extents = g .extents; «extent_sectors» = 128; edition = g .edition })
+    (and-yes most (leb 128 128) (and-left most (leb 128 (extentSectors g)) h) refl) (omega arith) in
     (b .files-high, b .extents-high)
 
 -- ---- the state

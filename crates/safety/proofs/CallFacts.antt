@@ -8,18 +8,20 @@ use mathlib.Core.Option.{none}
 use lib.Dec.{eqb, ltb}
 use borrow.Author.Tests.{eqb-true}
 use Rattle.model.specs.Ledger.{Ledger, fileOf, Call, summary, check, find, list, read, create, delete, resize, write, numberOf, partlyWritten, step, answer, Feed, whole, cutMarked, cutUnmarked}
-use Rattle.model.specs.Ledger.{rename, callOf, fed}
+use Rattle.model.specs.Ledger.{rename, accessedEntry, accessedFile, callOf, fed}
 use Rattle.model.specs.Run.{onVolume, volumeAnswer, volumePlan, Fits}
 use Rattle.safety.specs.Naming.{Spares, fileIn}
 use Rattle.safety.proofs.Induction.{Effect, nothing}
-use Rattle.safety.proofs.Rep.{Rep, summary-same, check-same, find-same, list-same}
+use Rattle.safety.proofs.Rep.{Rep, summary-same, check-same, find-same}
 use Rattle.safety.proofs.Read.{read-same}
+use Rattle.safety.proofs.Access.{list-same, list-effect, read-effect}
 use Rattle.safety.proofs.Create.{create-same, create-effect}
 use Rattle.safety.proofs.Delete.{delete-same, delete-effect}
 use Rattle.safety.proofs.Resize.{resize-same, resize-effect}
 use Rattle.safety.proofs.Write.{write-same, write-effect}
 use Rattle.safety.proofs.Rename.{rename-same, rename-effect}
-use Rattle.safety.proofs.Naming.{create-fresh, delete-found, resize-found, write-found, created-other, freed-other, renewed-other, resized-other, written-other, rename-found, renamed-other}
+use Rattle.safety.proofs.Naming.{read-found, create-fresh, delete-found, resize-found, write-found, rename-found}
+use Rattle.safety.proofs.Naming.{rooted-other, created-other, freed-other, renewed-other, resized-other, written-other, renamed-other}
 
 pub record CallFacts (c : Call) : Type 0 where
   -- its answer is the ledger's, and its effect, whole or cut
@@ -44,13 +46,22 @@ reads c same none-planned done cut = record {
     either L img false h = h
 
 pub facts : (c : Call) → CallFacts c
-unfolding onVolume step
+unfolding onVolume step accessedEntry
 facts summary = reads summary summary-same (λ img. refl) (λ L. refl) (λ L mask. refl)
 facts check = reads check check-same (λ img. refl) (λ L. refl) (λ L mask. refl)
 facts (find name) = reads (find name) (λ L img h. find-same L img h name) (λ img. refl) (λ L. refl) (λ L mask. refl)
-facts (list i room) = reads (list i room) (λ L img h. list-same L img h i room) (λ img. refl) (λ L. refl) (λ L mask. refl)
-facts (read name offset count room) =
-    reads (read name offset count room) (λ L img h. read-same L img h name offset count room) (λ img. refl) (λ L. refl) (λ L mask. refl)
+facts (list i time room space) = record {
+  same = λ L img h f. list-same L img h i time room space;
+  effect = λ L img h f. list-effect L img h i time room space (f .2);
+  done-other = λ L n ne e. rooted-other L _ n;
+  cut-other = λ L n ne e mask. refl;
+}
+facts (read name offset count time room space) = record {
+  same = λ L img h f. read-same L img h name offset count time room space;
+  effect = λ L img h f. read-effect L img h name offset count time room space (f .2);
+  done-other = λ L n ne e. renewed-other L name n (ne .0) (read-found L name offset count time room space e) (accessedFile time (fileOf L name)) refl;
+  cut-other = λ L n ne e mask. refl;
+}
 facts (create name id mode time room) = record {
   same = λ L img h f. create-same L img h name id mode time room;
   effect = λ L img h f. create-effect L img h name id mode time room f;

@@ -25,7 +25,7 @@ use Rattle.model.specs.Ledger.{Ledger, File, entryOfFile, catalogue, create, ne
 use Rattle.model.specs.Run.{volumeAnswer, onVolume}
 use Rattle.laws.proofs.Entry.{new-name-good}
 use Rattle.laws.proofs.Disk.{length-view}
-use Rattle.safety.proofs.OwnWords.{named-is, slot-is, ids-is, new-name-is}
+use Rattle.safety.proofs.OwnWords.{named-is, slot-is, ids-is, time-is, new-name-is}
 use Rattle.safety.proofs.Searches.{place-found, place-none, or-left-no, or-right-no, anyBelow-none}
 use Rattle.safety.proofs.Apply.{over-here, over-skip, over-none}
 use Rattle.safety.proofs.Plan.{UsableGeometry, WellFormed, metadata-directory}
@@ -33,7 +33,7 @@ use Rattle.safety.proofs.Commit.{Ready, uncut, ready-uncut}
 use Rattle.laws.proofs.WriteList.{length-groups}
 use Rattle.safety.proofs.Frame.{Outside, Shows, done-shows}
 use Rattle.safety.proofs.Bounds.{copies-fit, count-waits, no-extent}
-use Rattle.safety.proofs.Rep.{Rep, rep-geometry}
+use Rattle.safety.proofs.Rep.{Rep, Timely, timely, rep-geometry}
 use Rattle.safety.proofs.Changing.{Passed, Carries, effect-changing, Decides, same-changing}
 use Rattle.safety.proofs.Preserved.{out-front, out-table, out-data, slotIn, entry-is, table-keep, part-keeps}
 use Rattle.safety.proofs.Fields.{length-updatedRootSector, root-updated, length-newEntry, new-occupied, new-entry, occupied-mark}
@@ -57,7 +57,7 @@ module _ (L : Ledger) (img : List ℕ) (rep : Rep L img) (name : List ℕ) (id m
   i = indexOf (freeEntry (catalogue L))
 
   abbrev conditions : Catalogue → Conditions
-  conditions x = createConditions x name id
+  conditions x = createConditions x name id time
 
   abbrev plan : Catalogue → Plan
   plan x = createPlan x (view img) name id mode time
@@ -71,39 +71,43 @@ module _ (L : Ledger) (img : List ℕ) (rep : Rep L img) (name : List ℕ) (id m
 
   decides : Decides L img (create name id mode time room) conditions (λ x. some (plan x)) room createCount
   unfolding onVolume createDecision step createConditions catalogue
-  decides = record { volume = refl; reply = refl; conditions = rw (new-name-is name, named-is L name, ids-is L id, slot-is L); refusing = refl; size = size }
+  decides = record { volume = refl; reply = refl; judges = record { conditions = rw (time-is L time, new-name-is L name, named-is L name, ids-is L id, slot-is L); refusing = refl; size = size } }
 
   pub create-same : volumeAnswer (create name id mode time room) img ≡ answer (create name id mode time room) L
   create-same = same-changing L img rep _ _ _ room createCount decides
 
-  module _ (hi : id < 2 ^ 64) (hm : mode < 2 ^ 32) (ht : time < 2 ^ 32) (passed : Passed (createConditions (catalogue L) name id)) where
+  module _ (hi : id < 2 ^ 64) (hm : mode < 2 ^ 32) (ht : time < 2 ^ 64) (passed : Passed (createConditions (catalogue L) name id time)) where
     -- ---- what the conditions say
 
-    good : badName name ≡ false
+    fitting : Timely L time
     unfolding createConditions
-    good = new-name-good name (or-left-no (badNewName name) (eqb id 0) (passed .0))
+    fitting = timely L time (passed .0) ht
+
+    good : badName (L .geometry .edition) name ≡ false
+    unfolding createConditions catalogue
+    good = new-name-good (L .geometry .edition) name (or-left-no (badNewName (L .geometry .edition) name) (eqb id 0) (passed .1 .0))
 
     some-id : eqb id 0 ≡ false
-    unfolding createConditions
-    some-id = or-right-no (badNewName name) (eqb id 0) (passed .0)
+    unfolding createConditions catalogue
+    some-id = or-right-no (badNewName (L .geometry .edition) name) (eqb id 0) (passed .1 .0)
 
     new-name : (k : ℕ) → k < L .geometry .files → hasName name (catalogue L .entries k) ≡ false
     unfolding createConditions fileNamed catalogue
     new-name =
         place-none (λ k. hasName name (c .entries k)) (L .geometry .files)
-        (or-left-no _ (anyBelow (λ k. hasId id (c .entries k)) (L .geometry .files)) (or-left-no _ (eqb id (L .root .id)) (passed .1 .0)))
+        (or-left-no _ (anyBelow (λ k. hasId id (c .entries k)) (L .geometry .files)) (or-left-no _ (eqb id (L .root .id)) (passed .1 .1 .0)))
 
     new-id : (k : ℕ) → k < L .geometry .files → hasId id (catalogue L .entries k) ≡ false
     unfolding createConditions catalogue
-    new-id = anyBelow-none (λ k. hasId id (c .entries k)) (L .geometry .files) (or-right-no (isAt (fileNamed c name)) _ (or-left-no _ (eqb id (L .root .id)) (passed .1 .0)))
+    new-id = anyBelow-none (λ k. hasId id (c .entries k)) (L .geometry .files) (or-right-no (isAt (fileNamed c name)) _ (or-left-no _ (eqb id (L .root .id)) (passed .1 .1 .0)))
 
     not-root : eqb id (L .root .id) ≡ false
     unfolding createConditions catalogue
-    not-root = or-right-no (isAt (fileNamed c name) || anyBelow (λ k. hasId id (c .entries k)) (L .geometry .files)) (eqb id (L .root .id)) (passed .1 .0)
+    not-root = or-right-no (isAt (fileNamed c name) || anyBelow (λ k. hasId id (c .entries k)) (L .geometry .files)) (eqb id (L .root .id)) (passed .1 .1 .0)
 
     free : (i < L .geometry .files) × (isFree (catalogue L .entries i) ≡ true)
     unfolding createConditions freeEntry catalogue
-    free = place-found (λ k. isFree (c .entries k)) (L .geometry .files) (not-false (isAt (freeEntry c)) (passed .1 .1 .0))
+    free = place-found (λ k. isFree (c .entries k)) (L .geometry .files) (not-false (isAt (freeEntry c)) (passed .1 .1 .1 .0))
 
     empty : L .slots i ≡ none
     unfolding catalogue
@@ -115,7 +119,7 @@ module _ (L : Ledger) (img : List ℕ) (rep : Rep L img) (name : List ℕ) (id m
     geo = rep-geometry L img rep
 
     fits : WellFormed (L .geometry) p
-    unfolding createPlan
+    unfolding createPlan catalogue
     fits =
         let l : i < L .geometry .files = free .0 in
         record {
@@ -128,24 +132,24 @@ module _ (L : Ledger) (img : List ℕ) (rep : Rep L img) (name : List ℕ) (id m
           own = tt;
           short = omega arith;
           wholeData = tt;
-          wholeTargets = (length-updatedRootSector time (view img rootAt) ∙ length-view img 1, (length-newEntry name id mode time, tt));
+          wholeTargets = (length-updatedRootSector (L .geometry .edition) time (view img rootAt) ∙ length-view img 1, (length-newEntry (L .geometry .edition) name id mode time, tt));
         }
 
     -- ---- the sectors of the new image
 
     abbrev w1 : Record
-    w1 = sectorWrite rootAt (updatedRootSector time (view img rootAt))
+    w1 = sectorWrite rootAt (updatedRootSector (L .geometry .edition) time (view img rootAt))
 
     abbrev w2 : Record
-    w2 = sectorWrite (entryAt i) (newEntrySector name id mode time)
+    w2 = sectorWrite (entryAt i) (newEntrySector (L .geometry .edition) name id mode time)
 
     module _ (out : List ℕ) (ready : Ready (L .geometry) out) (shows : Shows (L .geometry) (w1 ∷ w2 ∷ []) img out) where
-      at-root : view out rootAt ≡ updatedRootSector time (view img rootAt)
+      at-root : view out rootAt ≡ updatedRootSector (L .geometry .edition) time (view img rootAt)
       at-root =
           shows 1 (out-front (L .geometry) geo 1 (omega arith)) (λ e. omega arith)
           ∙ over-here w1 (w2 ∷ []) _ ∙ over-skip w2 [] 1 _ (λ e. omega arith) ∙ over-none 1 _
 
-      at-entry : view out (entryAt i) ≡ newEntrySector name id mode time
+      at-entry : view out (entryAt i) ≡ newEntrySector (L .geometry .edition) name id mode time
       at-entry =
           let l : i < L .geometry .files = free .0 in
           shows (entryAt i) (out-front (L .geometry) geo (entryAt i) (omega arith)) (λ e. omega arith)
@@ -161,7 +165,8 @@ module _ (L : Ledger) (img : List ℕ) (rep : Rep L img) (name : List ℕ) (id m
       entry-new =
           entry-is (L .geometry) (view out) (view out) (ready .volume .geometry) (ready .volume .geometry) i
           ∙ ap (λ (s : List ℕ). slotIn (L .geometry) s i) at-entry
-          ∙ (λ j. cond (lt-ltb i (L .geometry .files) (free .0) j && new-occupied name id mode time j) (some (new-entry name id mode time good hi hm ht j)) none)
+          ∙ (λ j. cond (lt-ltb i (L .geometry .files) (free .0) j && new-occupied (L .geometry .edition) name id mode time j)
+          (some (new-entry (L .geometry .edition) name id mode time good hi hm fitting j)) none)
 
       table-same : (e : ℕ) → catalogueOf (view out) .table e ≡ catalogue (created L i name id mode time) .table e
       table-same e =
@@ -183,14 +188,15 @@ module _ (L : Ledger) (img : List ℕ) (rep : Rep L img) (name : List ℕ) (id m
 
       mark-new : fault21 (view out) i ≡ false
       unfolding fault21
-      mark-new = occupied-mark (view out (entryAt i)) (ap isOccupied at-entry ∙ new-occupied name id mode time)
+      mark-new = occupied-mark (view out (entryAt i)) (ap isOccupied at-entry ∙ new-occupied (L .geometry .edition) name id mode time)
 
       rewrites : Rewrites L img (updatedRoot time (L .root)) i (some (newFile L i name id mode time)) out
       rewrites =
           let l : i < L .geometry .files = free .0 in
           record {
             ready = ready;
-            new-root = ap rootIn at-root ∙ root-updated time (view img rootAt) (length-view img rootAt) ht ∙ ap (updatedRoot time) (rep .says .root);
+            new-root = ap (rootIn (L .geometry .edition)) at-root
+                ∙ root-updated (L .geometry .edition) time (view img rootAt) (length-view img rootAt) fitting ∙ ap (updatedRoot time) (rep .says .root);
             mark = mark-new;
             entry = entry-new;
             entries = λ k q ne. at-other (entryAt k) (out-front (L .geometry) geo (entryAt k) (omega arith)) (λ z. omega arith) (λ z. omega arith) (λ z. ne (omega arith));
@@ -204,7 +210,7 @@ module _ (L : Ledger) (img : List ℕ) (rep : Rep L img) (name : List ℕ) (id m
           }
 
     carries : Carries L img (create name id mode time room) p
-    unfolding step createPlan
+    unfolding step createPlan catalogue
     carries = record {
       fits = fits;
       done = subst (λ (x : Lowest). Rep (created L (indexOf x) name id mode time) (uncut (L .geometry) img p)) (sym (slot-is L))
@@ -214,5 +220,5 @@ module _ (L : Ledger) (img : List ℕ) (rep : Rep L img) (name : List ℕ) (id m
     }
 
   -- what create does
-  pub create-effect : (id < 2 ^ 64) × (mode < 2 ^ 32) × (time < 2 ^ 32) → Effect Rep (create name id mode time room) L img
+  pub create-effect : (id < 2 ^ 64) × (mode < 2 ^ 32) × (time < 2 ^ 64) → Effect Rep (create name id mode time room) L img
   create-effect f = effect-changing L img rep _ _ _ room createCount decides (λ passed. carries (f .0) (f .1) (f .2) passed)

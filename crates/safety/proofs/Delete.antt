@@ -17,12 +17,12 @@ use Rattle.model.specs.Catalogue.{Catalogue, fileNamed, hasName, sectorsFrom}
 use Rattle.model.specs.Refusals.{Conditions}
 use Rattle.model.specs.WriteList.{Plan, Record, Group, sectorWrite, groupsFor, listLength, recordSize, recordCount}
 use Rattle.model.specs.Find.{nameConditions}
-use Rattle.model.specs.Delete.{deletePlan, deleteDecision}
+use Rattle.model.specs.Delete.{deleteConditions, deletePlan, deleteDecision}
 use Rattle.model.specs.Ledger.{Ledger, catalogue, delete, updatedRoot, freedRecords, withRootUpdated, step, answer}
 use Rattle.model.specs.Run.{volumeAnswer, onVolume}
 use Rattle.laws.proofs.Bytes.{length-zeroSector}
 use Rattle.laws.proofs.Disk.{length-view}
-use Rattle.safety.proofs.OwnWords.{named-is, name-is}
+use Rattle.safety.proofs.OwnWords.{named-is, time-is, name-is}
 use Rattle.safety.proofs.Searches.{place-found}
 use Rattle.safety.proofs.Apply.{over, over-here, over-skip, over-none, All}
 use Rattle.safety.proofs.Plan.{UsableGeometry, WellFormed, metadata-directory}
@@ -30,7 +30,7 @@ use Rattle.safety.proofs.Commit.{Ready, uncut, ready-uncut}
 use Rattle.laws.proofs.WriteList.{length-groups}
 use Rattle.safety.proofs.Frame.{Shows, done-shows}
 use Rattle.safety.proofs.Bounds.{copies-fit, count-waits}
-use Rattle.safety.proofs.Rep.{Rep, rep-geometry}
+use Rattle.safety.proofs.Rep.{Rep, Timely, timely, rep-geometry}
 use Rattle.safety.proofs.Changing.{Passed, Carries, effect-changing, Decides, same-changing}
 use Rattle.safety.proofs.Preserved.{part-keeps}
 use Rattle.safety.proofs.Fields.{length-updatedRootSector, root-updated}
@@ -46,7 +46,7 @@ module _ (L : Ledger) (img : List ℕ) (rep : Rep L img) (name : List ℕ) (time
   i = indexOf (fileNamed (catalogue L) name)
 
   abbrev conditions : Catalogue → Conditions
-  conditions x = nameConditions x name
+  conditions x = deleteConditions x name time
 
   abbrev plan : Catalogue → Plan
   plan x = deletePlan x (view img) (indexOf (fileNamed x name)) time
@@ -55,7 +55,7 @@ module _ (L : Ledger) (img : List ℕ) (rep : Rep L img) (name : List ℕ) (time
   p = deletePlan (catalogue L) (view img) (indexOf (fileNamed (catalogue L) name)) time
 
   abbrev w1 : Record
-  w1 = sectorWrite rootAt (updatedRootSector time (view img rootAt))
+  w1 = sectorWrite rootAt (updatedRootSector (L .geometry .edition) time (view img rootAt))
 
   abbrev w2 : Record
   w2 = sectorWrite (entryAt i) zeroSector
@@ -76,8 +76,8 @@ module _ (L : Ledger) (img : List ℕ) (rep : Rep L img) (name : List ℕ) (time
       let q : suc (suc (length table-writes)) ≡ 2 + sectorsFrom (catalogue L) i 0 = omega arith in q))
 
   decides : Decides L img (delete name time room) conditions (λ x. some (plan x)) room records
-  unfolding onVolume deleteDecision step nameConditions
-  decides = record { volume = refl; reply = refl; conditions = rw (name-is name, named-is L name); refusing = refl; size = size }
+  unfolding onVolume deleteDecision step deleteConditions nameConditions catalogue
+  decides = record { volume = refl; reply = refl; judges = record { conditions = rw (time-is L time, name-is L name, named-is L name); refusing = refl; size = size } }
 
   pub delete-same : volumeAnswer (delete name time room) img ≡ answer (delete name time room) L
   delete-same = same-changing L img rep _ _ _ room records decides
@@ -85,13 +85,17 @@ module _ (L : Ledger) (img : List ℕ) (rep : Rep L img) (name : List ℕ) (time
   geo : UsableGeometry (L .geometry)
   geo = rep-geometry L img rep
 
-  module _ (ht : time < 2 ^ 32) (passed : Passed (nameConditions (catalogue L) name)) where
+  module _ (ht : time < 2 ^ 64) (passed : Passed (deleteConditions (catalogue L) name time)) where
+    fitting : Timely L time
+    unfolding deleteConditions
+    fitting = timely L time (passed .0) ht
+
     within : i < L .geometry .files
-    unfolding nameConditions fileNamed catalogue
-    within = place-found (λ k. hasName name (c .entries k)) (L .geometry .files) (not-false (isAt (fileNamed c name)) (passed .1 .0)) .0
+    unfolding deleteConditions nameConditions fileNamed catalogue
+    within = place-found (λ k. hasName name (c .entries k)) (L .geometry .files) (not-false (isAt (fileNamed c name)) (passed .1 .1 .0)) .0
 
     fits : WellFormed (L .geometry) p
-    unfolding deletePlan
+    unfolding deletePlan catalogue
     fits =
         let l : i < L .geometry .files = within in
         let m : length table-writes ≤ tableSectors (L .geometry) = freed-few L img i 0 in
@@ -105,7 +109,7 @@ module _ (L : Ledger) (img : List ℕ) (rep : Rep L img) (name : List ℕ) (time
           own = tt;
           short = omega arith;
           wholeData = tt;
-          wholeTargets = (length-updatedRootSector time (view img rootAt) ∙ length-view img 1, (length-zeroSector, freed-whole L img i 0));
+          wholeTargets = (length-updatedRootSector (L .geometry .edition) time (view img rootAt) ∙ length-view img 1, (length-zeroSector, freed-whole L img i 0));
         }
 
     -- ---- the new image
@@ -120,7 +124,7 @@ module _ (L : Ledger) (img : List ℕ) (rep : Rep L img) (name : List ℕ) (time
     low = let l : i < L .geometry .files = within in (omega arith, (omega arith, tt))
 
     shows : Shows (L .geometry) (w1 ∷ w2 ∷ table-writes) img out
-    unfolding deletePlan
+    unfolding deletePlan catalogue
     shows = done-shows (L .geometry) p geo fits img (rep .ready)
 
     at : (j : ℕ) → j < journalAt (L .geometry) → j ≢ 0 → view out j ≡ over (w1 ∷ w2 ∷ []) j (view img j)
@@ -131,14 +135,14 @@ module _ (L : Ledger) (img : List ℕ) (rep : Rep L img) (name : List ℕ) (time
     done =
         let l : i < L .geometry .files = within in
         rep-freed L img rep i (updatedRoot time (L .root)) refl (w1 ∷ w2 ∷ []) low out ready shows
-        (ap rootIn (at 1 (omega arith) (λ e. omega arith) ∙ over-here w1 (w2 ∷ []) _ ∙ over-skip w2 [] 1 _ (λ e. omega arith) ∙ over-none 1 _)
-        ∙ root-updated time (view img rootAt) (length-view img rootAt) ht ∙ ap (updatedRoot time) (rep .says .root))
+        (ap (rootIn (L .geometry .edition)) (at 1 (omega arith) (λ e. omega arith) ∙ over-here w1 (w2 ∷ []) _ ∙ over-skip w2 [] 1 _ (λ e. omega arith) ∙ over-none 1 _)
+        ∙ root-updated (L .geometry .edition) time (view img rootAt) (length-view img rootAt) fitting ∙ ap (updatedRoot time) (rep .says .root))
         (at (entryAt i) (omega arith) (λ e. omega arith) ∙ over-skip w1 (w2 ∷ []) (entryAt i) _ (λ e. omega arith) ∙ over-here w2 [] _ ∙ over-none (entryAt i) _)
         (λ k q ne. at (entryAt k) (omega arith) (λ e. omega arith) ∙ over-skip w1 (w2 ∷ []) (entryAt k) _ (λ e. omega arith)
         ∙ over-skip w2 [] (entryAt k) _ (λ e. ne (omega arith)) ∙ over-none (entryAt k) _)
 
     carries : Carries L img (delete name time room) p
-    unfolding step deletePlan
+    unfolding step deletePlan catalogue
     carries = record {
       fits = fits;
       done = subst (λ (x : Lowest). Rep (withRootUpdated L time (indexOf x) none) out) (sym (named-is L name)) done;
@@ -146,5 +150,5 @@ module _ (L : Ledger) (img : List ℕ) (rep : Rep L img) (name : List ℕ) (time
     }
 
   -- what delete does
-  pub delete-effect : time < 2 ^ 32 → Effect Rep (delete name time room) L img
+  pub delete-effect : time < 2 ^ 64 → Effect Rep (delete name time room) L img
   delete-effect ht = effect-changing L img rep _ _ _ room records decides (λ passed. carries ht passed)

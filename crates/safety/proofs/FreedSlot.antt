@@ -38,15 +38,15 @@ not-owned i (some w) s = go (eqb (w .file) i) refl
 
 module _ (L : Ledger) (img : List ℕ) (rep : Rep L img) (i : ℕ) (root : Root) (same-id : root .id ≡ L .root .id) (front : Group)
     (low : All (λ w. w .sector < tableAt (L .geometry)) front) (out : List ℕ) (ready : Ready (L .geometry) out)
-    (shows : Shows (L .geometry) (front ++ freed L img i 0) img out) (at-root : rootIn (view out rootAt) ≡ root)
+    (shows : Shows (L .geometry) (front ++ freed L img i 0) img out) (at-root : rootIn (L .geometry .edition) (view out rootAt) ≡ root)
     (at-entry : view out (entryAt i) ≡ zeroSector) (at-others : (k : ℕ) → k < L .geometry .files → k ≢ i → view out (entryAt k) ≡ view img (entryAt k)) where
   entry-free : catalogueOf (view out) .entries i ≡ none
   entry-free =
       entry-is (L .geometry) (view out) (view out) (ready .volume .geometry) (ready .volume .geometry) i ∙ ap (λ (s : List ℕ). slotIn (L .geometry) s i) at-entry
       ∙ go (ltb i (L .geometry .files))
     where
-      go : (x : Bool) → cond (x && isOccupied zeroSector) (some (entryIn zeroSector)) none ≡ none
-      go true = ap (λ (b : Bool). cond b (some (entryIn zeroSector)) none) zero-free
+      go : (x : Bool) → cond (x && isOccupied zeroSector) (some (entryIn (L .geometry .edition) zeroSector)) none ≡ none
+      go true = ap (λ (b : Bool). cond b (some (entryIn (L .geometry .edition) zeroSector)) none) zero-free
       go false = refl
 
   mark-free : fault21 (view out) i ≡ false

@@ -41,7 +41,7 @@ module _ (L : Ledger) (i : ℕ) (name : List ℕ) (id mode time : ℕ) where
     pub table-created : (e : ℕ) → catalogue created .table e ≡ catalogue L .table e
     table-created e = table-by L created refl extents-created e
 
-    module _ (bounded : Bounded (L .geometry)) (good : badName name ≡ false) (some-id : eqb id 0 ≡ false)
+    module _ (bounded : Bounded (L .geometry)) (good : badName (L .geometry .edition) name ≡ false) (some-id : eqb id 0 ≡ false)
         (new-name : (k : ℕ) → k < L .geometry .files → hasName name (catalogue L .entries k) ≡ false)
         (new-id : (k : ℕ) → k < L .geometry .files → hasId id (catalogue L .entries k) ≡ false)
         (not-root : eqb id (L .root .id) ≡ false) (h : NoFaults (catalogue L)) where

@@ -1,5 +1,5 @@
 -- T-07: "Old volumes with other names stay sound, and their files can be read, written, deleted and renamed away." A file of any name can be
--- renamed to any name that create accepts. Assumes nothing.
+-- renamed to any name that create accepts, at any time that the edition takes. Assumes nothing.
 use Prim.Native.Nat.{ℕ, _+_, _*_, _≤_}
 use mathlib.Core.Path.{_≡_, refl, sym, ap, ap₂, _∙_, subst}
 use mathlib.Core.Bool.{Bool, true, false, cond, not, _||_}
@@ -13,15 +13,17 @@ use Rattle.model.specs.declared.Lowest.{Lowest}
 use Rattle.model.specs.declared.Lowest.the-variants.{At, Nowhere}
 use Rattle.model.specs.Search.{isAt, equalBytes}
 use Rattle.model.specs.Geometry.{tableSectors, usable, extentBytes}
+use Rattle.model.specs.Edition.{badTime}
 use Rattle.model.specs.Entry.{badName, badNewName}
 use Rattle.model.specs.Catalogue.{Catalogue, holdsFrom, sectorsFrom}
 use Rattle.model.specs.Refusals.{verdictOf, refusal, done}
 use Rattle.model.specs.WriteList.{recordSize, recordCount}
-use Rattle.model.specs.Ledger.{Ledger, fileOr, catalogue, rename, Answer, Feed, numberOf, slotNamed, freedRecords, renamedRecords, unfitName, unfitNewName, step, answer, ledgerFrom}
+use Rattle.model.specs.Ledger.{Ledger, fileOr, catalogue, rename, Answer, Feed, numberOf, slotNamed, freedRecords, renamedRecords, unfitTime, unfitName, unfitNewName, step, answer, ledgerFrom}
 use Rattle.model.specs.Run.{volumeAnswer, Fits, steady}
 use Rattle.safety.specs.Described.{SoundRun}
 use Rattle.safety.specs.Naming.{Contents, fileOn, contentsIn, fileIn}
-use Rattle.safety.proofs.OwnWords.{name-if, name-is, new-name-is, number-is}
+use Rattle.safety.specs.Room.{geometryOn}
+use Rattle.safety.proofs.OwnWords.{name-if, time-is, name-is, new-name-is, number-is}
 use Rattle.safety.proofs.Searches.{or-left-no, countBelow-le}
 use Rattle.safety.proofs.Rep.{Rep, catalogue-geometry}
 use Rattle.safety.proofs.KeptFile.{well-named}
@@ -58,16 +60,17 @@ few-records L img rep old new = go (equalBytes old new) (isAt (slotNamed L new))
     go false false = omega arith
 
 -- a rename that no condition refuses
-accepted : (L : Ledger) (old new : List ℕ) (time room : ℕ) → (unfitName old || unfitNewName new) ≡ false → not (isAt (slotNamed L old)) ≡ false
+accepted : (L : Ledger) (old new : List ℕ) (time room : ℕ) → unfitTime L time ≡ false → (unfitName L old || unfitNewName L new) ≡ false → not (isAt (slotNamed L old)) ≡ false
     → ltb room (renamedRecords L old new * recordSize) ≡ false → numberOf (answer (rename old new time room) L) ≡ 0
 unfolding step verdictOf
-accepted L old new time room p q r =
-    number-is (step (rename old new time room) L) refl ∙ (λ i. cond (p i) (refusal 8) (cond (q i) (refusal 9) (cond (r i) (refusal 14) done)) .number)
+accepted L old new time room t p q r =
+    number-is (step (rename old new time room) L) refl ∙ (λ i. cond (t i) (refusal 8) (cond (p i) (refusal 8) (cond (q i) (refusal 9) (cond (r i) (refusal 14) done))) .number)
 
 pub renamed-away : {L₀ : Ledger} {img : List ℕ} {fs : List Feed} {rs : List Answer} (old new : List ℕ) (time room : ℕ) (file : Contents)
-    → SoundRun L₀ steady img fs rs → fileOn img old ≡ some file → badNewName new ≡ false → recordCount 0 515 * recordSize ≤ room
+    → SoundRun L₀ steady img fs rs → fileOn img old ≡ some file
+    → badTime (geometryOn img .edition) time ≡ false → badNewName (geometryOn img .edition) new ≡ false → recordCount 0 515 * recordSize ≤ room
     → Fits (rename old new time room) → numberOf (volumeAnswer (rename old new time room) img) ≡ 0
-renamed-away {L₀} {img} {fs} old new time room file r e good long fit =
+renamed-away {L₀} {img} {fs} old new time room file r e timed good long fit =
     ap numberOf (facts (rename old new time room) .same L img rep fit) ∙ answered
   where
     L : Ledger
@@ -85,14 +88,19 @@ renamed-away {L₀} {img} {fs} old new time room file r e good long fit =
     i : ℕ
     i = slotOf L old
 
-    good-old : badName old ≡ false
+    -- the image's edition is the ledger's
+    same : geometryOn img .edition ≡ L .geometry .edition
+    same = ap (λ (g : Geometry). g .edition) (rep .says .geometry)
+
+    good-old : badName (L .geometry .edition) old ≡ false
     good-old =
-        ap badName (sym (named-so (L .slots i) old (sym (name-if old (L .slots i)) ∙ named .has)))
+        ap (badName (L .geometry .edition)) (sym (named-so (L .slots i) old (sym (name-if old (L .slots i)) ∙ named .has)))
         ∙ or-left-no _ (ltb (usable (L .geometry) * extentBytes (L .geometry)) (fileOr (L .slots i) .entry .size))
         (well-named L img rep i (fileOr (L .slots i)) (filled (L .slots i) old (named .has)))
 
     answered : numberOf (answer (rename old new time room) L) ≡ 0
     answered =
         let m : renamedRecords L old new ≤ recordCount 0 515 = few-records L img rep old new in
-        accepted L old new time room (ap₂ (λ a b. a || b) (name-is old ∙ good-old) (new-name-is new ∙ good)) at
+        accepted L old new time room (time-is L time ∙ ap (λ n. badTime n time) (sym same) ∙ timed)
+        (ap₂ (λ a b. a || b) (name-is L old ∙ good-old) (new-name-is L new ∙ ap (λ n. badNewName n new) (sym same) ∙ good)) at
         (le-ltb room (renamedRecords L old new * recordSize) (omega arith))

@@ -103,7 +103,7 @@ module _ (d : Disk) (h : OlderSound d) (e : ℕ) (w : Owner) (reserve : usable (
   unfolding fault22
   no-22 j fits = go (c .entries j) refl
     where
-      go : (o : Option Entry) → catalogueOf d .entries j ≡ o → holdsOf o (λ y. badName (y .name) || ltb (usable g * extentBytes g) (y .size)) ≡ false
+      go : (o : Option Entry) → catalogueOf d .entries j ≡ o → holdsOf o (λ y. badName (g .edition) (y .name) || ltb (usable g * extentBytes g) (y .size)) ≡ false
       go none t = refl
       go (some y) t = ap₂ (λ a b. a || b) (h .entries j y t .0) (le-ltb (usable g * extentBytes g) (y .size) (fits y t))
 
@@ -122,8 +122,8 @@ module _ (d : Disk) (h : OlderSound d) (e : ℕ) (w : Owner) (reserve : usable (
     is-22 : usable g * extentBytes g < x .size → fault22 c (w .file) ≡ true
     unfolding fault22
     is-22 l =
-        ap (λ (o : Option Entry). holdsOf o (λ y. badName (y .name) || ltb (usable g * extentBytes g) (y .size))) has
-        ∙ or-right (badName (x .name)) _ (lt-ltb (usable g * extentBytes g) (x .size) l)
+        ap (λ (o : Option Entry). holdsOf o (λ y. badName (g .edition) (y .name) || ltb (usable g * extentBytes g) (y .size))) has
+        ∙ or-right (badName (g .edition) (x .name)) _ (lt-ltb (usable g * extentBytes g) (x .size) l)
 
     is-25 : fault25 c e ≡ true
     unfolding fault25

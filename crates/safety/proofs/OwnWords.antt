@@ -9,21 +9,22 @@ use mathlib.Core.Option.{Option, none, some}
 use native.Mathlib.Omega.{arith}
 use lib.Dec.{eqb, leb, ltb}
 use lib.ListN.{length, getD}
-use borrow.Author.Tests.{eqb-true, ne-eqb, le-ltb}
+use borrow.Author.Tests.{eqb-true, eqb-false, ne-eqb, le-ltb}
 use Rattle.model.specs.declared.Lowest.{Lowest}
 use Rattle.model.specs.declared.Lowest.the-variants.{At, Nowhere}
 use Rattle.model.specs.declared.Verdict.{Verdict}
 use Rattle.model.specs.Bytes.{bytesFrom}
 use Rattle.model.specs.Search.{anyBelow, tabulate, isAt, indexOf}
 use Rattle.model.specs.Geometry.{FileNumber, ExtentNumber, usable}
-use Rattle.model.specs.Entry.{hasZero, badName, isTypable, badNewName, longestName}
+use Rattle.model.specs.Edition.{firstEdition, secondEdition, layoutOf, badTime}
+use Rattle.model.specs.Entry.{hasZero, badName, isTypable, badNewName}
 use Rattle.model.specs.Catalogue.{entryOr, fileNamed, freeEntry, freeExtent, entryOf, hasName, hasId, isFree}
 use Rattle.model.specs.Refusals.{Conditions, verdictOf, isDone, refusal}
 use Rattle.model.specs.Find.{nameConditions}
 use Rattle.model.specs.Write.{touchedSectors}
 use Rattle.model.specs.Resize.{zeros}
 use Rattle.model.specs.Ledger.{Ledger, File, fileOr, entryOfFile, holderOf, ownerFrom, catalogue, holdsName, holdsId, slotNamed, freeSlot, unheldExtent, fileOf, Answer, summarized, checked, found}
-use Rattle.model.specs.Ledger.{listed, gave, changed, numberOf, numbered, refused, Refusals, lowest, unfitName, unfitNewName, spannedSectors, zeroBytes, Step, answerBy}
+use Rattle.model.specs.Ledger.{listed, gave, changed, numberOf, numbered, refused, Refusals, lowest, unfitTime, nameBound, unfitName, unfitNewName, spannedSectors, zeroBytes, Step, answerBy}
 use Rattle.laws.proofs.Booleans.{not-and, not-leb}
 use Rattle.laws.proofs.Search.{first-ext, anyBelow-ext}
 
@@ -79,20 +80,38 @@ module _ (L : Ledger) where
 
 -- ---- its words
 
-pub name-is : (name : List ℕ) → unfitName name ≡ badName name
+pub time-is : (L : Ledger) (time : ℕ) → unfitTime L time ≡ badTime (L .geometry .edition) time
+unfolding unfitTime badTime
+time-is L time = go (eqb (L .geometry .edition) 2)
+  where
+    go : (b : Bool) → cond b false (ltb 4294967295 time) ≡ (not b && ltb 4294967295 time)
+    go true = refl
+    go false = refl
+
+pub bound-is : (L : Ledger) → nameBound L ≡ layoutOf (L .geometry .edition) .longestName
+unfolding layoutOf
+bound-is L = go (eqb (L .geometry .edition) 2)
+  where
+    go : (b : Bool) → cond b 468 476 ≡ cond b secondEdition firstEdition .longestName
+    go true = refl
+    go false = refl
+
+pub name-is : (L : Ledger) (name : List ℕ) → unfitName L name ≡ badName (L .geometry .edition) name
 unfolding unfitName badName hasZero
-name-is name = ap (λ (b : Bool). b || anyBelow (λ k. eqb (getD name k 0) 0) (length name)) (bounds (length name))
+name-is L name =
+    ap (λ (most : ℕ). eqb (length name) 0 || ltb most (length name) || anyBelow (λ k. eqb (getD name k 0) 0) (length name)) (bound-is L)
+    ∙ ap (λ (b : Bool). b || anyBelow (λ k. eqb (getD name k 0) 0) (length name)) (bounds (length name) (layoutOf (L .geometry .edition) .longestName))
   where
     none-if : (n : ℕ) → eqb n 0 ≡ ltb n 1
     none-if zero = refl
     none-if (suc k) = ne-eqb (suc k) 0 (λ e. omega arith) ∙ sym (le-ltb (suc k) 1 (omega arith))
 
-    bounds : (n : ℕ) → (eqb n 0 || ltb 476 n) ≡ not (leb 1 n && leb n longestName)
-    bounds n = ap₂ (λ a b. a || b) (none-if n ∙ sym (not-leb 1 n)) (sym (not-leb n longestName)) ∙ sym (not-and (leb 1 n) (leb n longestName))
+    bounds : (n most : ℕ) → (eqb n 0 || ltb most n) ≡ not (leb 1 n && leb n most)
+    bounds n most = ap₂ (λ a b. a || b) (none-if n ∙ sym (not-leb 1 n)) (sym (not-leb n most)) ∙ sym (not-and (leb 1 n) (leb n most))
 
-pub new-name-is : (name : List ℕ) → unfitNewName name ≡ badNewName name
+pub new-name-is : (L : Ledger) (name : List ℕ) → unfitNewName L name ≡ badNewName (L .geometry .edition) name
 unfolding unfitNewName badNewName
-new-name-is name = ap₂ (λ a b. a || b) (name-is name) (anyBelow-ext _ _ (length name) (λ k l. untyped (getD name k 0)))
+new-name-is L name = ap₂ (λ a b. a || b) (name-is L name) (anyBelow-ext _ _ (length name) (λ k l. untyped (getD name k 0)))
   where
     as-or : (a b c : Bool) → (not a || not b || c) ≡ not (a && b && not c)
     as-or true true true = refl
@@ -119,9 +138,9 @@ verdicts [] = []
 verdicts (r ∷ rs) = (r .0, refusal (r .1)) ∷ verdicts rs
 
 -- of a call that only names a file
-pub named-conditions : (L : Ledger) (name : List ℕ) → nameConditions (catalogue L) name ≡ verdicts ((unfitName name, 8) ∷ (not (isAt (slotNamed L name)), 9) ∷ [])
-unfolding nameConditions
-named-conditions L name = rw (name-is name, named-is L name)
+pub named-conditions : (L : Ledger) (name : List ℕ) → nameConditions (catalogue L) name ≡ verdicts ((unfitName L name, 8) ∷ (not (isAt (slotNamed L name)), 9) ∷ [])
+unfolding nameConditions catalogue
+named-conditions L name = rw (name-is L name, named-is L name)
 
 verdict-is : (rs : Refusals) → verdictOf (verdicts rs) ≡ numbered (lowest rs)
 unfolding verdictOf lowest
@@ -149,6 +168,15 @@ number-refused n (found a) = refl
 number-refused n (listed a bytes) = refl
 number-refused n (gave a bytes) = refl
 number-refused n (changed a) = refl
+
+-- its answer where no condition holds
+pub reply-given : (s : Step) → numberOf (s .reply) ≡ 0 → numberOf (answerBy s) ≡ 0 → answerBy s ≡ s .reply
+reply-given s e z = go (eqb (lowest (s .refusals)) 0) refl z
+  where
+    go : (b : Bool) → eqb (lowest (s .refusals)) 0 ≡ b → numberOf (cond b (s .reply) (refused (lowest (s .refusals)) (s .reply))) ≡ 0
+        → cond b (s .reply) (refused (lowest (s .refusals)) (s .reply)) ≡ s .reply
+    go true q k = refl
+    go false q k = absurd (eqb-false (lowest (s .refusals)) 0 q (sym (number-refused (lowest (s .refusals)) (s .reply)) ∙ k))
 
 pub number-is : (s : Step) → numberOf (s .reply) ≡ 0 → numberOf (answerBy s) ≡ verdictOf (verdicts (s .refusals)) .number
 number-is s e = go (eqb (lowest (s .refusals)) 0) refl ∙ sym (ap (λ (v : Verdict). v .number) (verdict-is (s .refusals)))

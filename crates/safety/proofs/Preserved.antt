@@ -48,7 +48,7 @@ module _ (g : Geometry) (geo : UsableGeometry g) where
 -- ---- the catalogue, slot by slot
 
 abbrev pub slotIn : Geometry → List ℕ → ℕ → Option Entry
-slotIn g s i = cond (ltb i (g .files) && isOccupied s) (some (entryIn s)) none
+slotIn g s i = cond (ltb i (g .files) && isOccupied s) (some (entryIn (g .edition) s)) none
 
 abbrev pub ownerBy : Bool → ℕ → ℕ → Option Owner
 ownerBy b f o = cond (b && not (eqb f freeFile)) (some (record { file = f; offset = o })) none
@@ -79,8 +79,9 @@ module _ (g : Geometry) (d d′ : Disk) (eg : geometryIn (d superblockAt) ≡ g)
       ap (λ (x : Geometry). slotIn x (d′ (entryAt i)) i) eg′ ∙ go (ltb i (g .files)) refl ∙ sym (ap (λ (x : Geometry). slotIn x (d (entryAt i)) i) eg)
     where
       go : (b : Bool) → ltb i (g .files) ≡ b
-          → cond (b && isOccupied (d′ (entryAt i))) (some (entryIn (d′ (entryAt i)))) none ≡ cond (b && isOccupied (d (entryAt i))) (some (entryIn (d (entryAt i)))) none
-      go true e = ap (λ (s : List ℕ). cond (isOccupied s) (some (entryIn s)) none) (h (ltb-true i (g .files) e))
+          → cond (b && isOccupied (d′ (entryAt i))) (some (entryIn (g .edition) (d′ (entryAt i)))) none
+          ≡ cond (b && isOccupied (d (entryAt i))) (some (entryIn (g .edition) (d (entryAt i)))) none
+      go true e = ap (λ (s : List ℕ). cond (isOccupied s) (some (entryIn (g .edition) s)) none) (h (ltb-true i (g .files) e))
       go false e = refl
 
   pub table-keep : (e : ℕ) → (e < g .extents → d′ (tableSectorOf g e) ≡ d (tableSectorOf g e)) → catalogueOf d′ .table e ≡ catalogueOf d .table e
@@ -144,7 +145,7 @@ module _ (L : Ledger) (img img′ : List ℕ) (rep : Rep L img) (ready : Ready (
       let eg′ : geometryIn (view img′ superblockAt) ≡ g = ready .volume .geometry in
       λ i. record {
         geometry = ap geometryIn same-zero i;
-        root = ap rootIn (keeps 1 (out-front g geo 1 (omega arith))) i;
+        root = ap₂ (λ (x : Geometry) (s : List ℕ). rootIn (x .edition) s) (ap geometryIn same-zero) (keeps 1 (out-front g geo 1 (omega arith))) i;
         entries = fun-ext (λ k. entries-keep g (view img) (view img′) eg eg′ k (λ l. keeps (entryAt k) (out-front g geo (entryAt k) (omega arith)))) i;
         table = fun-ext (λ e. table-keep g (view img) (view img′) eg eg′ e (λ l. keeps (tableSectorOf g e) (out-table g geo e l))) i;
       }
@@ -158,7 +159,7 @@ module _ (L : Ledger) (img img′ : List ℕ) (rep : Rep L img) (ready : Ready (
         faultless = rep .faultless;
         disjoint = rep .disjoint;
         sized = rep .sized;
-        says = says-of L img′ ready (ap rootIn (keeps 1 (out-front g geo 1 (omega arith))) ∙ rep .says .root)
+        says = says-of L img′ ready (ap (rootIn (g .edition)) (keeps 1 (out-front g geo 1 (omega arith))) ∙ rep .says .root)
             (λ i l. marks-keep (view img) (view img′) i (keeps (entryAt i) (out-front g geo (entryAt i) (omega arith))) ∙ no-mark-fault L img (rep .says) i l)
             (λ i. ap (λ (c : Catalogue). c .entries i) same-cat ∙ rep .says .directory i)
             (λ e. ap (λ (c : Catalogue). c .table e) same-cat ∙ rep .says .table e)

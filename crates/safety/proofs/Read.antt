@@ -1,5 +1,5 @@
--- What read has to show: the ledger's answer and the file's bytes. Assumes nothing.
-use Prim.Native.Nat.{ℕ, zero, suc, _+_, _≤_}
+-- What read has to show: the ledger's answer and the file's bytes. (Its effect stands in `Access`.) Assumes nothing.
+use Prim.Native.Nat.{ℕ, zero, suc, _+_, _*_, _≤_}
 use mathlib.Core.Path.{_≡_, refl, sym, ap, ap₂, _∙_}
 use mathlib.Core.Bool.{Bool, true, false, cond, false≢true}
 use mathlib.Core.List.{List, [], _∷_, _++_}
@@ -13,15 +13,17 @@ use Rattle.model.specs.Bytes.{bytesFrom}
 use Rattle.model.specs.Search.{tabulate, isAt, indexOf}
 use Rattle.model.specs.Disk.{Disk, view}
 use Rattle.model.specs.Catalogue.{Catalogue, catalogueOf, hasName, fileNamed, entryOf, entryOr, fileByte, fileBytes}
-use Rattle.model.specs.Refusals.{verdictOf, andThen, isDone}
-use Rattle.model.specs.Read.{readCount, sizeNamed, readConditions, notRead, readBy, readAnswer, readGives}
+use Rattle.model.specs.Refusals.{Conditions, verdictOf, given, isDone}
+use Rattle.model.specs.WriteList.{Plan, groupsFor, listLength, recordSize, recordCount, Decision, ownVerdict}
+use Rattle.model.specs.Read.{readCount, sizeNamed, readConditions, readPlan, readDecision, notRead, readOf, readAnswer, readGives}
 use Rattle.model.specs.Ledger.{Ledger, File, fileOr, entryOfFile, catalogue, read, gave, numbered, refused, step, answer}
 use Rattle.model.specs.Run.{volumeAnswer, onVolume}
 use Rattle.laws.proofs.Search.{getD-tab0}
-use Rattle.safety.proofs.OwnWords.{named-is, entry-is, file-is, entry-named, name-is, verdicts, answers}
+use Rattle.laws.proofs.WriteList.{plan-needs}
+use Rattle.safety.proofs.OwnWords.{named-is, entry-is, file-is, entry-named, time-is, name-is, answers}
 use Rattle.safety.proofs.Searches.{place-found}
-use Rattle.safety.proofs.Rep.{Rep, cat-is, opens}
-use Rattle.safety.proofs.Changing.{Passed, passed-by, refuses}
+use Rattle.safety.proofs.Rep.{Rep, cat-is}
+use Rattle.safety.proofs.Changing.{Passed, passed-by, earlier-done, Judges, decision-is, own-is, length-is}
 
 bytesFrom-tabulate : (f : ℕ → ℕ) (size off n : ℕ) → off + n ≤ size → bytesFrom (tabulate f 0 size) off n ≡ tabulate f off n
 unfolding bytesFrom tabulate
@@ -45,80 +47,96 @@ pub size-is : (o : Option File) → entryOr (entryOfFile o) .size ≡ fileOr o .
 size-is none = refl
 size-is (some f) = refl
 
-module _ (L : Ledger) (img : List ℕ) (rep : Rep L img) (name : List ℕ) (offset asked room : ℕ) where
-  abbrev c : Catalogue
-  c = catalogue L
-
+module _ (L : Ledger) (img : List ℕ) (rep : Rep L img) (name : List ℕ) (offset asked time room space : ℕ) where
   abbrev i : ℕ
   i = indexOf (fileNamed (catalogue L) name)
 
   abbrev f : File
   f = fileOr (L .slots (indexOf (fileNamed (catalogue L) name)))
 
+  abbrev n : ℕ
+  n = readCount (sizeNamed (catalogue L) name) offset asked
+
+  abbrev conditions : Catalogue → Conditions
+  conditions x = readConditions x name offset asked time room
+
+  abbrev plan : Catalogue → Option Plan
+  plan x = some (readPlan x (view img) (indexOf (fileNamed x name)) time)
+
+  pub read-judges : Judges L img (read name offset asked time room space) (λ x. readConditions x name offset asked time room)
+      (λ x. some (readPlan x (view img) (indexOf (fileNamed x name)) time)) space (recordCount 0 1)
+  unfolding readConditions sizeNamed step catalogue readPlan
+  read-judges = record {
+    conditions = rw (time-is L time, name-is L name, named-is L name, entry-named L name);
+    refusing = refl;
+    size = plan-needs (view img) (readPlan (catalogue L) (view img) i time);
+  }
+
   abbrev v : Verdict
-  v = verdictOf (readConditions (catalogue L) name offset asked room)
+  v = ownVerdict (readConditions (catalogue L) name offset asked time room) space (recordCount 0 1 * recordSize)
 
-  abbrev answered : BytesRead
-  answered = readBy v (catalogue L) name offset asked
+  abbrev answered : Bool → Verdict → BytesRead
+  answered b w = cond b (record { verdict = w; count = n; length = recordCount 0 1 * recordSize }) (notRead w)
 
-  answer-is : readAnswer (length img) (view img) name offset asked room ≡ readBy v (catalogue L) name offset asked
-  unfolding readAnswer
-  answer-is = λ k. let x = cat-is L img rep k in readBy (andThen (opens L img rep k) (verdictOf (readConditions x name offset asked room))) x name offset asked
+  answer-is : readAnswer (length img) (view img) name offset asked time room space ≡ answered (isDone v) v
+  unfolding readAnswer readDecision readOf
+  answer-is =
+      ap (λ (x : Decision). readOf x (view img) name offset asked) (decision-is L img rep (read name offset asked time room space) conditions plan space (recordCount 0 1) read-judges)
+      ∙ ap (λ (x : Catalogue). given v (record { verdict = v; count = readCount (sizeNamed x name) offset asked; length = listed (isDone v) }) notRead) (cat-is L img rep)
+      ∙ ap (λ (m : ℕ). given v (record { verdict = v; count = n; length = m }) notRead)
+      (length-is L img rep (read name offset asked time room space) conditions plan space (recordCount 0 1) read-judges (isDone v))
+      ∙ go (isDone v)
+    where
+      listed : Bool → ℕ
+      listed b = listLength (groupsFor (view img) (cond b (plan (catalogue L)) none))
 
-  found : isAt (fileNamed (catalogue L) name) ≡ true → L .slots i ≡ some f
+      go : (b : Bool) → cond {A = BytesRead} b (record { verdict = v; count = n; length = cond b (recordCount 0 1 * recordSize) 0 }) (notRead v) ≡ answered b v
+      go true = refl
+      go false = refl
+
+  -- a file of the name is there
+  pub read-found : isAt (fileNamed (catalogue L) name) ≡ true → L .slots (indexOf (fileNamed (catalogue L) name)) ≡ some (fileOr (L .slots (indexOf (fileNamed (catalogue L) name))))
   unfolding fileNamed catalogue
-  found h = file-there (L .slots i) name (place-found (λ k. hasName name (entryOfFile (L .slots k))) (L .geometry .files) h .1)
+  read-found h = file-there (L .slots i) name (place-found (λ k. hasName name (entryOfFile (L .slots k))) (L .geometry .files) h .1)
 
   size-of : sizeNamed (catalogue L) name ≡ f .entry .size
   unfolding sizeNamed entryOf catalogue
   size-of = size-is (L .slots i)
 
-  refusing : refuses (readConditions (catalogue L) name offset asked room) ≡ true
+  -- of the m bytes that are given
+  given-bytes : (m : ℕ) → answered (isDone v) v .count ≡ m → fileBytes (catalogueOf (view img)) (view img) i offset m ≡ bytesFrom (f .bytes) offset m
   unfolding readConditions
-  refusing = refl
-
-  -- of the n bytes that are given
-  given-bytes : (n : ℕ) → answered .count ≡ n → fileBytes (catalogueOf (view img)) (view img) i offset n ≡ bytesFrom (f .bytes) offset n
-  unfolding readBy readConditions
-  given-bytes n e = go (isDone v) refl e
+  given-bytes m e = go (isDone v) refl e
     where
-      go : (b : Bool) → isDone v ≡ b → cond b (record { verdict = v; count = readCount (sizeNamed c name) offset asked }) (notRead v) .count ≡ n
-          → fileBytes (catalogueOf (view img)) (view img) i offset n ≡ bytesFrom (f .bytes) offset n
+      go : (b : Bool) → isDone v ≡ b → answered b v .count ≡ m → fileBytes (catalogueOf (view img)) (view img) i offset m ≡ bytesFrom (f .bytes) offset m
       go false q k =
-          let z : n ≡ 0 = sym k in
+          let z : m ≡ 0 = sym k in
           ap (fileBytes (catalogueOf (view img)) (view img) i offset) z ∙ both-none (catalogueOf (view img)) (view img) i offset (f .bytes) ∙ ap (bytesFrom (f .bytes) offset) (sym z)
       go true q k =
-          let p : Passed (readConditions c name offset asked room) = passed-by (readConditions c name offset asked room) refusing q in
-          let there = found (not-false (isAt (fileNamed c name)) (p .1 .0)) in
-          let size : sizeNamed c name ≡ f .entry .size = size-of in
-          let le : offset ≤ sizeNamed c name = ltb-false (sizeNamed c name) offset (p .1 .1 .0) in
-          let h : offset + n ≤ f .entry .size = omega arith in
-          sym (bytes-from (catalogueOf (view img)) (view img) i (f .entry .size) offset n h) ∙ ap (λ (b : List ℕ). bytesFrom b offset n) (rep .says .bytes i f there)
+          let p : Passed (conditions (catalogue L)) = passed-by (conditions (catalogue L)) (read-judges .refusing) (earlier-done (verdictOf (conditions (catalogue L))) _ q) in
+          let there = read-found (not-false (isAt (fileNamed (catalogue L) name)) (p .1 .1 .0)) in
+          let size : sizeNamed (catalogue L) name ≡ f .entry .size = size-of in
+          let le : offset ≤ sizeNamed (catalogue L) name = ltb-false (sizeNamed (catalogue L) name) offset (p .1 .1 .1 .0) in
+          let h : offset + m ≤ f .entry .size = omega arith in
+          sym (bytes-from (catalogueOf (view img)) (view img) i (f .entry .size) offset m h) ∙ ap (λ (b : List ℕ). bytesFrom b offset m) (rep .says .bytes i f there)
 
   -- as the ledger's words say it
-  conditions-are : v ≡ verdictOf (verdicts (step (read name offset asked room) L .refusals))
-  unfolding readConditions sizeNamed step
-  conditions-are = rw (name-is name, named-is L name, entry-named L name)
-
-  abbrev n : ℕ
-  n = readCount (sizeNamed (catalogue L) name) offset asked
-
-  reply-is : gave (record { verdict = numbered 0; count = n }) (bytesFrom (f .bytes) offset n) ≡ step (read name offset asked room) L .reply
+  reply-is : gave (record { verdict = numbered 0; count = n; length = recordCount 0 1 * recordSize }) (bytesFrom (f .bytes) offset n) ≡ step (read name offset asked time room space) L .reply
   unfolding sizeNamed step
   reply-is = rw (file-is L name, entry-is L i)
 
-  given-none : (b : Bool) → bytesFrom (f .bytes) offset (cond b (record { verdict = v; count = n }) (notRead v) .count) ≡ cond b (bytesFrom (f .bytes) offset n) []
+  given-none : (b : Bool) → bytesFrom (f .bytes) offset (answered b v .count) ≡ cond b (bytesFrom (f .bytes) offset n) []
   unfolding bytesFrom
   given-none true = refl
   given-none false = refl
 
-  pub read-same : volumeAnswer (read name offset asked room) img ≡ answer (read name offset asked room) L
-  unfolding onVolume readGives readBy
+  pub read-same : volumeAnswer (read name offset asked time room space) img ≡ answer (read name offset asked time room space) L
+  unfolding onVolume readGives
   read-same =
       ap₂ gave answer-is
       (ap (λ n. fileBytes (catalogueOf (view img)) (view img) (indexOf (fileNamed (catalogueOf (view img)) name)) offset n) (ap (λ (r : BytesRead). r .count) answer-is)
-      ∙ ap (λ (x : Catalogue). fileBytes (catalogueOf (view img)) (view img) (indexOf (fileNamed x name)) offset (answered .count)) (cat-is L img rep)
-      ∙ given-bytes (answered .count) refl ∙ given-none (isDone v))
-      ∙ answers (step (read name offset asked room) L)
-      (λ b w. gave (cond b (record { verdict = w; count = n }) (notRead w)) (cond b (bytesFrom (f .bytes) offset n) []))
-      reply-is (λ m. ap (refused m) reply-is) v conditions-are
+      ∙ ap (λ (x : Catalogue). fileBytes (catalogueOf (view img)) (view img) (indexOf (fileNamed x name)) offset (answered (isDone v) v .count)) (cat-is L img rep)
+      ∙ given-bytes (answered (isDone v) v .count) refl ∙ given-none (isDone v))
+      ∙ answers (step (read name offset asked time room space) L)
+      (λ b w. gave (answered b w) (cond b (bytesFrom (f .bytes) offset n) []))
+      reply-is (λ m. ap (refused m) reply-is) v (own-is L img rep (read name offset asked time room space) conditions plan space (recordCount 0 1) read-judges)

@@ -4,7 +4,7 @@ use mathlib.Core.Path.{_≡_, refl, ap, _∙_}
 use mathlib.Core.Logic.{_≢_}
 use mathlib.Core.Bool.{Bool, false, cond}
 use mathlib.Core.List.{List, []}
-use mathlib.Core.Option.{Option, none}
+use mathlib.Core.Option.{Option, none, some}
 use lib.ListN.{length}
 use borrow.Author.Tests.{ne-eqb}
 use Rattle.model.specs.declared.Verdict.{Verdict}
@@ -17,8 +17,8 @@ use Rattle.model.specs.Catalogue.{catalogueOf, fileNamed, entryOf, fileBytes}
 use Rattle.model.specs.WriteList.{Plan, Decision, groupsFor, listLength, ownVerdict, decided, answerOf, listAfter}
 use Rattle.model.specs.Summary.{checkAnswer}
 use Rattle.model.specs.Find.{nameConditions, notFound, foundBy, findAnswer}
-use Rattle.model.specs.Listing.{notListed, listedBy, copiedBy, listVerdict, listAnswer, listCopies, listOutput}
-use Rattle.model.specs.Read.{notRead, readConditions, readBy, readAnswer, readGives, readOutput}
+use Rattle.model.specs.Listing.{notListed, listPlan, listDecision, listedOf, copiedOf, listAnswer, listCopies, listOutput, listingList}
+use Rattle.model.specs.Read.{notRead, readPlan, readDecision, readOf, readAnswer, readGives, readOutput, readList}
 use Rattle.model.specs.Create.{createDecision, createAnswer, createList}
 use Rattle.model.specs.Delete.{deleteDecision, deleteAnswer, deleteList}
 use Rattle.model.specs.Resize.{resizeDecision, resizeAnswer, resizeList}
@@ -66,30 +66,28 @@ module _ (img : List ℕ) (ne : checkAnswer (length img) (view img) .verdict .nu
   refuses-find name =
       ap (λ (u : Verdict). foundBy u (catalogueOf d) name) (refused-then v (verdictOf (nameConditions (catalogueOf d) name)) no) ∙ given-refused v _ notFound no
 
-  list-by : (i room : ℕ) → listVerdict (length img) (view img) i room ≡ judged (length img) (view img)
-  unfolding listVerdict
-  list-by i room = refused-then v _ no
+  -- list and read decide nothing too, so that they give nothing
+  refuses-list : (i time : ℕ) (out list : List ℕ)
+      → (listAnswer (length img) (view img) i time (length out) (length list) ≡ notListed (judged (length img) (view img)))
+      × (listOutput (length img) (view img) i time out (length list) ≡ out) × (listingList (length img) (view img) i time (length out) list ≡ list)
+  unfolding listAnswer listDecision listedOf listOutput listCopies copiedOf listingList
+  refuses-list i time out list =
+      let x = decides _ (some (listPlan (catalogueOf d) d time)) (length list) in (
+        ap (λ (y : Decision). listedOf y d i) x ∙ given-refused v _ notListed no,
+        ap (λ (y : Decision). put out 0 (copiedOf y d i)) x ∙ ap (put out 0) (given-refused v (entryOf (catalogueOf d) i .name) (λ u. []) no) ∙ put-nil out 0,
+        refuses-change _ list x .1,
+      )
 
-  refuses-list : (i : ℕ) (out : List ℕ)
-      → (listAnswer (length img) (view img) i (length out) ≡ notListed (judged (length img) (view img))) × (listOutput (length img) (view img) i out ≡ out)
-  unfolding listAnswer listedBy listOutput listCopies copiedBy
-  refuses-list i out = (
-    ap (λ (u : Verdict). listedBy u (catalogueOf d) i) (list-by i (length out)) ∙ given-refused v _ notListed no,
-    ap (λ (u : Verdict). put out 0 (copiedBy u (catalogueOf d) i)) (list-by i (length out))
-        ∙ ap (put out 0) (given-refused v (entryOf (catalogueOf d) i .name) (λ u. []) no) ∙ put-nil out 0,
-  )
-
-  refuses-read : (name : List ℕ) (offset asked room : ℕ) → readAnswer (length img) (view img) name offset asked room ≡ notRead (judged (length img) (view img))
-  unfolding readAnswer readBy
-  refuses-read name offset asked room =
-      ap (λ (u : Verdict). readBy u (catalogueOf d) name offset asked) (refused-then v (verdictOf (readConditions (catalogueOf d) name offset asked room)) no)
-      ∙ given-refused v _ notRead no
-
-  gives-nothing : (name : List ℕ) (offset asked : ℕ) (out : List ℕ) → readOutput (length img) (view img) name offset asked out ≡ out
-  unfolding readOutput readGives fileBytes tabulate
-  gives-nothing name offset asked out =
-      ap (λ (r : BytesRead). put out 0 (fileBytes (catalogueOf d) d (indexOf (fileNamed (catalogueOf d) name)) offset (r .count))) (refuses-read name offset asked (length out))
-      ∙ put-nil out 0
+  refuses-read : (name : List ℕ) (offset asked time : ℕ) (out list : List ℕ)
+      → (readAnswer (length img) (view img) name offset asked time (length out) (length list) ≡ notRead (judged (length img) (view img)))
+      × (readOutput (length img) (view img) name offset asked time out (length list) ≡ out)
+      × (readList (length img) (view img) name offset asked time (length out) list ≡ list)
+  unfolding readAnswer readDecision readOf readOutput readGives fileBytes tabulate readList
+  refuses-read name offset asked time out list =
+      let i = indexOf (fileNamed (catalogueOf d) name) in
+      let x = decides _ (some (readPlan (catalogueOf d) d i time)) (length list) in
+      let e = ap (λ (y : Decision). readOf y d name offset asked) x ∙ given-refused v _ notRead no in
+      (e, ap (λ (r : BytesRead). put out 0 (fileBytes (catalogueOf d) d i offset (r .count))) e ∙ put-nil out 0, refuses-change _ list x .1)
 
   -- EVERY CALL ANSWERS WHAT CHECK DOES
   pub refused-alike : RefusedWith (checkAnswer (length img) (view img) .verdict) img
@@ -99,7 +97,7 @@ module _ (img : List ℕ) (ne : checkAnswer (length img) (view img) .verdict .nu
     check = refl;
     find = refuses-find;
     list = refuses-list;
-    read = λ name offset asked out. (refuses-read name offset asked (length out), gives-nothing name offset asked out);
+    read = refuses-read;
     create = λ name id mode time list. refuses-change _ list (decides _ _ (length list));
     delete = λ name time list. refuses-change _ list (decides _ _ (length list));
     resize = λ name size time list. refuses-change _ list (decides _ _ (length list));

@@ -27,7 +27,7 @@ use Rattle.model.specs.Run.{volumeAnswer, onVolume}
 use Rattle.laws.proofs.Bytes.{length-zeroSector}
 use Rattle.laws.proofs.Entry.{new-name-good}
 use Rattle.laws.proofs.Disk.{length-view}
-use Rattle.safety.proofs.OwnWords.{named-is, name-is, new-name-is, file-is}
+use Rattle.safety.proofs.OwnWords.{named-is, time-is, name-is, new-name-is, file-is}
 use Rattle.safety.proofs.Searches.{place-found, place-none, or-right-no, same-refl, same-true}
 use Rattle.safety.proofs.Apply.{over, over-append, over-skip, over-here, over-none, All}
 use Rattle.safety.proofs.Order.{Reordered, swapped, behind, again, to-end, over-reordered, rising-own}
@@ -36,7 +36,7 @@ use Rattle.safety.proofs.Commit.{Ready, uncut, ready-uncut}
 use Rattle.laws.proofs.WriteList.{length-groups}
 use Rattle.safety.proofs.Frame.{Shows, done-shows, stored-shows, stored-ready}
 use Rattle.safety.proofs.Bounds.{copies-fit, count-waits}
-use Rattle.safety.proofs.Rep.{Rep, rep-geometry}
+use Rattle.safety.proofs.Rep.{Rep, Timely, timely, rep-geometry}
 use Rattle.safety.proofs.Changing.{Passed, Carries, Carried, effect-changing, Decides, same-changing}
 use Rattle.safety.proofs.Preserved.{part-keeps}
 use Rattle.safety.proofs.Fields.{length-updatedRootSector, length-renamedEntrySector}
@@ -45,7 +45,7 @@ use Rattle.safety.proofs.Read.{file-there}
 use Rattle.safety.proofs.FreedTable.{freed, length-freed, freed-few, freed-metadata, freed-whole, freed-rising, before-table}
 use Rattle.safety.proofs.FreedSlot.{rep-freed}
 use Rattle.safety.proofs.KeptFile.{name-apart}
-use Rattle.safety.proofs.RenamedSlot.{rep-renamed}
+use Rattle.safety.proofs.RewrittenEntry.{rep-renamed}
 use Rattle.safety.proofs.Induction.{Effect}
 
 -- the name of a file that has it
@@ -64,7 +64,7 @@ module _ (L : Ledger) (img : List ℕ) (rep : Rep L img) (old new : List ℕ) (t
   f = fileOr (L .slots (indexOf (fileNamed (catalogue L) old)))
 
   abbrev conditions : Catalogue → Conditions
-  conditions x = renameConditions x old new
+  conditions x = renameConditions x old new time
 
   abbrev plan : Catalogue → Option Plan
   plan x = renamePlanned x (view img) old new time
@@ -77,10 +77,10 @@ module _ (L : Ledger) (img : List ℕ) (rep : Rep L img) (old new : List ℕ) (t
   records = renamedRecords L old new
 
   abbrev w1 : Record
-  w1 = sectorWrite rootAt (updatedRootSector time (view img rootAt))
+  w1 = sectorWrite rootAt (updatedRootSector (L .geometry .edition) time (view img rootAt))
 
   abbrev w2 : Record
-  w2 = renamedRecord (view img) (indexOf (fileNamed (catalogue L) old)) new time
+  w2 = renamedRecord (catalogue L) (view img) (indexOf (fileNamed (catalogue L) old)) new time
 
   abbrev zeroed : ℕ → Record
   zeroed j = sectorWrite (entryAt j) zeroSector
@@ -103,8 +103,8 @@ module _ (L : Ledger) (img : List ℕ) (rep : Rep L img) (old new : List ℕ) (t
       go false (At j) = length-groups _ (view img) (planAt (At j)) ∙ ap (λ n. recordCount 0 n * recordSize) (length-both (ltb i j) j)
 
   decides : Decides L img (rename old new time room) conditions plan room records
-  unfolding onVolume renameDecision step renameConditions
-  decides = record { volume = refl; reply = refl; conditions = rw (name-is old, new-name-is new, named-is L old); refusing = refl; size = size }
+  unfolding onVolume renameDecision step renameConditions catalogue
+  decides = record { volume = refl; reply = refl; judges = record { conditions = rw (time-is L time, name-is L old, new-name-is L new, named-is L old); refusing = refl; size = size } }
 
   pub rename-same : volumeAnswer (rename old new time room) img ≡ answer (rename old new time room) L
   rename-same = same-changing L img rep _ _ _ room records decides
@@ -112,27 +112,31 @@ module _ (L : Ledger) (img : List ℕ) (rep : Rep L img) (old new : List ℕ) (t
   geo : UsableGeometry (L .geometry)
   geo = rep-geometry L img rep
 
-  module _ (ht : time < 2 ^ 32) (passed : Passed (renameConditions (catalogue L) old new)) where
+  module _ (ht : time < 2 ^ 64) (passed : Passed (renameConditions (catalogue L) old new time)) where
     -- ---- what the conditions say
 
-    good : badName new ≡ false
+    fitting : Timely L time
     unfolding renameConditions
-    good = new-name-good new (or-right-no (badName old) (badNewName new) (passed .0))
+    fitting = timely L time (passed .0) ht
+
+    good : badName (L .geometry .edition) new ≡ false
+    unfolding renameConditions catalogue
+    good = new-name-good (L .geometry .edition) new (or-right-no (badName (L .geometry .edition) old) (badNewName (L .geometry .edition) new) (passed .1 .0))
 
     found : (i < L .geometry .files) × (hasName old (catalogue L .entries i) ≡ true)
     unfolding renameConditions fileNamed catalogue
-    found = place-found (λ k. hasName old (c .entries k)) (L .geometry .files) (not-false (isAt (fileNamed c old)) (passed .1 .0))
+    found = place-found (λ k. hasName old (c .entries k)) (L .geometry .files) (not-false (isAt (fileNamed c old)) (passed .1 .1 .0))
 
     there : L .slots i ≡ some f
     unfolding catalogue
     there = file-there (L .slots i) old (found .1)
 
     whole-root : length (w1 .contents) ≡ 512
-    whole-root = length-updatedRootSector time (view img rootAt) ∙ length-view img rootAt
+    whole-root = length-updatedRootSector (L .geometry .edition) time (view img rootAt) ∙ length-view img rootAt
 
     whole-entry : length (w2 .contents) ≡ 512
     unfolding renamedRecord
-    whole-entry = length-renamedEntrySector new time (view img (entryAt i)) ∙ length-view img (entryAt i)
+    whole-entry = length-renamedEntrySector (catalogue L .geometry .edition) new time (view img (entryAt i)) ∙ length-view img (entryAt i)
 
     -- ---- no file has the new name
 
@@ -142,7 +146,7 @@ module _ (L : Ledger) (img : List ℕ) (rep : Rep L img) (old new : List ℕ) (t
       unused = place-none (λ k. hasName new (c .entries k)) (L .geometry .files) (ap isAt nowhere)
 
       fits-new : WellFormed (L .geometry) (planAt Nowhere)
-      unfolding renamePlan renamedRecord
+      unfolding renamePlan renamedRecord catalogue
       fits-new =
           let l : i < L .geometry .files = found .0 in
           record {
@@ -159,9 +163,9 @@ module _ (L : Ledger) (img : List ℕ) (rep : Rep L img) (old new : List ℕ) (t
           }
 
       done-new : Rep (replaced L (updatedRoot time (L .root)) i (some (renamedFile new time f))) (uncut (L .geometry) img (planAt Nowhere))
-      unfolding renamePlan
+      unfolding renamePlan catalogue
       done-new =
-          rep-renamed L img rep i f there new good (λ k l ne. unused k l) time ht _ (ready-uncut (L .geometry) img (planAt Nowhere) geo fits-new (rep .ready))
+          rep-renamed L img rep i f there new good (λ k l ne. unused k l) time fitting _ (ready-uncut (L .geometry) img (planAt Nowhere) geo fits-new (rep .ready))
           (done-shows (L .geometry) (planAt Nowhere) geo fits-new img (rep .ready))
 
     -- ---- file j has it, and is another
@@ -236,7 +240,7 @@ module _ (L : Ledger) (img : List ℕ) (rep : Rep L img) (old new : List ℕ) (t
           }
 
       fits : WellFormed (L .geometry) p
-      unfolding renamePlan replacingRecords
+      unfolding renamePlan replacingRecords catalogue
       fits = fits-both (ltb i j) refl
 
       -- ---- the step between: slot j freed, and the root as it was
@@ -272,7 +276,7 @@ module _ (L : Ledger) (img : List ℕ) (rep : Rep L img) (old new : List ℕ) (t
       rep-between =
           let m : j < L .geometry .files = found-new .0 in
           rep-freed L img rep j (L .root) refl (zeroed j ∷ []) low between ready-between shows-between
-          (ap rootIn (kept 1 (omega arith) (λ e. omega arith) (λ e. omega arith)) ∙ rep .says .root)
+          (ap (rootIn (L .geometry .edition)) (kept 1 (omega arith) (λ e. omega arith) (λ e. omega arith)) ∙ rep .says .root)
           (before-table L img j 0 rep (zeroed j ∷ []) low between ready-between shows-between (entryAt j) (omega arith) (λ e. omega arith) ∙ over-here (zeroed j) [] _ ∙ over-none (entryAt j) _)
           (λ k l ne. kept (entryAt k) (omega arith) (λ e. omega arith) (λ e. ne (omega arith)))
 
@@ -292,23 +296,23 @@ module _ (L : Ledger) (img : List ℕ) (rep : Rep L img) (old new : List ℕ) (t
       reorder false = again (behind swapped) (again swapped (again (behind (to-end w1 freeing)) (to-end w2 (freeing ++ (w1 ∷ [])))))
 
       shows-last : Shows (L .geometry) (w1 ∷ w2 ∷ []) between (uncut (L .geometry) img p)
-      unfolding renamePlan replacingRecords
+      unfolding renamePlan replacingRecords catalogue
       shows-last k o ne =
           done-shows (L .geometry) p geo fits img (rep .ready) k o ne
           ∙ over-reordered (reorder (ltb i j)) (rising-own (p .targets) 0 (fits .rising)) k _
           ∙ over-append (freeing ++ (w1 ∷ [])) (w2 ∷ []) k _ ∙ ap (over (w2 ∷ []) k) (over-append freeing (w1 ∷ []) k _)
           ∙ sym (over-append (w1 ∷ []) (w2 ∷ []) k _) ∙ ap (over (w1 ∷ w2 ∷ []) k) (sym (shows-between k o ne))
 
-      same-writes : (w1 ∷ w2 ∷ []) ≡ (sectorWrite rootAt (updatedRootSector time (view between rootAt)) ∷ renamedRecord (view between) i new time ∷ [])
-      unfolding renamedRecord
+      same-writes : (w1 ∷ w2 ∷ []) ≡ (sectorWrite rootAt (updatedRootSector (L .geometry .edition) time (view between rootAt)) ∷ renamedRecord (catalogue M) (view between) i new time ∷ [])
+      unfolding renamedRecord catalogue
       same-writes =
           let l : i < L .geometry .files = found .0 in
-          sym (ap₂ (λ (r s : List ℕ). sectorWrite rootAt (updatedRootSector time r) ∷ renamedRecord (λ k. s) i new time ∷ [])
+          sym (ap₂ (λ (r s : List ℕ). sectorWrite rootAt (updatedRootSector (L .geometry .edition) time r) ∷ renamedRecord (catalogue L) (λ k. s) i new time ∷ [])
           (kept rootAt (omega arith) (λ e. omega arith) (λ e. omega arith)) (kept (entryAt i) (omega arith) (λ e. omega arith) (λ e. apart (omega arith))))
 
       done-both : Rep (replaced M (updatedRoot time (L .root)) i (some (renamedFile new time f))) (uncut (L .geometry) img p)
       done-both =
-          rep-renamed M between rep-between i f has new good (λ k l ne. free-name k l) time ht _ (ready-uncut (L .geometry) img p geo fits (rep .ready))
+          rep-renamed M between rep-between i f has new good (λ k l ne. free-name k l) time fitting _ (ready-uncut (L .geometry) img p geo fits (rep .ready))
           (subst (λ (ws : Group). Shows (L .geometry) ws between (uncut (L .geometry) img p)) same-writes shows-last)
 
     -- ---- the plan, or none for a name renamed to itself
@@ -342,5 +346,5 @@ module _ (L : Ledger) (img : List ℕ) (rep : Rep L img) (old new : List ℕ) (t
         go false e = carries (fileNamed (catalogue L) new) refl e
 
   -- what rename does
-  pub rename-effect : time < 2 ^ 32 → Effect Rep (rename old new time room) L img
+  pub rename-effect : time < 2 ^ 64 → Effect Rep (rename old new time room) L img
   rename-effect ht = effect-changing L img rep _ _ _ room records decides (λ passed. carried ht passed)

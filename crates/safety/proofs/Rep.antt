@@ -1,9 +1,9 @@
 -- THE INVARIANT of a run: what an image and the ledger have in common between two calls. It follows that a sound volume opens, and
--- what summary, check, find and list answer. Assumes nothing.
-use Prim.Native.Nat.{ℕ, _<_}
+-- what summary, check and find answer. Assumes nothing.
+use Prim.Native.Nat.{ℕ, _^_, _<_}
 use mathlib.Core.Path.{_≡_, refl, sym, ap, _∙_, fun-ext}
 use mathlib.Core.Bool.{Bool, true, false, cond, not, _&&_, _||_, true≢false}
-use mathlib.Core.List.{List, []}
+use mathlib.Core.List.{List}
 use lib.ListN.{length}
 use mathlib.Core.Option.{some, Option, none, Option·none-ne-some}
 use lib.Dec.{eqb, ltb}
@@ -17,6 +17,7 @@ use Rattle.model.specs.Search.{first, isAt, indexOf}
 use Rattle.model.specs.Geometry.{rootAt, extentsFor, superblockAt, entryAt}
 use Rattle.model.specs.Disk.{Disk, view}
 use Rattle.model.specs.Superblock.{geometryIn}
+use Rattle.model.specs.Edition.{layoutOf, badTime}
 use Rattle.model.specs.Root.{rootIn}
 use Rattle.model.specs.Entry.{entryField, entryIn, isOccupied, fieldsOf}
 use Rattle.model.specs.Catalogue.{Catalogue, catalogueOf, fileByte, fileBytes, entryOf, fileNamed, isFree}
@@ -24,13 +25,13 @@ use Rattle.model.specs.Faults.{fault21, fault22, fault23, fault24, fault25, fau
 use Rattle.model.specs.Refusals.{verdictOf, andThen, given, done, refusal, stateNumber, faultVerdict, soundVerdict, judged, imageVerdict}
 use Rattle.model.specs.Summary.{noSummary, summaryAnswer, checkAnswer}
 use Rattle.model.specs.Find.{nameConditions, foundBy, findAnswer, notFound}
-use Rattle.model.specs.Listing.{listConditions, listVerdict, listedBy, copiedBy, listAnswer, listCopies, notListed}
-use Rattle.model.specs.Ledger.{Ledger, File, fileOr, positionAmong, holderOf, catalogue, summary, check, find, list, summarized, checked, found, listed, entryOfFile, entryFields, lowest, step, answer}
+use Rattle.model.specs.Ledger.{Ledger, File, fileOr, positionAmong, holderOf, catalogue, summary, check, find, summarized, checked, found, entryOfFile, entryFields, lowest, step, answer}
 use Rattle.model.specs.Run.{volumeAnswer, onVolume}
 use Rattle.model.specs.Demand3.{Says}
 use Rattle.model.specs.Opened.{Bounded}
+use Rattle.laws.proofs.Edition.{FitsTimes, time-fits}
 use Rattle.laws.proofs.Search.{first-none, length-tabulate}
-use Rattle.safety.proofs.OwnWords.{free-if, named-is, entry-is, entry-named, named-conditions, answers}
+use Rattle.safety.proofs.OwnWords.{named-is, entry-named, named-conditions, answers}
 use Rattle.safety.proofs.Superblock.{volume-accepted}
 use Rattle.safety.proofs.Plan.{UsableGeometry}
 use Rattle.safety.proofs.Commit.{Ready}
@@ -66,13 +67,21 @@ pub record Rep (L : Ledger) (img : List ℕ) : Type 0 where
   pub disjoint : Disjoint L
   pub sized : Sized L
 
+-- a time fits the fields of the ledger's edition: so does one that the conditions of a call let pass
+abbrev pub Timely : Ledger → ℕ → Type 0
+Timely L time = FitsTimes (layoutOf (L .geometry .edition)) time
+
+pub timely : (L : Ledger) (time : ℕ) → badTime (catalogue L .geometry .edition) time ≡ false → time < 2 ^ 64 → Timely L time
+unfolding catalogue
+timely L time good h = time-fits (L .geometry .edition) time good h
+
 -- a slot's mark, where it is one of the two values and the directory says what the ledger says; and back
 mark-said : (L : Ledger) (d : Disk) → geometryIn (d superblockAt) ≡ L .geometry → (i : ℕ) → i < L .geometry .files → fault21 d i ≡ false
     → catalogueOf d .entries i ≡ catalogue L .entries i → numberIn (d (entryAt i)) (entryField .mark) ≡ cond (isFree (L .slots i)) 0 65535
 unfolding fault21 isOccupied catalogueOf catalogue
 mark-said L d g i l h e =
     go (eqb m 65535) (L .slots i) refl h
-    (ap (λ (b : Bool). cond (b && eqb m 65535) (some (entryIn (d (entryAt i)))) none) (sym (lt-ltb i _ l) ∙ ap (λ (x : Geometry). ltb i (x .files)) (sym g)) ∙ e)
+    (ap (λ (b : Bool). cond (b && eqb m 65535) (some (entryIn (geometryIn (d superblockAt) .edition) (d (entryAt i)))) none) (sym (lt-ltb i _ l) ∙ ap (λ (x : Geometry). ltb i (x .files)) (sym g)) ∙ e)
   where
     m : ℕ
     m = numberIn (d (entryAt i)) (entryField .mark)
@@ -81,7 +90,8 @@ mark-said L d g i l h e =
     free true q k = eqb-true m 0 q
     free false q k = absurd (true≢false k)
 
-    go : (b : Bool) (o : Option File) → eqb m 65535 ≡ b → not (eqb m 0 || b) ≡ false → cond b (some (entryIn (d (entryAt i)))) none ≡ entryOfFile o → m ≡ cond (isFree o) 0 65535
+    go : (b : Bool) (o : Option File) → eqb m 65535 ≡ b → not (eqb m 0 || b) ≡ false
+        → cond b (some (entryIn (geometryIn (d superblockAt) .edition) (d (entryAt i)))) none ≡ entryOfFile o → m ≡ cond (isFree o) 0 65535
     go true (some f) q k n = eqb-true m 65535 q
     go true none q k n = absurd (Option·none-ne-some _ (sym n))
     go false (some f) q k n = absurd (Option·none-ne-some _ n)
@@ -96,7 +106,7 @@ no-mark-fault L img s i l = ap (λ (m : ℕ). not (eqb m 0 || eqb m 65535)) (s .
     go false = refl
 
 -- what is left to say of a ready image
-pub says-of : (L : Ledger) (img : List ℕ) → Ready (L .geometry) img → rootIn (view img rootAt) ≡ L .root
+pub says-of : (L : Ledger) (img : List ℕ) → Ready (L .geometry) img → rootIn (L .geometry .edition) (view img rootAt) ≡ L .root
     → ((i : ℕ) → i < L .geometry .files → fault21 (view img) i ≡ false)
     → ((i : ℕ) → catalogueOf (view img) .entries i ≡ catalogue L .entries i)
     → ((e : ℕ) → catalogueOf (view img) .table e ≡ catalogue L .table e)
@@ -118,7 +128,8 @@ says-of L img ready root marks directory table bytes = record {
 pub catalogue-is : (L : Ledger) (img : List ℕ) → Says L img → catalogueOf (view img) ≡ catalogue L
 unfolding catalogueOf catalogue
 catalogue-is L img s =
-    λ i. record { geometry = s .geometry i; root = s .root i; entries = fun-ext (s .directory) i; table = fun-ext (s .table) i }
+    let root = ap (λ (g : Geometry). rootIn (g .edition) (view img rootAt)) (s .geometry) ∙ s .root in
+    λ i. record { geometry = s .geometry i; root = root i; entries = fun-ext (s .directory) i; table = fun-ext (s .table) i }
 
 -- "check gives 0": the ledger's catalogue decides
 pub sound-of : (d : Disk) (c : Catalogue) → catalogueOf d ≡ c → ((i : ℕ) → i < c .geometry .files → fault21 d i ≡ false) → NoFaults c → firstFault d ≡ Sound
@@ -182,12 +193,3 @@ module _ (L : Ledger) (img : List ℕ) (rep : Rep L img) where
     where
       at : ℕ
       at = indexOf (fileNamed (catalogue L) name)
-
-  pub list-same : (k room : ℕ) → volumeAnswer (list k room) img ≡ answer (list k room) L
-  unfolding onVolume step listAnswer listCopies listVerdict listedBy copiedBy listConditions catalogue entryFields fieldsOf
-  list-same k room =
-      (λ i. let v = andThen (opens i) (verdictOf (listConditions (cat-is i) k room)) in listed (listedBy v (cat-is i) k) (copiedBy v (cat-is i) k))
-      ∙ answers (step (list k room) L)
-      (λ b v. let e = entryOf (catalogue L) k in listed (cond b (record { verdict = v; fields = fieldsOf e }) (notListed v)) (cond b (e .name) []))
-      (rw (entry-is L k)) (λ n. refl)
-      (verdictOf (listConditions (catalogue L) k room)) (rw (free-if (L .slots k), entry-is L k))

@@ -317,7 +317,8 @@ module _ (img : List ℕ) (room : ℕ) (checks : checkAnswer (length img) (view 
   unfolding catalogueOf
   inside i x q = go (ltb i (s .geometry .files)) refl q
     where
-      go : (b : Bool) → ltb i (s .geometry .files) ≡ b → cond (b && isOccupied (view img (entryAt i))) (some (entryIn (view img (entryAt i)))) none ≡ some x → i < s .geometry .files
+      go : (b : Bool) → ltb i (s .geometry .files) ≡ b
+          → cond (b && isOccupied (view img (entryAt i))) (some (entryIn (s .geometry .edition) (view img (entryAt i)))) none ≡ some x → i < s .geometry .files
       go true e z = ltb-true i (s .geometry .files) e
       go false e z = absurd (Option·none-ne-some x z)
 

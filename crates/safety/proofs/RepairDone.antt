@@ -247,7 +247,7 @@ module _ (img : List ℕ) where
         long = length-stored (closed (groupsOf g (view img) p)) img;
         says = λ i. record {
           geometry = again .volume .geometry i;
-          root = ap rootIn (ahead 1 (omega arith) (omega arith)) i;
+          root = ap₂ (λ (x : Geometry) (s : List ℕ). rootIn (x .edition) s) (again .volume .geometry) (ahead 1 (omega arith) (omega arith)) i;
           entries = fun-ext (λ k. entries-keep g (view img) (view out) refl (again .volume .geometry) k (λ l. ahead (entryAt k) (omega arith) (omega arith))) i;
           table = fun-ext (λ e. by.table-after g img (isStray c) out refl (again .volume .geometry) (λ t l. shows (tableAt g + t) (table-out t l) (λ z. omega arith)) e) i;
         };
@@ -277,7 +277,7 @@ module _ (img : List ℕ) where
         long = length-stored (partOf k m (A g p)) img;
         says = λ i. record {
           geometry = again .volume .geometry i;
-          root = ap rootIn (equalBytes 1 (out-front g geo 1 (omega arith))) i;
+          root = ap₂ (λ (x : Geometry) (s : List ℕ). rootIn (x .edition) s) (again .volume .geometry) (equalBytes 1 (out-front g geo 1 (omega arith))) i;
           entries = fun-ext (λ j. entries-keep g (view img) (view end) refl (again .volume .geometry) j (λ l. equalBytes (entryAt j) (out-front g geo (entryAt j) (omega arith)))) i;
           table = fun-ext (λ e. table-keep g (view img) (view end) refl (again .volume .geometry) e (λ l. equalBytes (tableSectorOf g e) (out-table g geo e l))) i;
         };

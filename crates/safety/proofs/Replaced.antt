@@ -129,7 +129,7 @@ module _ (L : Ledger) (root : Root) (i : ℕ) (f : Option File) where
   -- what is asked of the new slot; of a free one nothing but the last three, which speak of the table
   pub record Admissible : Type 0 where
     pub root-id : root .id ≡ L .root .id
-    pub entry : holdsOf (entryOfFile f) (λ e. badName (e .name) || ltb (usable (L .geometry) * extentBytes (L .geometry)) (e .size)) ≡ false
+    pub entry : holdsOf (entryOfFile f) (λ e. badName (L .geometry .edition) (e .name) || ltb (usable (L .geometry) * extentBytes (L .geometry)) (e .size)) ≡ false
     pub id : holdsOf (entryOfFile f) (λ e. eqb (e .id) 0 || eqb (e .id) (L .root .id)) ≡ false
     pub names : (k : ℕ) → k < L .geometry .files → k ≢ i → holdsOf (entryOfFile f) (λ e. hasName (e .name) (catalogue L .entries k)) ≡ false
     pub ids : (k : ℕ) → k < L .geometry .files → k ≢ i → holdsOf (entryOfFile f) (λ e. hasId (e .id) (catalogue L .entries k)) ≡ false
@@ -148,7 +148,7 @@ module _ (L : Ledger) (root : Root) (i : ℕ) (f : Option File) where
     f22 : (k : ℕ) → k < L .geometry .files → fault22 c′ k ≡ false
     unfolding fault22 catalogue
     f22 k l =
-        by-slot (λ (o : Option Entry). holdsOf o (λ e. badName (e .name) || ltb (usable (L .geometry) * extentBytes (L .geometry)) (e .size)) ≡ false) k
+        by-slot (λ (o : Option Entry). holdsOf o (λ e. badName (L .geometry .edition) (e .name) || ltb (usable (L .geometry) * extentBytes (L .geometry)) (e .size)) ≡ false) k
         (λ z. a .entry) (λ ne. h .f22 k l)
 
     f23 : (k : ℕ) → k < L .geometry .files → fault23 c′ k ≡ false

@@ -24,11 +24,11 @@ use Rattle.model.specs.Ledger.{Ledger, File, fileOr, entryOfFile, catalogue, re
 use Rattle.model.specs.Run.{volumeAnswer, onVolume}
 use Rattle.laws.proofs.Bytes.{length-bytesFrom}
 use Rattle.laws.proofs.Search.{length-tabulate, getD-tab0}
-use Rattle.safety.proofs.OwnWords.{named-is, unheld-is, file-is, entry-named, name-is, zeros-are}
+use Rattle.safety.proofs.OwnWords.{named-is, unheld-is, file-is, entry-named, time-is, name-is, zeros-are}
 use Rattle.safety.proofs.Searches.{place-found, or-right-no}
 use Rattle.safety.proofs.Plan.{A}
 use Rattle.safety.proofs.Commit.{partOf, uncut}
-use Rattle.safety.proofs.Rep.{Rep, bytes-length}
+use Rattle.safety.proofs.Rep.{Rep, Timely, timely, bytes-length}
 use Rattle.safety.proofs.Changing.{Passed, Carries, Carried, effect-changing, Decides, same-changing}
 use Rattle.safety.proofs.Read.{file-there, size-is}
 use Rattle.safety.proofs.Write.{partlyWrittenFile, writing, write-length, Writes, writes-carried}
@@ -70,7 +70,7 @@ module _ (L : Ledger) (img : List ℕ) (rep : Rep L img) (name : List ℕ) (z ti
   end = zeros (z - old .entry .size)
 
   abbrev conditions : Catalogue → Conditions
-  conditions x = resizeConditions x name z
+  conditions x = resizeConditions x name z time
 
   abbrev plan : Catalogue → Option Plan
   plan x = resizePlanned x (view img) (indexOf (fileNamed x name)) z time
@@ -97,9 +97,11 @@ module _ (L : Ledger) (img : List ℕ) (rep : Rep L img) (name : List ℕ) (z ti
   decides = record {
     volume = refl;
     reply = refl;
-    conditions = rw (name-is name, named-is L name, entry-named L name, unheld-is L);
-    refusing = refl;
-    size = size;
+    judges = record {
+      conditions = rw (time-is L time, name-is L name, named-is L name, entry-named L name, unheld-is L);
+      refusing = refl;
+      size = size;
+    };
   }
 
   pub resize-same : volumeAnswer (resize name z time room) img ≡ answer (resize name z time room) L
@@ -113,12 +115,16 @@ module _ (L : Ledger) (img : List ℕ) (rep : Rep L img) (name : List ℕ) (z ti
   unfolding entryOf catalogue
   size-of = size-is (L .slots i)
 
-  module _ (ht : time < 2 ^ 32) (passed : Passed (resizeConditions (catalogue L) name z)) where
+  module _ (ht : time < 2 ^ 64) (passed : Passed (resizeConditions (catalogue L) name z time)) where
     -- ---- what the conditions say
+
+    fitting : Timely L time
+    unfolding resizeConditions
+    fitting = timely L time (passed .0) ht
 
     named : isAt (fileNamed (catalogue L) name) ≡ true
     unfolding resizeConditions
-    named = not-false (isAt (fileNamed c name)) (passed .1 .0)
+    named = not-false (isAt (fileNamed c name)) (passed .1 .1 .0)
 
     found : (i < L .geometry .files) × (hasName name (entryOfFile (L .slots i)) ≡ true)
     unfolding fileNamed catalogue
@@ -129,14 +135,14 @@ module _ (L : Ledger) (img : List ℕ) (rep : Rep L img) (name : List ℕ) (z ti
 
     roomy : noRoom (catalogue L) i z ≡ false
     unfolding resizeConditions
-    roomy = passed .1 .1 .0
+    roomy = passed .1 .1 .1 .0
 
     grown-most : z ≤ old .entry .size + longestTransfer
     unfolding resizeConditions sizeNamed
     grown-most =
         let e = size-of in
         let q : ltb (entryOf (catalogue L) i .size + longestTransfer) z ≡ false =
-        sym (ap (λ (b : Bool). b && ltb (entryOf (catalogue L) i .size + longestTransfer) z) named) ∙ or-right-no (badName name) _ (passed .0) in
+        sym (ap (λ (b : Bool). b && ltb (entryOf (catalogue L) i .size + longestTransfer) z) named) ∙ or-right-no (badName (catalogue L .geometry .edition) name) _ (passed .1 .0) in
         let l : z ≤ entryOf (catalogue L) i .size + longestTransfer = ltb-false _ z q in
         omega arith
 
@@ -145,11 +151,11 @@ module _ (L : Ledger) (img : List ℕ) (rep : Rep L img) (name : List ℕ) (z ti
     shrinks : z < old .entry .size → Carries L img (resize name z time room) (shrinkPlan (catalogue L) (view img) i z time)
     unfolding step shrinkPlan
     shrinks less = record {
-      fits = shrink-fits L img i z time rep there (found .0) less ht;
+      fits = shrink-fits L img i z time rep there (found .0) less fitting;
       done = subst (λ (X : Ledger). Rep X (uncut (L .geometry) img (shrinkPlan (catalogue L) (view img) i z time)))
           (sym (done-is ∙ ap (λ (b : Bool). cond b (withFile L i (shrunk L i z time)) (afterWrite L i (old .entry .size) end time)) (lt-ltb z (old .entry .size) less)))
-          (shrink-done L img i z time rep there (found .0) less ht);
-      partly = λ k m. shrink-partly L img i z time rep there (found .0) less ht k m;
+          (shrink-done L img i z time rep there (found .0) less fitting);
+      partly = λ k m. shrink-partly L img i z time rep there (found .0) less fitting k m;
     }
 
     -- ---- growing
@@ -202,7 +208,7 @@ module _ (L : Ledger) (img : List ℕ) (rep : Rep L img) (name : List ℕ) (z ti
           go false e =
               let l = end-length in
               let m = grown-most in
-              grow (writes-carried L img i (old .entry .size) end time rep there (omega arith) (omega arith) (ap (noRoom (catalogue L) i) size-after ∙ roomy) ht) e
+              grow (writes-carried L img i (old .entry .size) end time rep there (omega arith) (omega arith) (ap (noRoom (catalogue L) i) size-after ∙ roomy) fitting) e
 
     carried : Carried L img (resize name z time room) (resizePlanned (catalogue L) (view img) i z time)
     unfolding resizePlanned
@@ -217,5 +223,5 @@ module _ (L : Ledger) (img : List ℕ) (rep : Rep L img) (name : List ℕ) (z ti
         go false e = grows-or-stays (ltb-false z (old .entry .size) e)
 
   -- what resize does
-  pub resize-effect : time < 2 ^ 32 → Effect Rep (resize name z time room) L img
+  pub resize-effect : time < 2 ^ 64 → Effect Rep (resize name z time room) L img
   resize-effect ht = effect-changing L img rep _ _ _ room records decides (λ passed. carried ht passed)

@@ -37,7 +37,7 @@ module _ (L : Ledger) (img : List ℕ) (root : Root) (i : ℕ) (f : Option File)
   -- what a call owes of the image that it leaves
   pub record Rewrites : Type 0 where
     pub ready : Ready (L .geometry) out
-    pub new-root : rootIn (view out rootAt) ≡ root
+    pub new-root : rootIn (L .geometry .edition) (view out rootAt) ≡ root
     -- the directory: entry i, and all others kept
     pub mark : fault21 (view out) i ≡ false
     pub entry : catalogueOf (view out) .entries i ≡ entryOfFile f

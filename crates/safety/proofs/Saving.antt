@@ -50,7 +50,7 @@ two-names img old new time room p e = go (equalBytes old new) refl
     d = view img
 
     cs : Conditions
-    cs = renameConditions (catalogueOf d) old new
+    cs = renameConditions (catalogueOf d) old new time
 
     go : (b : Bool) → equalBytes old new ≡ b → equalBytes old new ≡ false
     go true q =

@@ -1,6 +1,6 @@
 -- A shrinking resize of file i to size z: the plan is well-formed, and carried out, whole or in part, it leaves an image that represents
 -- the ledger in which slot i keeps its first bytes and extents, or the ledger as it was. Assumes nothing.
-use Prim.Native.Nat.{ℕ, suc, _+_, _*_, _/_, _%_, _^_, _≤_, _<_, min}
+use Prim.Native.Nat.{ℕ, suc, _+_, _*_, _/_, _%_, _≤_, _<_, min}
 use mathlib.Core.Path.{_≡_, refl, sym, ap, ap₂, _∙_, subst, fun-ext}
 use mathlib.Core.Logic.{_≢_}
 use mathlib.Core.Bool.{Bool, true, false, cond, not, _&&_}
@@ -32,7 +32,7 @@ use Rattle.safety.proofs.Commit.{Ready, partOf, uncut, ready-uncut}
 use Rattle.laws.proofs.WriteList.{length-groups}
 use Rattle.safety.proofs.Frame.{Shows, done-shows}
 use Rattle.safety.proofs.Bounds.{copies-fit, count-waits}
-use Rattle.safety.proofs.Rep.{Rep, rep-geometry, cat-is, catalogue-geometry}
+use Rattle.safety.proofs.Rep.{Rep, Timely, rep-geometry, cat-is, catalogue-geometry}
 use Rattle.safety.proofs.Preserved.{bytes-keep-at, part-keeps}
 use Rattle.safety.proofs.Fields.{length-updatedEntrySector}
 use Rattle.safety.proofs.Replaced.{among-and, replaced, Admissible}
@@ -94,7 +94,7 @@ module _ (L : Ledger) (img : List ℕ) (i z time : ℕ) where
   n = extentsFor (L .geometry) z
 
   abbrev w1 : Record
-  w1 = sectorWrite (entryAt i) (updatedEntrySector z time (view img (entryAt i)))
+  w1 = sectorWrite (entryAt i) (updatedEntrySector (L .geometry .edition) z time (view img (entryAt i)))
 
   abbrev table-writes : Group
   table-writes = freed L img i (extentsFor (L .geometry) z)
@@ -107,7 +107,7 @@ module _ (L : Ledger) (img : List ℕ) (i z time : ℕ) where
       ∙ ap (λ m. recordCount 0 m * recordSize)
       (let e : length table-writes ≡ sectorsFrom (catalogue L) i n = length-freed L img i n in let q : suc (length table-writes) ≡ 1 + sectorsFrom (catalogue L) i n = omega arith in q)
 
-  module _ (rep : Rep L img) (there : L .slots i ≡ some (fileOr (L .slots i))) (within : i < L .geometry .files) (less : z < fileOr (L .slots i) .entry .size) (ht : time < 2 ^ 32) where
+  module _ (rep : Rep L img) (there : L .slots i ≡ some (fileOr (L .slots i))) (within : i < L .geometry .files) (less : z < fileOr (L .slots i) .entry .size) (ht : Timely L time) where
     abbrev c : Catalogue
     c = catalogue L
 
@@ -137,7 +137,7 @@ module _ (L : Ledger) (img : List ℕ) (i z time : ℕ) where
           own = tt;
           short = omega arith;
           wholeData = tt;
-          wholeTargets = (length-updatedEntrySector z time (view img (entryAt i)) ∙ length-view img (entryAt i), freed-whole L img i n);
+          wholeTargets = (length-updatedEntrySector (L .geometry .edition) z time (view img (entryAt i)) ∙ length-view img (entryAt i), freed-whole L img i n);
         }
 
     size-most : z ≤ usable (L .geometry) * extentBytes (L .geometry)
@@ -189,7 +189,7 @@ module _ (L : Ledger) (img : List ℕ) (i z time : ℕ) where
       at : (j : ℕ) → j < journalAt (L .geometry) → j ≢ 0 → view out j ≡ over (w1 ∷ []) j (view img j)
       at = before-table L img i n rep (w1 ∷ []) low out ready shows
 
-      at-entry : view out (entryAt i) ≡ updatedEntrySector z time (view img (entryAt i))
+      at-entry : view out (entryAt i) ≡ updatedEntrySector (L .geometry .edition) z time (view img (entryAt i))
       at-entry = at (entryAt i) (omega arith) (λ e. omega arith) ∙ over-here w1 [] _ ∙ over-none (entryAt i) _
 
       at-front : (j : ℕ) → j < journalAt (L .geometry) → j ≢ 0 → j ≢ entryAt i → view out j ≡ view img j
@@ -230,7 +230,7 @@ module _ (L : Ledger) (img : List ℕ) (i z time : ℕ) where
       unfolding shrunk
       rewrites = record {
         ready = ready;
-        new-root = ap rootIn (at-front rootAt (omega arith) (λ e. omega arith) (λ e. omega arith)) ∙ rep .says .root;
+        new-root = ap (rootIn (L .geometry .edition)) (at-front rootAt (omega arith) (λ e. omega arith) (λ e. omega arith)) ∙ rep .says .root;
         mark = mark-updated L img rep i old there z time out (ready .volume .geometry) at-entry;
         entry = entry-updated L img rep i old there z time out (ready .volume .geometry) at-entry size-most ht;
         entries = λ k q ne. at-front (entryAt k) (omega arith) (λ y. omega arith) (λ y. ne (omega arith));

@@ -16,6 +16,7 @@ use Rattle.model.specs.Bytes.{beBytes}
 use Rattle.model.specs.Search.{equalBytes}
 use Rattle.model.specs.Geometry.{superblockAt, volumeSectors, inBounds}
 use Rattle.model.specs.Disk.{Disk}
+use Rattle.model.specs.Edition.{isEdition}
 use Rattle.model.specs.Superblock.{stateOn, magic, isVolume, geometryIn, journalLength, stateOf, withJournalLength}
 use Rattle.model.specs.Refusals.{verdictOf, andThen, isDone, refusal, done, isWhole, fitsImage, imageVerdict, stateNumber}
 use Rattle.model.specs.WriteList.{Group, listLength}
@@ -37,12 +38,17 @@ journalLength-with n s l h = number-same s 18 2 n (le-leb (18 + 2) (length s) (o
 
 pub isVolume-with : (n : ℕ) (s : List ℕ) → isVolume (withJournalLength n s) ≡ isVolume s
 unfolding withJournalLength isVolume
-isVolume-with n s = ap₂ (λ a b. equalBytes a magic && eqb b 1) (bytes-other s 18 2 n 8 8 refl) (number-other s 18 2 n 16 2 refl)
+isVolume-with n s = ap₂ (λ a b. equalBytes a magic && isEdition b) (bytes-other s 18 2 n 8 8 refl) (number-other s 18 2 n 16 2 refl)
 
 pub geometryIn-with : (n : ℕ) (s : List ℕ) → geometryIn (withJournalLength n s) ≡ geometryIn s
 unfolding withJournalLength geometryIn
 geometryIn-with n s =
-    λ i. record { files = number-other s 18 2 n 0 2 refl i; extents = number-other s 18 2 n 2 2 refl i; «extent_sectors» = number-other s 18 2 n 4 4 refl i }
+    λ i. record {
+      files = number-other s 18 2 n 0 2 refl i;
+      extents = number-other s 18 2 n 2 2 refl i;
+      «extent_sectors» = number-other s 18 2 n 4 4 refl i;
+      edition = number-other s 18 2 n 16 2 refl i;
+    }
 
 pub with-with : (m n : ℕ) (s : List ℕ) → withJournalLength m (withJournalLength n s) ≡ withJournalLength m s
 unfolding withJournalLength

@@ -23,12 +23,12 @@ use Rattle.model.specs.Cut.{dataBy}
 use Rattle.model.specs.Ledger.{Ledger, File, fileOr, entryOfFile, catalogue, write, withFile, partlyWritten, fileOf, spannedSectors, writtenRecords, written, afterWrite, step, answer}
 use Rattle.model.specs.Run.{volumeAnswer, onVolume}
 use Rattle.laws.proofs.Search.{length-tabulate}
-use Rattle.safety.proofs.OwnWords.{named-is, unheld-is, file-is, entry-named, name-is, spanned-are}
+use Rattle.safety.proofs.OwnWords.{named-is, unheld-is, file-is, entry-named, time-is, name-is, spanned-are}
 use Rattle.safety.proofs.Searches.{place-found, or-right-no}
 use Rattle.safety.proofs.Plan.{WellFormed, A}
 use Rattle.safety.proofs.Commit.{partOf, uncut}
 use Rattle.laws.proofs.WriteList.{length-groups}
-use Rattle.safety.proofs.Rep.{Rep}
+use Rattle.safety.proofs.Rep.{Rep, Timely, timely}
 use Rattle.safety.proofs.Changing.{Passed, Carries, Carried, effect-changing, Decides, same-changing}
 use Rattle.safety.proofs.Read.{file-there, size-is}
 use Rattle.safety.proofs.WriteLedger.{Writable}
@@ -55,7 +55,7 @@ module _ (L : Ledger) (img : List ℕ) (i offset : ℕ) (bytes : List ℕ) (time
   abbrev t : ℕ
   t = tableSectorOf (catalogue L .geometry) x
 
-  targets-length : (b : Bool) → length (sectorWrite (entryAt i) (updatedEntrySector after time (view img (entryAt i)))
+  targets-length : (b : Bool) → length (sectorWrite (entryAt i) (updatedEntrySector (catalogue L .geometry .edition) after time (view img (entryAt i)))
       ∷ cond b (sectorWrite t (takenIn x i (heldExtents (catalogue L) i) (view img t)) ∷ []) []) ≡ cond b 2 1
   targets-length true = refl
   targets-length false = refl
@@ -83,7 +83,7 @@ module _ (L : Ledger) (img : List ℕ) (i offset : ℕ) (bytes : List ℕ) (time
 
   -- EVERY WRITE of up to 65,536 bytes at an offset up to the size, for which there is room, does so
   pub writes-carried : Rep L img → L .slots i ≡ some (fileOr (L .slots i)) → offset ≤ fileOr (L .slots i) .entry .size → length bytes ≤ longestTransfer
-      → noRoom (catalogue L) i (sizeAfter (catalogue L) i offset (length bytes)) ≡ false → time < 2 ^ 32 → Writes
+      → noRoom (catalogue L) i (sizeAfter (catalogue L) i offset (length bytes)) ≡ false → Timely L time → Writes
   writes-carried rep has start short room ht =
       let f = fileOr (L .slots i) in
       let w : Writable L i f offset bytes = record { has = has; start = start; short = short; room = room } in
@@ -106,7 +106,7 @@ module _ (L : Ledger) (img : List ℕ) (rep : Rep L img) (name : List ℕ) (offs
   f = fileOr (L .slots (indexOf (fileNamed (catalogue L) name)))
 
   abbrev conditions : Catalogue → Conditions
-  conditions v = writeConditions v name offset (length bytes)
+  conditions v = writeConditions v name offset (length bytes) time
 
   abbrev plan : Catalogue → Option Plan
   plan v = writePlanned v (indexOf (fileNamed v name)) (view img) offset bytes time
@@ -119,35 +119,41 @@ module _ (L : Ledger) (img : List ℕ) (rep : Rep L img) (name : List ℕ) (offs
   decides = record {
     volume = refl;
     reply = refl;
-    conditions = rw (name-is name, named-is L name, entry-named L name, unheld-is L);
-    refusing = refl;
-    size = rw (entry-named L name) (write-length L img i offset bytes time);
+    judges = record {
+      conditions = rw (time-is L time, name-is L name, named-is L name, entry-named L name, unheld-is L);
+      refusing = refl;
+      size = rw (entry-named L name) (write-length L img i offset bytes time);
+    };
   }
 
   pub write-same : volumeAnswer (write name offset bytes time room) img ≡ answer (write name offset bytes time room) L
   write-same = same-changing L img rep _ _ _ room records decides
 
-  module _ (ht : time < 2 ^ 32) (passed : Passed (writeConditions (catalogue L) name offset (length bytes))) where
+  module _ (ht : time < 2 ^ 64) (passed : Passed (writeConditions (catalogue L) name offset (length bytes) time)) where
     -- ---- what the conditions say
+
+    fitting : Timely L time
+    unfolding writeConditions
+    fitting = timely L time (passed .0) ht
 
     there : L .slots i ≡ some f
     unfolding writeConditions fileNamed catalogue
-    there = file-there (L .slots i) name (place-found (λ k. hasName name (entryOfFile (L .slots k))) (L .geometry .files) (not-false (isAt (fileNamed c name)) (passed .1 .0)) .1)
+    there = file-there (L .slots i) name (place-found (λ k. hasName name (entryOfFile (L .slots k))) (L .geometry .files) (not-false (isAt (fileNamed c name)) (passed .1 .1 .0)) .1)
 
     short : length bytes ≤ longestTransfer
     unfolding writeConditions
-    short = ltb-false longestTransfer (length bytes) (or-right-no (badName name) _ (passed .0))
+    short = ltb-false longestTransfer (length bytes) (or-right-no (badName (catalogue L .geometry .edition) name) _ (passed .1 .0))
 
     start : offset ≤ f .entry .size
     unfolding writeConditions sizeNamed entryOf catalogue
     start =
         let e : entryOf (catalogue L) i .size ≡ f .entry .size = size-is (L .slots i) in
-        let l : offset ≤ entryOf (catalogue L) i .size = ltb-false (entryOf (catalogue L) i .size) offset (passed .1 .1 .0) in
+        let l : offset ≤ entryOf (catalogue L) i .size = ltb-false (entryOf (catalogue L) i .size) offset (passed .1 .1 .1 .0) in
         omega arith
 
     roomy : noRoom (catalogue L) i (sizeAfter (catalogue L) i offset (length bytes)) ≡ false
     unfolding writeConditions
-    roomy = passed .1 .1 .1 .0
+    roomy = passed .1 .1 .1 .1 .0
 
     -- ---- the plan, or none for no bytes
 
@@ -161,7 +167,7 @@ module _ (L : Ledger) (img : List ℕ) (rep : Rep L img) (name : List ℕ) (offs
 
     carries : eqb (length bytes) 0 ≡ false → Carries L img (write name offset bytes time room) (writing L img i offset bytes time)
     carries e =
-        let w = writes-carried L img i offset bytes time rep there start short roomy ht in
+        let w = writes-carried L img i offset bytes time rep there start short roomy fitting in
         record {
           fits = w .fits;
           done = subst (λ (X : Ledger). Rep X (uncut (L .geometry) img (writing L img i offset bytes time))) (sym (after-is false e)) (w .done);
@@ -177,5 +183,5 @@ module _ (L : Ledger) (img : List ℕ) (rep : Rep L img) (name : List ℕ) (offs
         go false e = carries e
 
   -- what write does
-  pub write-effect : time < 2 ^ 32 → Effect Rep (write name offset bytes time room) L img
+  pub write-effect : time < 2 ^ 64 → Effect Rep (write name offset bytes time room) L img
   write-effect ht = effect-changing L img rep _ _ _ room records decides (λ passed. carried ht passed)

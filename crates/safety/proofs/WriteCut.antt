@@ -135,7 +135,7 @@ module _ (L : Ledger) (img : List ℕ) (rep : Rep L img) (i : ℕ) (f : File) (o
       let l : i < L .geometry .files = within L img rep i f offset bytes w in
       rep-replaced L img rep (L .root) i (some y) out (record {
         ready = ready;
-        new-root = ap rootIn (at-low 1 (out-front (L .geometry) geo 1 (omega arith)) (omega arith)) ∙ rep .says .root;
+        new-root = ap (rootIn (L .geometry .edition)) (at-low 1 (out-front (L .geometry) geo 1 (omega arith)) (omega arith)) ∙ rep .says .root;
         mark = marks-keep (view img) (view out) i (at-low (entryAt i) (out-front (L .geometry) geo (entryAt i) (omega arith)) (omega arith)) ∙ no-mark-fault L img (rep .says) i l;
         entry = entries-keep (L .geometry) (view img) (view out) (rep .ready .volume .geometry) (ready .volume .geometry) i
             (λ q. at-low (entryAt i) (out-front (L .geometry) geo (entryAt i) (omega arith)) (omega arith)) ∙ rep .says .directory i ∙ entry-of L img rep i f (w .has);

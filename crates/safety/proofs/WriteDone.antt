@@ -1,6 +1,6 @@
 -- A write's plan is well-formed, and carried out whole it leaves an image that represents the ledger in which file i has the bytes put
 -- in. Assumes nothing.
-use Prim.Native.Nat.{ℕ, suc, _+_, _-_, _/_, _%_, _^_, _≤_, _<_}
+use Prim.Native.Nat.{ℕ, suc, _+_, _-_, _/_, _%_, _≤_, _<_}
 use mathlib.Core.Path.{_≡_, refl, sym, ap, ap₂, _∙_, subst}
 use mathlib.Core.Logic.{_≢_}
 use mathlib.Core.Bool.{Bool, true, false, cond, _&&_, true≢false}
@@ -33,7 +33,7 @@ use Rattle.safety.proofs.Plan.{UsableGeometry, WellFormed, Metadata, Wh
 use Rattle.safety.proofs.Commit.{Ready, uncut, ready-uncut}
 use Rattle.safety.proofs.Frame.{Outside, Shows, done-shows}
 use Rattle.safety.proofs.Bounds.{copies-fit, count-waits}
-use Rattle.safety.proofs.Rep.{Rep, rep-geometry}
+use Rattle.safety.proofs.Rep.{Rep, Timely, rep-geometry}
 use Rattle.safety.proofs.Preserved.{out-front, out-table, out-data, sector-data}
 use Rattle.safety.proofs.Fields.{length-updatedEntrySector}
 use Rattle.safety.proofs.Replaced.{replaced}
@@ -63,7 +63,7 @@ module _ (L : Ledger) (img : List ℕ) (rep : Rep L img) (i : ℕ) (f : File) (o
 
   -- the targets: the entry, and the table sector if an extent is taken
   abbrev w1 : Record
-  w1 = sectorWrite (entryAt i) (updatedEntrySector z time (view img (entryAt i)))
+  w1 = sectorWrite (entryAt i) (updatedEntrySector (L .geometry .edition) z time (view img (entryAt i)))
 
   abbrev w2 : Record
   w2 = sectorWrite (tableSectorOf (L .geometry) x) (takenIn x i (heldExtents (catalogue L) i) (view img (tableSectorOf (L .geometry) x)))
@@ -96,7 +96,7 @@ module _ (L : Ledger) (img : List ℕ) (rep : Rep L img) (i : ℕ) (f : File) (o
             length-tabulate (dataSector (catalogue L) i (view img) offset bytes) (offset / 512) (touchedSectors offset (length bytes)) in
             omega (arith, w .short);
         wholeData = writes-whole L img rep i f offset bytes w;
-        wholeTargets = (length-updatedEntrySector z time (view img (entryAt i)) ∙ length-view img (entryAt i), whole b);
+        wholeTargets = (length-updatedEntrySector (L .geometry .edition) z time (view img (entryAt i)) ∙ length-view img (entryAt i), whole b);
       }
     where
       few : (t : Bool) → length (w1 ∷ cond t (w2 ∷ []) []) ≤ mostTargets (L .geometry)
@@ -137,7 +137,7 @@ module _ (L : Ledger) (img : List ℕ) (rep : Rep L img) (i : ℕ) (f : File) (o
     at-low : (j : ℕ) → Outside (L .geometry) j → j ≢ 0 → j < dataAt (L .geometry) → view out j ≡ over (w1 ∷ cond b (w2 ∷ []) []) j (view img j)
     at-low j o ne l = shown j o ne ∙ ap (over (w1 ∷ cond b (w2 ∷ []) []) j) (over-miss ds j (view img j) (low-miss L img rep i f offset bytes w j l))
 
-    at-entry : view out (entryAt i) ≡ updatedEntrySector z time (view img (entryAt i))
+    at-entry : view out (entryAt i) ≡ updatedEntrySector (L .geometry .edition) z time (view img (entryAt i))
     at-entry =
         let l : i < L .geometry .files = here in
         at-low (entryAt i) (out-front (L .geometry) geo (entryAt i) (omega arith)) (λ e. omega arith) (omega arith)
@@ -244,13 +244,13 @@ module _ (L : Ledger) (img : List ℕ) (rep : Rep L img) (i : ℕ) (f : File) (o
 
     -- ---- the image represents the ledger afterwards
 
-    shown-done : time < 2 ^ 32 → Rep (withFile L i (written L i offset bytes time)) out
+    shown-done : Timely L time → Rep (withFile L i (written L i offset bytes time)) out
     unfolding updatedEntry
     shown-done ht =
         subst (λ (v : File). Rep (withFile L i v) out) (sym (written-is L img rep i f offset bytes w time))
         (rep-replaced L img rep (L .root) i (some y) out (record {
           ready = ready;
-          new-root = ap rootIn (at-front 1 (omega arith) (λ e. omega arith) (λ e. omega arith)) ∙ rep .says .root;
+          new-root = ap (rootIn (L .geometry .edition)) (at-front 1 (omega arith) (λ e. omega arith) (λ e. omega arith)) ∙ rep .says .root;
           mark = mark-updated L img rep i f (w .has) z time out (ready .volume .geometry) at-entry;
           entry = entry-updated L img rep i f (w .has) z time out (ready .volume .geometry) at-entry (size-bounded L img rep i f offset bytes w) ht;
           entries = λ k l ne. at-front (entryAt k) (omega arith) (λ e. omega arith) (λ e. ne (omega arith));
@@ -262,6 +262,6 @@ module _ (L : Ledger) (img : List ℕ) (rep : Rep L img) (i : ℕ) (f : File) (o
           disjoint = disjoint-written L img rep i f offset bytes w time;
         }))
 
-  pub done : time < 2 ^ 32 → Rep (withFile L i (written L i offset bytes time)) (uncut (L .geometry) img plan)
+  pub done : Timely L time → Rep (withFile L i (written L i offset bytes time)) (uncut (L .geometry) img plan)
   unfolding writePlan catalogue
   done ht = shown-done (uncut (L .geometry) img plan) (ready-uncut (L .geometry) img plan geo fits (rep .ready)) (done-shows (L .geometry) plan geo fits img (rep .ready)) ht

@@ -10,7 +10,7 @@ use Rattle.model.specs.Search.{concatenated}
 use Rattle.model.specs.WriteList.{Record, Group, barrierNumber, stored}
 use Rattle.model.specs.CarryOut.{recordsIn}
 use Rattle.model.specs.Cut.{Cut, landed}
-use Rattle.model.specs.Format.{Format, geometryFor, formatCount, formatAnswer, formatOutput}
+use Rattle.model.specs.Format.{Format, formattedGeometry, formatCount, formatAnswer, formatOutput}
 
 -- a record put in front of the first group
 abbrev pub withRecord : Record → List Group → List Group
@@ -30,4 +30,4 @@ cutImage x list img = stored (landed x (groupsIn (recordsIn list))) img
 -- a format's records joined to a list, in order, each asked for with the buffer outs gives
 unfoldable pub formatList : Format → (ℕ → List ℕ) → List ℕ
 formatList a outs =
-    concatenated (λ p. bytesFrom (formatOutput a p (outs p)) 0 (formatAnswer a p (length (outs p)) .length)) 0 (formatCount (geometryFor (a .sectors) (a .files)))
+    concatenated (λ p. bytesFrom (formatOutput a p (outs p)) 0 (formatAnswer a p (length (outs p)) .length)) 0 (formatCount (formattedGeometry a))

@@ -15,7 +15,7 @@ use Rattle.model.specs.Catalogue.{catalogueOf, fileNamed, freeEntry, entryOf, f
 use Rattle.model.specs.Ledger.{Ledger, fileOr, Call, Feed, callOf, newEntry, slotNamed}
 use Rattle.model.specs.Run.{arguments}
 
--- a name that is none of these; a call that is not to change the file of that name: summary, check, find, list and read change none
+-- a name that is none of these; a call that is not to change the file of that name: summary, check, find and list change none
 abbrev pub NotAmong : List ℕ → List (List ℕ) → Type 0
 NotAmong name [] = Unit {0}
 NotAmong name (m ∷ ms) = (m ≢ name) × NotAmong name ms

@@ -21,7 +21,7 @@ pub record OlderSound (d : Disk) : Type 0 where
   pub bounded : Bounded (catalogueOf d .geometry)
   pub others : (NoFault d 21) × (NoFault d 23) × (NoFault d 24) × (NoFault d 26)
   pub entries : (i : ℕ) (x : Entry) → catalogueOf d .entries i ≡ some x
-      → (badName (x .name) ≡ false) × (x .size ≤ olderUsable (catalogueOf d .geometry) * extentBytes (catalogueOf d .geometry))
+      → (badName (catalogueOf d .geometry .edition) (x .name) ≡ false) × (x .size ≤ olderUsable (catalogueOf d .geometry) * extentBytes (catalogueOf d .geometry))
   pub table : (e : ℕ) (w : Owner) → catalogueOf d .table e ≡ some w
       → (isFree (catalogueOf d .entries (w .file)) ≡ false) × (e < olderUsable (catalogueOf d .geometry))
 

@@ -8,8 +8,8 @@ use Rattle.model.specs.declared.Changed.{Changed}
 use Rattle.model.specs.Disk.{view}
 use Rattle.model.specs.Summary.{checkAnswer}
 use Rattle.model.specs.Find.{notFound, findAnswer}
-use Rattle.model.specs.Listing.{notListed, listAnswer, listOutput}
-use Rattle.model.specs.Read.{notRead, readAnswer, readOutput}
+use Rattle.model.specs.Listing.{notListed, listAnswer, listOutput, listingList}
+use Rattle.model.specs.Read.{notRead, readAnswer, readOutput, readList}
 use Rattle.model.specs.Create.{createAnswer, createList}
 use Rattle.model.specs.Delete.{deleteAnswer, deleteList}
 use Rattle.model.specs.Resize.{resizeAnswer, resizeList}
@@ -23,10 +23,13 @@ notChanged v = record { verdict = v; length = 0 }
 pub record RefusedWith (v : Verdict) (img : List ℕ) : Type 0 where
   pub check : checkAnswer (length img) (view img) ≡ record { verdict = v }
   pub find : (name : List ℕ) → findAnswer (length img) (view img) name ≡ notFound v
-  pub list : (i : ℕ) (out : List ℕ)
-      → (listAnswer (length img) (view img) i (length out) ≡ notListed v) × (listOutput (length img) (view img) i out ≡ out)
-  pub read : (name : List ℕ) (offset asked : ℕ) (out : List ℕ)
-      → (readAnswer (length img) (view img) name offset asked (length out) ≡ notRead v) × (readOutput (length img) (view img) name offset asked out ≡ out)
+  pub list : (i time : ℕ) (out list : List ℕ)
+      → (listAnswer (length img) (view img) i time (length out) (length list) ≡ notListed v)
+      × (listOutput (length img) (view img) i time out (length list) ≡ out) × (listingList (length img) (view img) i time (length out) list ≡ list)
+  pub read : (name : List ℕ) (offset asked time : ℕ) (out list : List ℕ)
+      → (readAnswer (length img) (view img) name offset asked time (length out) (length list) ≡ notRead v)
+      × (readOutput (length img) (view img) name offset asked time out (length list) ≡ out)
+      × (readList (length img) (view img) name offset asked time (length out) list ≡ list)
   pub create : (name : List ℕ) (id mode time : ℕ) (list : List ℕ)
       → (createAnswer (length img) (view img) name id mode time (length list) ≡ notChanged v)
       × (createList (length img) (view img) name id mode time list ≡ list)

@@ -9,7 +9,7 @@ ghost use Rattle.model.specs.Resize.{resizeAnswer, resizeList};
 ghost use Rattle.model.specs.Write.{writeAnswer, writeList};
 ghost use Rattle.model.specs.Rename.{renameAnswer, renameList};
 
-pub fn create(img: &[u8], name: &[u8], id: u64, mode: u32, time: u32, list: &mut [u8]) -> Changed
+pub fn create(img: &[u8], name: &[u8], id: u64, mode: u32, time: u64, list: &mut [u8]) -> Changed
     ensures { λ r. ⌜ r ≡ createAnswer (length (now (img .entry))) (view (now (img .entry))) (now (name .entry)) id mode time (length (now (list .entry))) ⌝ }
     ensures { λ _. ⌜ now (list .exit) ≡ createList (length (now (img .entry))) (view (now (img .entry))) (now (name .entry)) id mode time (now (list .entry)) ⌝ }
 {
@@ -20,7 +20,7 @@ pub fn create(img: &[u8], name: &[u8], id: u64, mode: u32, time: u32, list: &mut
     commit::refused(v)
 }
 
-pub fn delete(img: &[u8], name: &[u8], time: u32, list: &mut [u8]) -> Changed
+pub fn delete(img: &[u8], name: &[u8], time: u64, list: &mut [u8]) -> Changed
     ensures { λ r. ⌜ r ≡ deleteAnswer (length (now (img .entry))) (view (now (img .entry))) (now (name .entry)) time (length (now (list .entry))) ⌝ }
     ensures { λ _. ⌜ now (list .exit) ≡ deleteList (length (now (img .entry))) (view (now (img .entry))) (now (name .entry)) time (now (list .entry)) ⌝ }
 {
@@ -31,7 +31,7 @@ pub fn delete(img: &[u8], name: &[u8], time: u32, list: &mut [u8]) -> Changed
     commit::refused(v)
 }
 
-pub fn resize(img: &[u8], name: &[u8], size: u64, time: u32, list: &mut [u8]) -> Changed
+pub fn resize(img: &[u8], name: &[u8], size: u64, time: u64, list: &mut [u8]) -> Changed
     ensures { λ r. ⌜ r ≡ resizeAnswer (length (now (img .entry))) (view (now (img .entry))) (now (name .entry)) size time (length (now (list .entry))) ⌝ }
     ensures { λ _. ⌜ now (list .exit) ≡ resizeList (length (now (img .entry))) (view (now (img .entry))) (now (name .entry)) size time (now (list .entry)) ⌝ }
 {
@@ -47,7 +47,7 @@ pub fn write(
     name: &[u8],
     offset: u64,
     bytes: &[u8],
-    time: u32,
+    time: u64,
     list: &mut [u8],
 ) -> Changed
     ensures { λ r. ⌜ r ≡ writeAnswer (length (now (img .entry))) (view (now (img .entry))) (now (name .entry)) offset (now (bytes .entry)) time (length (now (list .entry))) ⌝ }
@@ -60,7 +60,7 @@ pub fn write(
     commit::refused(v)
 }
 
-pub fn rename(img: &[u8], old: &[u8], new: &[u8], time: u32, list: &mut [u8]) -> Changed
+pub fn rename(img: &[u8], old: &[u8], new: &[u8], time: u64, list: &mut [u8]) -> Changed
     ensures { λ r. ⌜ r ≡ renameAnswer (length (now (img .entry))) (view (now (img .entry))) (now (old .entry)) (now (new .entry)) time (length (now (list .entry))) ⌝ }
     ensures { λ _. ⌜ now (list .exit) ≡ renameList (length (now (img .entry))) (view (now (img .entry))) (now (old .entry)) (now (new .entry)) time (now (list .entry)) ⌝ }
 {

@@ -143,7 +143,12 @@ fn put_record(g: Geometry, id: u64, mode: u32, time: u64, p: u64, out: &mut [u8]
         return put_barrier(out, p);
     }
     if p == 2 {
-        return put_sector(out, p, Sector(1), layout::root::new(g.edition, id, mode, time));
+        return put_sector(
+            out,
+            p,
+            Sector(1),
+            layout::root::new(g.edition, id, mode, time),
+        );
     }
     if p < 3 + g.files {
         return put_sector(out, p, FileIndex(p - 3).sector(), layout::zero_sector());

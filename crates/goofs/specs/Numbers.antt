@@ -28,6 +28,7 @@ summaryNumbers a = record {
   «extent_sectors» = extentSectors (a .summary .geometry);
   state = stateCode (a .summary .state);
   entries = stateEntries (a .summary .state);
+  edition = a .summary .geometry .edition;
 }
 
 abbrev pub checkNumbers : Checked → CheckResult

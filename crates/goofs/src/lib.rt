@@ -35,6 +35,7 @@ pub struct SummaryResult {
     pub extent_sectors: u64,
     pub state: u64,
     pub entries: u64,
+    pub edition: u64,
 }
 
 fn state_code(s: State) -> u64
@@ -72,6 +73,7 @@ fn summary_result(a: Summarized) -> SummaryResult
         extent_sectors: g.extent_sectors as u64,
         state: state_code(st),
         entries: state_entries(st),
+        edition: g.edition,
     }
 }
 
@@ -151,8 +153,8 @@ fn find_result(a: Found) -> FindResult
         version: f.version as u64,
         id: f.id,
         mode: f.mode as u64,
-        access_time: f.access_time as u64,
-        change_time: f.change_time as u64,
+        access_time: f.access_time,
+        change_time: f.change_time,
         name_length: f.name_length,
     }
 }
@@ -193,8 +195,8 @@ fn list_result(a: Listed) -> ListResult
         version: f.version as u64,
         id: f.id,
         mode: f.mode as u64,
-        access_time: f.access_time as u64,
-        change_time: f.change_time as u64,
+        access_time: f.access_time,
+        change_time: f.change_time,
         name_length: f.name_length,
     }
 }
@@ -273,7 +275,7 @@ pub extern "C" fn goofs_create(
     name: &[u8],
     id: u64,
     mode: u32,
-    time: u32,
+    time: u64,
     list: &mut [u8],
 ) -> ChangeResult
     ensures { λ r. ⌜ r ≡ changeNumbers (createAnswer (length (now (img .entry))) (view (now (img .entry))) (now (name .entry)) id mode time (length (now (list .entry)))) ⌝ }
@@ -284,7 +286,7 @@ pub extern "C" fn goofs_create(
 }
 
 #[no_mangle]
-pub extern "C" fn goofs_delete(img: &[u8], name: &[u8], time: u32, list: &mut [u8]) -> ChangeResult
+pub extern "C" fn goofs_delete(img: &[u8], name: &[u8], time: u64, list: &mut [u8]) -> ChangeResult
     ensures { λ r. ⌜ r ≡ changeNumbers (deleteAnswer (length (now (img .entry))) (view (now (img .entry))) (now (name .entry)) time (length (now (list .entry)))) ⌝ }
     ensures { λ _. ⌜ now (list .exit) ≡ deleteList (length (now (img .entry))) (view (now (img .entry))) (now (name .entry)) time (now (list .entry)) ⌝ }
 {
@@ -297,7 +299,7 @@ pub extern "C" fn goofs_resize(
     img: &[u8],
     name: &[u8],
     size: u64,
-    time: u32,
+    time: u64,
     list: &mut [u8],
 ) -> ChangeResult
     ensures { λ r. ⌜ r ≡ changeNumbers (resizeAnswer (length (now (img .entry))) (view (now (img .entry))) (now (name .entry)) size time (length (now (list .entry)))) ⌝ }
@@ -313,7 +315,7 @@ pub extern "C" fn goofs_write(
     name: &[u8],
     offset: u64,
     bytes: &[u8],
-    time: u32,
+    time: u64,
     list: &mut [u8],
 ) -> ChangeResult
     ensures { λ r. ⌜ r ≡ changeNumbers (writeAnswer (length (now (img .entry))) (view (now (img .entry))) (now (name .entry)) offset (now (bytes .entry)) time (length (now (list .entry)))) ⌝ }
@@ -328,7 +330,7 @@ pub extern "C" fn goofs_rename(
     img: &[u8],
     old: &[u8],
     new: &[u8],
-    time: u32,
+    time: u64,
     list: &mut [u8],
 ) -> ChangeResult
     ensures { λ r. ⌜ r ≡ changeNumbers (renameAnswer (length (now (img .entry))) (view (now (img .entry))) (now (old .entry)) (now (new .entry)) time (length (now (list .entry)))) ⌝ }
@@ -388,16 +390,17 @@ pub struct FormatResult {
 pub extern "C" fn goofs_format_record(
     sectors: u64,
     files: u64,
+    edition: u64,
     id: u64,
     mode: u32,
-    time: u32,
+    time: u64,
     position: u64,
     out: &mut [u8],
 ) -> FormatResult
-    ensures { λ r. ⌜ r ≡ formatNumbers (formatAnswer (record { sectors = sectors; files = files; id = id; mode = mode; time = time }) position (length (now (out .entry)))) ⌝ }
-    ensures { λ _. ⌜ now (out .exit) ≡ formatOutput (record { sectors = sectors; files = files; id = id; mode = mode; time = time }) position (now (out .entry)) ⌝ }
+    ensures { λ r. ⌜ r ≡ formatNumbers (formatAnswer (record { sectors = sectors; files = files; edition = edition; id = id; mode = mode; time = time }) position (length (now (out .entry)))) ⌝ }
+    ensures { λ _. ⌜ now (out .exit) ≡ formatOutput (record { sectors = sectors; files = files; edition = edition; id = id; mode = mode; time = time }) position (now (out .entry)) ⌝ }
 {
-    let a = format::format_record(sectors, files, id, mode, time, position, out);
+    let a = format::format_record(sectors, files, edition, id, mode, time, position, out);
     FormatResult {
         code: a.number,
         length: a.length,

@@ -1,7 +1,7 @@
 -- What a rename comes to, test by test. Assumes nothing.
 use Prim.Native.Nat.{ℕ, _≤_, _<_}
-use mathlib.Core.Path.{_≡_, refl, sym, ap}
-use mathlib.Core.Bool.{Bool, true, false, _||_}
+use mathlib.Core.Path.{_≡_, refl, sym, ap, _∙_}
+use mathlib.Core.Bool.{Bool, true, false, cond, not, _||_}
 use mathlib.Core.List.{List}
 use mathlib.Core.Option.{Option, some}
 use native.Mathlib.Omega.{arith}
@@ -12,17 +12,18 @@ use Rattle.model.specs.declared.Changed.{Changed}
 use Rattle.model.specs.declared.Geometry.{Geometry}
 use Rattle.model.specs.declared.Lowest.{Lowest}
 use Rattle.model.specs.declared.Lowest.the-variants.{At, Nowhere}
-use Rattle.model.specs.Search.{indexOf, equalBytes}
+use Rattle.model.specs.Search.{isAt, indexOf, equalBytes}
 use Rattle.model.specs.Disk.{Disk, view}
+use Rattle.model.specs.Edition.{badTime}
 use Rattle.model.specs.Entry.{badName, badNewName}
 use Rattle.model.specs.Catalogue.{Catalogue, catalogueOf, fileNamed}
 use Rattle.model.specs.Refusals.{Conditions, verdictOf, refusal, done, judged}
 use Rattle.model.specs.WriteList.{Plan, Emitted, closed, groupsFor, listLength, Decision, decided}
 use Rattle.model.specs.Rename.{renameConditions, renamePlan, renamePlanned, renameDecision, renameAnswer, renameList}
 use Rattle.model.specs.Opened.{Opened}
-use Rattle.laws.proofs.Named.{named-at}
+use Rattle.laws.proofs.Named.{editionOn, named-at}
 use Rattle.laws.proofs.WriteList.{emit-nil}
-use Rattle.commit.proofs.Decided.{ComesTo, refused-by-own, done-with-nothing}
+use Rattle.commit.proofs.Decided.{same-refusal, same-refusals, ComesTo, refused-by-own, done-with-nothing}
 use Rattle.rename.specs.Renaming.{fitted, renamedTo}
 
 -- ---- where the new name is
@@ -62,31 +63,38 @@ module _ (img list old new : List ℕ) (time : ℕ) (ok : judged (length img) (v
   c = catalogueOf (view img)
 
   abbrev cs : Conditions
-  cs = renameConditions c old new
+  cs = renameConditions c old new time
 
   abbrev planned : Option Plan
   planned = renamePlanned c (view img) old new time
 
-  bad : (badName old || badNewName new) ≡ true → refusal 8 ≡ verdictOf cs
-  unfolding verdictOf renameConditions
-  bad h = rw h
+  abbrev isBad : Bool
+  isBad = badTime (editionOn (view img)) time || badName (editionOn (view img)) old || badNewName (editionOn (view img)) new
 
-  missing : (badName old || badNewName new) ≡ false → fileNamed c old ≡ Nowhere → refusal 9 ≡ verdictOf cs
-  unfolding verdictOf renameConditions
-  missing h n = rw (h, n)
+  own-tests : verdictOf cs ≡ cond isBad (refusal 8) (cond (not (isAt (fileNamed c old))) (refusal 9) done)
+  unfolding verdictOf renameConditions catalogueOf
+  own-tests =
+      let e = editionOn (view img) in
+      let rest = cond (not (isAt (fileNamed c old))) (refusal 9) done in
+      same-refusals (badTime e time) (badName e old) (badNewName e new) (refusal 8) rest ∙ same-refusal (badTime e time || badName e old) (badNewName e new) (refusal 8) rest
 
-  pub rename-bad : (badName old || badNewName new) ≡ true → Comes img list old new time (record { verdict = refusal 8; length = 0 }) list
+  bad : isBad ≡ true → refusal 8 ≡ verdictOf cs
+  bad h = sym (own-tests ∙ rw h)
+
+  missing : isBad ≡ false → fileNamed c old ≡ Nowhere → refusal 9 ≡ verdictOf cs
+  missing h n = sym (own-tests ∙ rw (h, n))
+
+  pub rename-bad : isBad ≡ true → Comes img list old new time (record { verdict = refusal 8; length = 0 }) list
   unfolding renameAnswer renameList renameDecision
   rename-bad h = refused-by-own (length img) (view img) cs planned list ok (refusal 8) (bad h) (λ (e : _≡_ {A = ℕ} 8 0). omega arith)
 
-  pub rename-missing : (badName old || badNewName new) ≡ false → fileNamed c old ≡ Nowhere → Comes img list old new time (record { verdict = refusal 9; length = 0 }) list
+  pub rename-missing : isBad ≡ false → fileNamed c old ≡ Nowhere → Comes img list old new time (record { verdict = refusal 9; length = 0 }) list
   unfolding renameAnswer renameList renameDecision
   rename-missing h n = refused-by-own (length img) (view img) cs planned list ok (refusal 9) (missing h n) (λ (e : _≡_ {A = ℕ} 9 0). omega arith)
 
-  module _ (i : ℕ) (good : (badName old || badNewName new) ≡ false) (found : fileNamed c old ≡ At i) where
+  module _ (i : ℕ) (good : isBad ≡ false) (found : fileNamed c old ≡ At i) where
     own : done ≡ verdictOf cs
-    unfolding verdictOf renameConditions
-    own = rw (good, found)
+    own = sym (own-tests ∙ rw (good, found))
 
     pub rename-itself : equalBytes old new ≡ true → Comes img list old new time (record { verdict = done; length = 0 }) list
     unfolding renameAnswer renameList renameDecision renamePlanned

@@ -1,17 +1,19 @@
 -- A rename's targets and how long its list is. Assumes nothing.
 use Prim.Native.Nat.{ℕ, _+_, _*_}
-use mathlib.Core.Path.{_≡_, refl, ap, _∙_}
+use mathlib.Core.Path.{_≡_, refl, sym, ap, _∙_}
 use mathlib.Core.Bool.{Bool, true, false, cond}
 use mathlib.Core.List.{List, [], _∷_}
 use mathlib.Core.Option.{some}
 use native.Mathlib.Omega.{arith}
 use lib.Dec.{ltb}
 use lib.ListN.{length, length-append}
+use Rattle.model.specs.declared.Geometry.{Geometry}
 use Rattle.model.specs.declared.Lowest.{Lowest}
 use Rattle.model.specs.declared.Lowest.the-variants.{At, Nowhere}
 use Rattle.model.specs.Bytes.{zeroSector}
-use Rattle.model.specs.Geometry.{rootAt, entryAt}
+use Rattle.model.specs.Geometry.{superblockAt, rootAt, entryAt}
 use Rattle.model.specs.Disk.{Disk}
+use Rattle.model.specs.Superblock.{geometryIn}
 use Rattle.model.specs.Root.{updatedRootSector}
 use Rattle.model.specs.Catalogue.{catalogueOf}
 use Rattle.model.specs.WriteList.{Record, recordSize, recordCount, sectorWrite, groupsFor, listLength}
@@ -23,10 +25,12 @@ use Rattle.rename.specs.Renaming.{renamingCount}
 
 -- ---- the plan: its targets, and no data sectors
 
-pub rename-targets : (d : Disk) (i : ℕ) (place : Lowest) (name : List ℕ) (time : ℕ)
-    → renamePlan (catalogueOf d) d i place name time .targets ≡ sectorWrite rootAt (updatedRootSector time (d rootAt)) ∷ renamingRecords (catalogueOf d) d i place name time
-unfolding renamePlan
-rename-targets d i place name time = refl
+pub rename-targets : (d : Disk) (g : Geometry) → g ≡ geometryIn (d superblockAt) → (i : ℕ) (place : Lowest) (name : List ℕ) (time : ℕ)
+    → renamePlan (catalogueOf d) d i place name time .targets
+    ≡ sectorWrite rootAt (updatedRootSector (g .edition) time (d rootAt)) ∷ renamingRecords (catalogueOf d) d i place name time
+unfolding renamePlan catalogueOf
+rename-targets d g is i place name time =
+    ap (λ (x : Geometry). sectorWrite rootAt (updatedRootSector (x .edition) time (d rootAt)) ∷ renamingRecords (catalogueOf d) d i place name time) (sym is)
 
 pub rename-alone : (d : Disk) (i : ℕ) (place : Lowest) (name : List ℕ) (time : ℕ) → renamePlan (catalogueOf d) d i place name time .dataSectors ≡ []
 unfolding renamePlan
@@ -42,7 +46,7 @@ length-renaming : (d : Disk) (i : ℕ) (place : Lowest) (name : List ℕ) (time 
 unfolding replacingRecords
 length-renaming d i Nowhere name time = refl
 length-renaming d i (At j) name time =
-    let this = renamedRecord d i name time in
+    let this = renamedRecord (catalogueOf d) d i name time in
     let that = sectorWrite (entryAt j) zeroSector in
     length-append (cond (ltb i j) (this ∷ that ∷ []) (that ∷ this ∷ [])) (freedSectors (catalogueOf d) d j 0)
     ∙ omega (arith, length-pair this that (ltb i j), length-freed (catalogueOf d) d j 0)

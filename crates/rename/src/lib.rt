@@ -15,7 +15,8 @@ ghost use Rattle.model.specs.Bytes.{zeroSector};
 ghost use Rattle.model.specs.Search.{indexOf};
 ghost use Rattle.model.specs.Geometry.{entryAt, tableSectors};
 ghost use Rattle.model.specs.Disk.{view};
-ghost use Rattle.model.specs.Entry.{longestName, badName, badNewName};
+ghost use Rattle.model.specs.Edition.{layoutOf, badTime};
+ghost use Rattle.model.specs.Entry.{badName, badNewName};
 ghost use Rattle.model.specs.Catalogue.{catalogueOf, sectorsFrom};
 ghost use Rattle.model.specs.Refusals.{judged};
 ghost use Rattle.model.specs.WriteList.{sectorWrite, recordSize, recordCount, groupsFor, closed, Emitted, answerOf, listAfter};
@@ -26,14 +27,14 @@ ghost use Rattle.rename.specs.Renaming.{renamingCount, renamedTo};
 
 // ---- refusal 8
 
-// The old name by the rule that every name keeps, the new one by that for names to come.
-fn bad_names(old: &[u8], new: &[u8]) -> bool
-    ensures { λ r. ⌜ r ≡ (badName (now (old .entry)) || badNewName (now (new .entry))) ⌝ }
+// The old name by the rule that every name keeps, the new one by that for names to come; or the time.
+fn bad_argument(edition: u64, old: &[u8], new: &[u8], time: u64) -> bool
+    ensures { λ r. ⌜ r ≡ (badTime edition time || badName edition (now (old .entry)) || badNewName edition (now (new .entry))) ⌝ }
 {
-    if directory::bad_name(old) {
+    if directory::bad_name_or_time(edition, old, time) {
         return true;
     }
-    directory::bad_new_name(new)
+    directory::bad_new_name(edition, new)
 }
 
 // ---- the entries
@@ -47,15 +48,15 @@ fn put_renamed(
     g: Geometry,
     i: FileIndex,
     name: &[u8],
-    time: u32,
+    time: u64,
 ) -> usize
     requires { ⌜ Opened (now img) g ⌝ }
-    requires { ⌜ (i .0 < g .files) × (length (now name) ≤ longestName) ⌝ }
+    requires { ⌜ (i .0 < g .files) × (length (now name) ≤ layoutOf (g .edition) .longestName) ⌝ }
     requires { ⌜ ((k + 1) * recordSize ≤ length (now list)) × (k < length (now numbers)) ⌝ }
-    ensures { λ r. ⌜ Added g (now (numbers .entry)) (now (list .entry)) k (renamedRecord (view (now (img .entry))) (i .0) (now (name .entry)) time ∷ []) (now (numbers .exit)) (now (list .exit)) r ⌝ }
+    ensures { λ r. ⌜ Added g (now (numbers .entry)) (now (list .entry)) k (renamedRecord (catalogueOf (view (now (img .entry)))) (view (now (img .entry))) (i .0) (now (name .entry)) time ∷ []) (now (numbers .exit)) (now (list .exit)) r ⌝ }
     ensures { λ r. ⌜ r ≡ k + 1 ⌝ }
 {
-    let s = directory::renamed_entry(img, i, name, time);
+    let s = directory::renamed_entry(img, g.edition, i, name, time);
     commit::put_copy(list, k, g, numbers, k, i.sector(), s)
 }
 
@@ -87,12 +88,12 @@ fn put_entries(
     i: FileIndex,
     j: FileIndex,
     name: &[u8],
-    time: u32,
+    time: u64,
 ) -> usize
     requires { ⌜ Opened (now img) g ⌝ }
-    requires { ⌜ (i .0 < g .files) × (j .0 < g .files) × (length (now name) ≤ longestName) ⌝ }
+    requires { ⌜ (i .0 < g .files) × (j .0 < g .files) × (length (now name) ≤ layoutOf (g .edition) .longestName) ⌝ }
     requires { ⌜ ((k + 2) * recordSize ≤ length (now list)) × (k + 1 < length (now numbers)) ⌝ }
-    ensures { λ r. ⌜ Added g (now (numbers .entry)) (now (list .entry)) k (cond (ltb (i .0) (j .0)) (renamedRecord (view (now (img .entry))) (i .0) (now (name .entry)) time ∷ sectorWrite (entryAt (j .0)) zeroSector ∷ []) (sectorWrite (entryAt (j .0)) zeroSector ∷ renamedRecord (view (now (img .entry))) (i .0) (now (name .entry)) time ∷ [])) (now (numbers .exit)) (now (list .exit)) r ⌝ }
+    ensures { λ r. ⌜ Added g (now (numbers .entry)) (now (list .entry)) k (cond (ltb (i .0) (j .0)) (renamedRecord (catalogueOf (view (now (img .entry)))) (view (now (img .entry))) (i .0) (now (name .entry)) time ∷ sectorWrite (entryAt (j .0)) zeroSector ∷ []) (sectorWrite (entryAt (j .0)) zeroSector ∷ renamedRecord (catalogueOf (view (now (img .entry)))) (view (now (img .entry))) (i .0) (now (name .entry)) time ∷ [])) (now (numbers .exit)) (now (list .exit)) r ⌝ }
     ensures { λ r. ⌜ r ≡ k + 2 ⌝ }
 {
     if i.0 < j.0 {
@@ -116,10 +117,10 @@ fn put_replacing(
     i: FileIndex,
     j: FileIndex,
     name: &[u8],
-    time: u32,
+    time: u64,
 ) -> usize
     requires { ⌜ Opened (now img) g ⌝ }
-    requires { ⌜ (i .0 < g .files) × (j .0 < g .files) × (length (now name) ≤ longestName) ⌝ }
+    requires { ⌜ (i .0 < g .files) × (j .0 < g .files) × (length (now name) ≤ layoutOf (g .edition) .longestName) ⌝ }
     requires { ⌜ ((k + 2 + sectorsFrom (catalogueOf (view (now img))) (j .0) 0 + 1) * recordSize ≤ length (now list)) × (k + 2 + tableSectors g ≤ length (now numbers)) ⌝ }
     ensures { λ r. ⌜ Added g (now (numbers .entry)) (now (list .entry)) k (replacingRecords (catalogueOf (view (now (img .entry)))) (view (now (img .entry))) (i .0) (j .0) (now (name .entry)) time) (now (numbers .exit)) (now (list .exit)) r ⌝ }
     ensures { λ r. ⌜ (r ≡ k + 2 + sectorsFrom (catalogueOf (view (now (img .entry)))) (j .0) 0) × (r ≤ k + 2 + tableSectors g) ⌝ }
@@ -138,10 +139,10 @@ fn put_renaming(
     i: FileIndex,
     place: Lowest,
     name: &[u8],
-    time: u32,
+    time: u64,
 ) -> usize
     requires { ⌜ Opened (now img) g ⌝ }
-    requires { ⌜ (i .0 < g .files) × (indexOf place < g .files) × (length (now name) ≤ longestName) ⌝ }
+    requires { ⌜ (i .0 < g .files) × (indexOf place < g .files) × (length (now name) ≤ layoutOf (g .edition) .longestName) ⌝ }
     requires { ⌜ ((k + renamingCount (catalogueOf (view (now img))) place + 1) * recordSize ≤ length (now list)) × (k + 2 + tableSectors g ≤ length (now numbers)) ⌝ }
     ensures { λ r. ⌜ Added g (now (numbers .entry)) (now (list .entry)) k (renamingRecords (catalogueOf (view (now (img .entry)))) (view (now (img .entry))) (i .0) place (now (name .entry)) time) (now (numbers .exit)) (now (list .exit)) r ⌝ }
     ensures { λ r. ⌜ (r ≡ k + renamingCount (catalogueOf (view (now (img .entry)))) place) × (r ≤ k + 2 + tableSectors g) ⌝ }
@@ -186,16 +187,16 @@ fn put_rename(
     i: FileIndex,
     place: Lowest,
     name: &[u8],
-    time: u32,
+    time: u64,
     list: &mut [u8],
 ) -> usize
     requires { ⌜ Opened (now img) g ⌝ }
-    requires { ⌜ (i .0 < g .files) × (indexOf place < g .files) × (length (now name) ≤ longestName) ⌝ }
+    requires { ⌜ (i .0 < g .files) × (indexOf place < g .files) × (length (now name) ≤ layoutOf (g .edition) .longestName) ⌝ }
     requires { ⌜ recordCount 0 (1 + renamingCount (catalogueOf (view (now img))) place) * recordSize ≤ length (now list) ⌝ }
     ensures { λ r. ⌜ Emitted (now (list .entry)) 0 (closed (groupsFor (view (now (img .entry))) (some (renamePlan (catalogueOf (view (now (img .entry)))) (view (now (img .entry))) (i .0) place (now (name .entry)) time)))) (now (list .exit)) r ⌝ }
 {
     let mut numbers = [0u64; 1024];
-    let root = directory::updated_root(img, time);
+    let root = directory::updated_root(img, g.edition, time);
     let k = commit::put_copy(list, 0, g, &mut numbers, 0, Sector(1), root);
     let n = put_renaming(list, k, &mut numbers, img, g, i, place, name, time);
     commit::put_commit(list, n, img, g, &numbers, n)
@@ -209,11 +210,11 @@ fn rename_file(
     g: Geometry,
     i: FileIndex,
     name: &[u8],
-    time: u32,
+    time: u64,
     list: &mut [u8],
 ) -> Changed
     requires { ⌜ Opened (now img) g ⌝ }
-    requires { ⌜ (i .0 < g .files) × (length (now name) ≤ longestName) ⌝ }
+    requires { ⌜ (i .0 < g .files) × (length (now name) ≤ layoutOf (g .edition) .longestName) ⌝ }
     ensures { λ r. ⌜ r ≡ answerOf (view (now (img .entry))) (renamedTo (view (now (img .entry))) (i .0) (now (name .entry)) time (length (now (list .entry)))) ⌝ }
     ensures { λ _. ⌜ now (list .exit) ≡ listAfter (view (now (img .entry))) (renamedTo (view (now (img .entry))) (i .0) (now (name .entry)) time (length (now (list .entry)))) (now (list .entry)) ⌝ }
 {
@@ -230,15 +231,15 @@ fn rename_file(
     commit::refused(volume::refusal(14))
 }
 
-pub fn rename_in(img: &[u8], old: &[u8], new: &[u8], time: u32, list: &mut [u8]) -> Changed
+pub fn rename_in(img: &[u8], old: &[u8], new: &[u8], time: u64, list: &mut [u8]) -> Changed
     requires { ⌜ judged (length (now img)) (view (now img)) .number ≡ 0 ⌝ }
     ensures { λ r. ⌜ r ≡ renameAnswer (length (now (img .entry))) (view (now (img .entry))) (now (old .entry)) (now (new .entry)) time (length (now (list .entry))) ⌝ }
     ensures { λ _. ⌜ now (list .exit) ≡ renameList (length (now (img .entry))) (view (now (img .entry))) (now (old .entry)) (now (new .entry)) time (now (list .entry)) ⌝ }
 {
-    if bad_names(old, new) {
+    let g = volume::geometry_in(img);
+    if bad_argument(g.edition, old, new, time) {
         return commit::refused(volume::refusal(8));
     }
-    let g = volume::geometry_in(img);
     if let Lowest::At(i) = directory::file_named(img, g, old) {
         if fields::is_same(old, new) {
             return commit::refused(volume::refusal(0));

@@ -6,8 +6,7 @@ use Rattle.model.specs.declared.Verdict.{Verdict}
 use Rattle.model.specs.Search.{indexOf}
 use Rattle.model.specs.Disk.{view}
 use Rattle.model.specs.Catalogue.{catalogueOf, fileNamed}
-use Rattle.model.specs.Find.{nameConditions}
-use Rattle.model.specs.Delete.{deletePlan, deleteDecision, deleteAnswer, deleteList}
+use Rattle.model.specs.Delete.{deleteConditions, deletePlan, deleteDecision, deleteAnswer, deleteList}
 use Rattle.commit.proofs.Decided.{refused-as-judged}
 use borrow.Author.Needs.{needs}
 use Rattle.changes.proofs.delete.Statement.{statement}
@@ -33,7 +32,7 @@ unfolding deleteAnswer deleteList deleteDecision
 returns-2 c =
     let a = c .before .before .before .before .before .before .before .args in
     let d = view (a .img .now) in
-    let h = refused-as-judged (length (a .img .now)) d (nameConditions (catalogueOf d) (a .name .now))
+    let h = refused-as-judged (length (a .img .now)) d (deleteConditions (catalogueOf d) (a .name .now) (a .time))
     (some (deletePlan (catalogueOf d) d (indexOf (fileNamed (catalogueOf d) (a .name .now))) (a .time))) (a .list .now) (c .before .before .before .judge .result)
     (c .before .before .before .judge .ensures) (c .before .if1 .left) in
     (c .refused .ensures ∙ h .0, h .1)

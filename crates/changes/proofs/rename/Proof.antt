@@ -30,7 +30,7 @@ unfolding renameAnswer renameList renameDecision
 returns-2 c =
     let a = c .before .before .before .before .before .before .before .before .args in
     let d = view (a .img .now) in
-    let h = refused-as-judged (length (a .img .now)) d (renameConditions (catalogueOf d) (a .old .now) (a .new .now)) (renamePlanned (catalogueOf d) d (a .old .now) (a .new .now) (a .time))
+    let h = refused-as-judged (length (a .img .now)) d (renameConditions (catalogueOf d) (a .old .now) (a .new .now) (a .time)) (renamePlanned (catalogueOf d) d (a .old .now) (a .new .now) (a .time))
     (a .list .now)
     (c .before .before .before .judge .result) (c .before .before .before .judge .ensures) (c .before .if1 .left) in
     (c .refused .ensures ∙ h .0, h .1)

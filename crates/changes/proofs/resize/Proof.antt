@@ -31,7 +31,7 @@ unfolding resizeAnswer resizeList resizeDecision
 returns-2 c =
     let a = c .before .before .before .before .before .before .before .args in
     let d = view (a .img .now) in
-    let h = refused-as-judged (length (a .img .now)) d (resizeConditions (catalogueOf d) (a .name .now) (a .size))
+    let h = refused-as-judged (length (a .img .now)) d (resizeConditions (catalogueOf d) (a .name .now) (a .size) (a .time))
     (resizePlanned (catalogueOf d) d (indexOf (fileNamed (catalogueOf d) (a .name .now))) (a .size) (a .time)) (a .list .now) (c .before .before .before .judge .result)
     (c .before .before .before .judge .ensures) (c .before .if1 .left) in
     (c .refused .ensures ∙ h .0, h .1)

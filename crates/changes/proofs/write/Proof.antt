@@ -31,7 +31,7 @@ unfolding writeAnswer writeList writeDecision
 returns-2 c =
     let a = c .before .before .before .before .before .before .before .before .args in
     let d = view (a .img .now) in
-    let h = refused-as-judged (length (a .img .now)) d (writeConditions (catalogueOf d) (a .name .now) (a .offset) (length (a .bytes .now)))
+    let h = refused-as-judged (length (a .img .now)) d (writeConditions (catalogueOf d) (a .name .now) (a .offset) (length (a .bytes .now)) (a .time))
     (writePlanned (catalogueOf d) (indexOf (fileNamed (catalogueOf d) (a .name .now))) d (a .offset) (a .bytes .now) (a .time)) (a .list .now) (c .before .before .before .judge .result)
     (c .before .before .before .judge .ensures) (c .before .if1 .left) in
     (c .refused .ensures ∙ h .0, h .1)

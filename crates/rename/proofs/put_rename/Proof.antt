@@ -55,7 +55,7 @@ returns c =
     let root = added-copy {numbers = replicate 1024 0} (p .put-copy .ensures .0) (p .put-copy .ensures .1) (omega arith) in
     let staged = added-then {numbers = replicate 1024 0} root (f .put-renaming .ensures .0) in
     added-committed d (renamePlan (catalogueOf d) d (a .i .0) (a .place) (a .name .now) (a .time)) staged (m .put-commit .ensures .0) (s .pre .0 .is)
-    (rw (p .before .before .before .updated-root .ensures) (sym (rename-targets d (a .i .0) (a .place) (a .name .now) (a .time))))
+    (rw (p .before .before .before .updated-root .ensures) (sym (rename-targets d (a .g) (s .pre .0 .is) (a .i .0) (a .place) (a .name .now) (a .time))))
     (rename-alone d (a .i .0) (a .place) (a .name .now) (a .time))
     (omega (arith, p .put-copy .ensures .0 .next, f .put-renaming .ensures .1 .0))
 

@@ -2,6 +2,7 @@
 use native.Mathlib.Omega.{arith}
 use Rattle.model.specs.Geometry.{entryAt}
 use Rattle.model.specs.Rename.{renamedRecord}
+use Rattle.commit.proofs.Decided.{edition-is}
 use Rattle.delete.proofs.Laws.{added-copy}
 use borrow.Author.Needs.{needs}
 use Rattle.rename.proofs.put_renamed.Statement.{statement}
@@ -27,8 +28,9 @@ unfolding renamedRecord
 returns c =
     let q = c .before .before .before .before in
     let s = c .before .before .before .before .before .before .before .before .before .before .before .before .before in
-    let room = s .pre .1 .1 .1 in (
-      added-copy {s = entryAt (s .args .i .0)} (rw (← q .before .before .before .before .renamed-entry .ensures) (q .put-copy .ensures .0))
+    let room = s .pre .1 .1 .1 in
+    let e = edition-is (s .args .img .now) (s .args .g) (s .pre .0 .is) in (
+      added-copy {s = entryAt (s .args .i .0)} (rw (e, ← q .before .before .before .before .renamed-entry .ensures) (q .put-copy .ensures .0))
           (rw (← q .before .sector .ensures) (q .put-copy .ensures .1)) room,
       omega (arith, q .put-copy .ensures .0 .next),
     )

@@ -1,21 +1,27 @@
--- `rename::rename_in` meets its contract. A bad name, no file, the same name, or another.
+-- `rename::rename_in` meets its contract. A bad name or time, no file, the same name, or another.
 use mathlib.Core.Path.{sym, ap, _∙_}
+use mathlib.Core.Bool.{_||_}
 use native.Mathlib.Omega.{arith}
 use Rattle.model.specs.declared.Geometry.{Geometry}
 use Rattle.model.specs.Disk.{view}
+use Rattle.model.specs.Edition.{badTime}
 use Rattle.model.specs.Entry.{badName, badNewName}
 use Rattle.laws.proofs.Booleans.{or-none}
 use Rattle.laws.proofs.Refusals.{image-length}
 use Rattle.laws.proofs.Judged.{judged-image, judged-opened}
 use Rattle.laws.proofs.Named.{named-at, short-name}
 use Rattle.laws.proofs.Entry.{new-name-good}
+use Rattle.commit.proofs.Decided.{named-short}
 use Rattle.rename.proofs.Decisions.{rename-bad, rename-missing, rename-itself, rename-other}
 use borrow.Author.Needs.{needs}
 use Rattle.rename.proofs.rename_in.Statement.{statement}
 use Rattle.rename.proofs.rename_in.Tie as tie
 
-bad-names-requires : tie.Need-bad-names-requires
-bad-names-requires c κs = search needs
+geometry-in-requires : tie.Need-geometry-in-requires
+geometry-in-requires c κs = image-length _ _ (judged-image _ _ (c .before .before .before .before .pre))
+
+bad-argument-requires : tie.Need-bad-argument-requires
+bad-argument-requires c κs = search needs
 
 refusal-requires : tie.Need-refusal-requires
 refusal-requires c κs = search needs
@@ -25,19 +31,20 @@ refused-requires c κs = search needs
 
 returns : tie.Need-returns
 returns c =
-    let s = c .before .before .before .before .before .before .before .before in
+    let b = c .before .before .before in
+    let s = b .before .before .before .before .before .before in
     let a = s .args in
     rw (c .refused .ensures, c .before .refusal .ensures)
-    (rename-bad (a .img .now) (a .list .now) (a .old .now) (a .new .now) (a .time) (s .pre) (sym (c .before .before .before .bad-names .ensures) ∙ c .before .before .if1 .taken))
-
-geometry-in-requires : tie.Need-geometry-in-requires
-geometry-in-requires c κs = image-length _ _ (judged-image _ _ (c .before .before .before .before .before .before .pre))
+    (rename-bad (a .img .now) (a .list .now) (a .old .now) (a .new .now) (a .time) (s .pre)
+    (rw (b .before .geometry-in .ensures) at (sym (b .bad-argument .ensures) ∙ c .before .before .if1 .taken)))
 
 file-named-requires : tie.Need-file-named-requires
-file-named-requires c κs = (
-  judged-opened _ _ (c .geometry-in .ensures) (omega arith) (c .before .before .before .before .before .before .before .pre),
-  short-name _ (or-none _ _ (sym (c .before .before .bad-names .ensures) ∙ c .before .if1 .left) .0),
-)
+file-named-requires c κs =
+    let b = c .before in
+    let s = b .before .before .before .before .before .before in
+    let e = b .before .geometry-in .result .edition in
+    let good = or-none (badTime e (s .args .time) || badName e (s .args .old .now)) (badNewName e (s .args .new .now)) (sym (b .bad-argument .ensures) ∙ c .if1 .left) in
+    (judged-opened _ _ (b .before .geometry-in .ensures) (omega arith) (s .pre), named-short e (s .args .old .now) (s .args .time) (good .0))
 
 enum-known-i : tie.Need-enum-known-i
 enum-known-i c = search needs
@@ -56,7 +63,7 @@ returns-2 c =
     let f = c .before .before .before .before .before .before .before in
     let s = f .before .before .before .before .before .before .before .before in
     let a = s .args in
-    let good = sym (f .before .before .before .bad-names .ensures) ∙ f .before .before .if1 .left in
+    let good = rw (f .before .before .before .geometry-in .ensures) at (sym (f .before .before .bad-argument .ensures) ∙ f .before .if1 .left) in
     let found = sym (f .file-named .ensures) ∙ c .before .before .before .before .before .i .given .1 in
     rw (c .refused2 .ensures, c .before .refusal2 .ensures)
     (rename-itself (a .img .now) (a .list .now) (a .old .now) (a .new .now) (a .time) (s .pre) (c .before .before .before .before .before .i .given .0 .0) good found
@@ -65,14 +72,16 @@ returns-2 c =
 rename-file-requires : tie.Need-rename-file-requires
 rename-file-requires c κs =
     let f = c .before .before .before .before .before .before in
+    let g = f .before .before .before .geometry-in in
     let s = f .before .before .before .before .before .before .before .before in
     let a = s .args in
-    let good = sym (f .before .before .before .bad-names .ensures) ∙ f .before .before .if1 .left in
-    let o = judged-opened _ _ (f .before .geometry-in .ensures) (omega (arith, f .before .geometry-in .ok)) (s .pre) in
+    let e = g .result .edition in
+    let good = or-none (badTime e (a .time) || badName e (a .old .now)) (badNewName e (a .new .now)) (sym (f .before .before .bad-argument .ensures) ∙ f .before .if1 .left) in
+    let o = judged-opened _ _ (g .ensures) (omega (arith, g .ok)) (s .pre) in
     let found = sym (f .file-named .ensures) ∙ c .before .before .before .before .i .given .1 in
     let low = named-at (view (a .img .now)) (a .old .now) (c .before .before .before .before .i .given .0 .0) (sym found) in
-    let e = ap (λ (x : Geometry). x .files) (o .is) in
-    (o, (omega arith, short-name (a .new .now) (new-name-good (a .new .now) (or-none (badName (a .old .now)) (badNewName (a .new .now)) good .1))))
+    let h = ap (λ (x : Geometry). x .files) (o .is) in
+    (o, (omega arith, short-name e (a .new .now) (new-name-good e (a .new .now) (good .1))))
 
 same-length : tie.Need-same-length
 same-length c = search needs
@@ -82,7 +91,7 @@ returns-3 c =
     let f = c .before .before .before .before .before .before .before .before .before in
     let s = f .before .before .before .before .before .before .before .before in
     let a = s .args in
-    let good = sym (f .before .before .before .bad-names .ensures) ∙ f .before .before .if1 .left in
+    let good = rw (f .before .before .before .geometry-in .ensures) at (sym (f .before .before .bad-argument .ensures) ∙ f .before .if1 .left) in
     let found = sym (f .file-named .ensures) ∙ c .before .before .before .before .before .before .before .i .given .1 in
     rename-other (a .img .now) (a .list .now) (a .old .now) (a .new .now) (a .time) (s .pre) (c .before .before .before .before .before .before .before .i .given .0 .0) good found
     (sym (c .before .before .before .before .before .is-same .ensures) ∙ c .before .before .before .before .if2 .left) (c .before .before .rename-file .ensures)
@@ -101,7 +110,7 @@ returns-4 c =
     let f = c .before .before .before .before in
     let s = f .before .before .before .before .before .before .before .before in
     let a = s .args in
-    let good = sym (f .before .before .before .bad-names .ensures) ∙ f .before .before .if1 .left in
+    let good = rw (f .before .before .before .geometry-in .ensures) at (sym (f .before .before .bad-argument .ensures) ∙ f .before .if1 .left) in
     let none = sym (f .file-named .ensures) ∙ c .before .before .enum-told .given .1 in
     rw (c .refused3 .ensures, c .before .refusal3 .ensures) (rename-missing (a .img .now) (a .list .now) (a .old .now) (a .new .now) (a .time) (s .pre) good none)
 
@@ -109,11 +118,11 @@ pub rename-in-spec : {M : Type 1} → statement M
 rename-in-spec =
     tie.close
     (tie.spec
-    bad-names-requires
+    geometry-in-requires
+    bad-argument-requires
     refusal-requires
     refused-requires
     returns
-    geometry-in-requires
     file-named-requires
     enum-known-i
     is-same-requires

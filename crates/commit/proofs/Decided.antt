@@ -18,8 +18,8 @@ use Rattle.model.specs.Superblock.{geometryIn}
 use Rattle.model.specs.Edition.{layoutOf, badTime}
 use Rattle.model.specs.Entry.{badName}
 use Rattle.model.specs.Catalogue.{catalogueOf}
-use Rattle.model.specs.Refusals.{Conditions, verdictOf, refusal, done, judged}
-use Rattle.model.specs.WriteList.{Plan, Emitted, groupsFor, closed, listLength, Decision, decided, answerOf, listAfter}
+use Rattle.model.specs.Refusals.{Conditions, verdictOf, refusal, done, isDone, judged}
+use Rattle.model.specs.WriteList.{Plan, Emitted, groupsFor, closed, listLength, Decision, ownVerdict, decided, answerOf, listAfter}
 use Rattle.laws.proofs.Booleans.{or-none}
 use Rattle.laws.proofs.Named.{short-name}
 use Rattle.laws.proofs.WriteList.{emit-nil, emitted-none}
@@ -51,14 +51,24 @@ comes-refused : (d : Disk) (x : Decision) (list : List ℕ) (v : Verdict) → x 
 unfolding groupsFor
 comes-refused d x list v e = rw e (refl, sym (emit-nil list 0))
 
+-- a call on an image that 1 to 7 refuse; and on one that they let pass, by its own refusals
+module _ (len : ℕ) (d : Disk) (cs : Conditions) (plan : Option Plan) (space : ℕ) where
+  pub decided-judged : (v : Verdict) → v ≡ judged len d → (v .number ≡ 0 → ⊥) → decided len d cs plan space ≡ record { verdict = v; plan = none }
+  unfolding decided
+  decided-judged v e h =
+      let a : eqb (judged len d .number) 0 ≡ false = rw (← e) (ne-eqb (v .number) 0 h) in
+      rw (a, a, e)
+
+  pub decided-own : judged len d .number ≡ 0 → (v : Verdict) → v ≡ ownVerdict cs space (listLength (groupsFor d plan))
+      → decided len d cs plan space ≡ record { verdict = v; plan = cond (isDone v) plan none }
+  unfolding decided
+  decided-own ok v e = rw (eq-eqb _ _ ok, e)
+
 module _ (len : ℕ) (d : Disk) (cs : Conditions) (plan : Option Plan) (list : List ℕ) where
   -- 1 to 7
   pub refused-as-judged : (v : Verdict) → v ≡ judged len d → (v .number ≡ 0 → ⊥)
       → ComesTo d (decided len d cs plan (length list)) list (record { verdict = v; length = 0 }) list
-  unfolding decided
-  refused-as-judged v e h =
-      let a : eqb (judged len d .number) 0 ≡ false = rw (← e) (ne-eqb (v .number) 0 h) in
-      comes-refused d (decided len d cs plan (length list)) list v (rw (a, a, e))
+  refused-as-judged v e h = comes-refused d (decided len d cs plan (length list)) list v (decided-judged len d cs plan (length list) v e h)
 
   -- v is what its own conditions come to
   module _ (ok : judged len d .number ≡ 0) (v : Verdict) (own : v ≡ verdictOf cs) where

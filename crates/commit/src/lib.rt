@@ -6,14 +6,15 @@ use model::Sector;
 use model::Verdict;
 ghost use mathlib.Core.Path.{_≡_};
 ghost use mathlib.Core.List.{[], _∷_};
+ghost use mathlib.Core.Option.{some};
 ghost use Prim.Native.Nat.{_+_, _-_, _*_, _≤_, _<_, min};
 ghost use lib.ListN.{length, getD, set};
 ghost use Rattle.model.specs.Bytes.{bytesFrom};
 ghost use Rattle.model.specs.Geometry.{reserveAt};
 ghost use Rattle.model.specs.Disk.{view};
 ghost use Rattle.model.specs.Journal.{journalSectors, entriesIn, journalSector};
-ghost use Rattle.model.specs.WriteList.{sectorWrite, recordSize, contentsStart, staging, journalOf, closed, recordCount, Emitted};
-ghost use Rattle.model.specs.Opened.{Bounded};
+ghost use Rattle.model.specs.WriteList.{sectorWrite, oneTarget, recordSize, contentsStart, staging, journalOf, groupsFor, closed, recordCount, Emitted};
+ghost use Rattle.model.specs.Opened.{Bounded, Opened};
 ghost use Rattle.commit.specs.Commit.{stagedTargets, commitGroups};
 
 // Record k is the copy of target j, in the j-th reserve sector; the target's number is noted for the journal.
@@ -161,6 +162,25 @@ pub fn put_commit(
     let k4 = put_targets(list, k3, numbers, n, k - n);
     let k5 = lists::put_barrier(list, k4);
     lists::put_superblock(list, k5, img, 0)
+}
+
+// The list of a call with one target and no data has 9 records.
+pub const ONE_TARGET_SIZE: usize = 9 * lists::RECORD_SIZE;
+
+pub fn put_one_target(
+    list: &mut [u8],
+    img: &[u8],
+    g: Geometry,
+    target: Sector,
+    s: [u8; 512],
+) -> usize
+    requires { ⌜ 9 * recordSize ≤ length (now list) ⌝ }
+    requires { ⌜ Opened (now img) g ⌝ }
+    ensures { λ r. ⌜ Emitted (now (list .entry)) 0 (closed (groupsFor (view (now (img .entry))) (some (oneTarget (target .0) s)))) (now (list .exit)) r ⌝ }
+{
+    let mut numbers = [0u64; 1];
+    let k = put_copy(list, 0, g, &mut numbers, 0, target, s);
+    put_commit(list, k, img, g, &numbers, 1)
 }
 
 // What a changing call answers where it refuses.

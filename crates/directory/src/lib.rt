@@ -13,9 +13,9 @@ ghost use Rattle.model.specs.Bytes.{numberIn};
 ghost use Rattle.model.specs.Search.{first, anyBelow, equalBytes};
 ghost use Rattle.model.specs.Geometry.{usable, extentBytes, rootAt, entryAt};
 ghost use Rattle.model.specs.Disk.{view};
-ghost use Rattle.model.specs.Root.{rootField, updatedRootSector};
+ghost use Rattle.model.specs.Root.{rootField, updatedRootSector, accessedRootSector};
 ghost use Rattle.model.specs.Edition.{layoutOf, badTime};
-ghost use Rattle.model.specs.Entry.{entryField, entryIn, fieldsOf, isOccupied, nameIn, badName, isTypable, badNewName, updatedEntrySector, renamedEntrySector};
+ghost use Rattle.model.specs.Entry.{entryField, entryIn, fieldsOf, isOccupied, nameIn, badName, isTypable, badNewName, updatedEntrySector, renamedEntrySector, accessedEntrySector};
 ghost use Rattle.model.specs.Catalogue.{catalogueOf, hasId, fileNamed, freeEntry};
 ghost use Rattle.model.specs.Faults.{fault21, fault22};
 ghost use Rattle.model.specs.Opened.{Bounded, Opened};
@@ -121,6 +121,22 @@ pub fn renamed_entry(img: &[u8], edition: u64, i: FileIndex, name: &[u8], time: 
     ensures { λ r. ⌜ r ≡ renamedEntrySector edition (now (name .entry)) time (view (now (img .entry)) (entryAt (i .0))) ⌝ }
 {
     layout::entry::renamed(fields::sector_part(img, i.sector()), edition, name, time)
+}
+
+// The root's sector with the access time set.
+pub fn accessed_root(img: &[u8], edition: u64, time: u64) -> [u8; 512]
+    requires { ⌜ 512 * rootAt + 512 ≤ length (now img) ⌝ }
+    ensures { λ r. ⌜ r ≡ accessedRootSector edition time (view (now (img .entry)) rootAt) ⌝ }
+{
+    layout::root::accessed(fields::sector_part(img, Sector(1)), edition, time)
+}
+
+// Entry i's sector with the access time set.
+pub fn accessed_entry(img: &[u8], edition: u64, i: FileIndex, time: u64) -> [u8; 512]
+    requires { ⌜ 512 * entryAt (i .0) + 512 ≤ length (now img) ⌝ }
+    ensures { λ r. ⌜ r ≡ accessedEntrySector edition time (view (now (img .entry)) (entryAt (i .0))) ⌝ }
+{
+    layout::entry::accessed(fields::sector_part(img, i.sector()), edition, time)
 }
 
 // ---- names

@@ -6,7 +6,7 @@ ghost use Prim.Native.Nat.{_≤_};
 ghost use lib.ListN.{length};
 ghost use Rattle.model.specs.Bytes.{numberIn, bytesFrom};
 ghost use Rattle.model.specs.Edition.{layoutOf};
-ghost use Rattle.model.specs.Entry.{entryField, entryIn, fieldsOf, isOccupied, nameIn, newEntrySector, updatedEntrySector, renamedEntrySector};
+ghost use Rattle.model.specs.Entry.{entryField, entryIn, fieldsOf, isOccupied, nameIn, newEntrySector, updatedEntrySector, renamedEntrySector, accessedEntrySector};
 ghost use Rattle.layout.specs.Front.{entryFront};
 ghost use Rattle.layout.specs.Unnamed.{unnamedSector};
 
@@ -203,5 +203,17 @@ pub fn renamed(s: &[u8], edition: u64, name: &[u8], time: u64) -> [u8; 512]
     let n = name.len();
     let mut a = unnamed(s, edition, n, time);
     fields::copy_bytes(name, 0, &mut a, e.name, n);
+    a
+}
+
+// Read's: the access time set, all else as it was.
+pub fn accessed(s: &[u8], edition: u64, time: u64) -> [u8; 512]
+    requires { ⌜ length (now s) ≡ 512 ⌝ }
+    ensures { λ r. ⌜ r ≡ accessedEntrySector edition time (now (s .entry)) ⌝ }
+{
+    let e = super::edition::of(edition);
+    let f = e.access_time;
+    let mut a = super::owned(s);
+    super::set_to(&mut a, f, time);
     a
 }

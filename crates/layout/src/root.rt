@@ -3,7 +3,7 @@ use super::Field;
 ghost use mathlib.Core.Path.{_≡_};
 ghost use lib.ListN.{length};
 ghost use Rattle.model.specs.Bytes.{numberIn};
-ghost use Rattle.model.specs.Root.{rootField, updatedRootSector, newRootSector};
+ghost use Rattle.model.specs.Root.{rootField, updatedRootSector, accessedRootSector, newRootSector};
 
 const VERSION: Field = Field {
     offset: 0,
@@ -38,6 +38,18 @@ pub fn updated(s: &[u8], edition: u64, time: u64) -> [u8; 512]
     let version = super::raised_version(super::number_in(s, VERSION));
     super::set_to(&mut a, VERSION, version);
     super::set_to(&mut a, change, time);
+    a
+}
+
+// List's: the access time set, all else as it was.
+pub fn accessed(s: &[u8], edition: u64, time: u64) -> [u8; 512]
+    requires { ⌜ length (now s) ≡ 512 ⌝ }
+    ensures { λ r. ⌜ r ≡ accessedRootSector edition time (now (s .entry)) ⌝ }
+{
+    let e = super::edition::of(edition);
+    let f = e.root_access_time;
+    let mut a = super::owned(s);
+    super::set_to(&mut a, f, time);
     a
 }
 

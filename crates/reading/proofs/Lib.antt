@@ -1,2 +1,4 @@
--- Laws of the verdicts of list and read.
+-- Laws of the verdicts of find, list and read, and of what list and read come to.
 pub mod Verdicts
+pub mod ListAnswers
+pub mod ReadAnswers

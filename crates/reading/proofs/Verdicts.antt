@@ -1,69 +1,27 @@
--- The verdicts of list, find and read on a disk, from the tests that the code makes. Assumes nothing.
-use Prim.Native.Nat.{ℕ, _≤_, _<_}
+-- The verdicts of find, and of list and read once the entry is found, from the tests that the code makes. Assumes nothing.
+use Prim.Native.Nat.{ℕ, _+_, _*_, _≤_, _<_}
 use mathlib.Core.Path.{_≡_, refl, sym, ap, _∙_}
-use mathlib.Core.Bool.{Bool, true, false, cond, not, _||_}
+use mathlib.Core.Bool.{Bool, true, false, cond, not}
 use mathlib.Core.List.{List}
+use mathlib.Core.Option.{none, some}
+use native.Mathlib.Omega.{arith}
 use lib.Dec.{ltb}
-use lib.ListN.{length}
-use borrow.Author.Tests.{le-leb, lt-leb, lt-ltb, le-ltb}
-use Rattle.model.specs.declared.Lowest.{Lowest}
+use borrow.Author.Tests.{ltb-false, eq-eqb, ne-eqb}
+use Rattle.model.specs.declared.Geometry.{Geometry}
 use Rattle.model.specs.declared.Lowest.the-variants.{At, Nowhere}
 use Rattle.model.specs.declared.Verdict.{Verdict}
-use Rattle.model.specs.Bytes.{numberIn}
-use Rattle.model.specs.Search.{isAt, indexOf}
+use Rattle.model.specs.Search.{isAt}
 use Rattle.model.specs.Geometry.{superblockAt, entryAt}
-use Rattle.model.specs.Disk.{Disk}
+use Rattle.model.specs.Disk.{Disk, view}
 use Rattle.model.specs.Superblock.{geometryIn}
-use Rattle.model.specs.Edition.{layoutOf}
-use Rattle.model.specs.Entry.{entryField, Entry, nameIn, entryIn, isOccupied, badName}
-use Rattle.model.specs.Catalogue.{catalogueOf, isFree, fileNamed, entryOf}
-use Rattle.model.specs.Refusals.{verdictOf, refusal, done}
+use Rattle.model.specs.Entry.{entryIn, isOccupied, badName}
+use Rattle.model.specs.Catalogue.{catalogueOf, fileNamed, entryOf}
+use Rattle.model.specs.Refusals.{verdictOf, andThen, refusal, done}
+use Rattle.model.specs.WriteList.{Plan, recordSize}
 use Rattle.model.specs.Find.{nameConditions}
-use Rattle.model.specs.Listing.{listConditions}
-use Rattle.model.specs.Read.{longestTransfer, sizeNamed, readConditions}
-use Rattle.laws.proofs.Entry.{length-nameIn}
-use Rattle.reading.specs.FileVerdict.{fileVerdict}
-use Rattle.laws.proofs.Named.{editionOn, entry-on, free-is, named-entry}
-
--- the first of three conditions that holds
-abbrev by3 : ℕ → ℕ → ℕ → Bool → Bool → Bool → Verdict
-by3 k l m a b c = cond a (refusal k) (cond b (refusal l) (cond c (refusal m) done))
-
-module _ (d : Disk) (i room : ℕ) where
-  abbrev files : ℕ
-  files = geometryIn (d superblockAt) .files
-
-  pub list-past : files ≤ i → verdictOf (listConditions (catalogueOf d) i room) ≡ refusal 8
-  unfolding verdictOf listConditions catalogueOf
-  list-past h = rw (le-leb files i h)
-
-  module _ (l : i < files) where
-    free-list : verdictOf (listConditions (catalogueOf d) i room) ≡ by3 8 9 14 false (not (isOccupied (d (entryAt i)))) (ltb room (length (entryOf (catalogueOf d) i .name)))
-    unfolding verdictOf listConditions catalogueOf
-    free-list =
-        ap (λ (b : Bool). by3 8 9 14 b (isFree (catalogueOf d .entries i)) (ltb room (length (entryOf (catalogueOf d) i .name)))) (lt-leb files i l)
-        ∙ ap (λ (b : Bool). by3 8 9 14 false b (ltb room (length (entryOf (catalogueOf d) i .name)))) (free-is d i l)
-
-    pub list-free : isOccupied (d (entryAt i)) ≡ false → verdictOf (listConditions (catalogueOf d) i room) ≡ refusal 9
-    list-free o = free-list ∙ ap (λ (b : Bool). by3 8 9 14 false (not b) (ltb room (length (entryOf (catalogueOf d) i .name)))) o
-
-    module _ (o : isOccupied (d (entryAt i)) ≡ true) where
-      full-list : verdictOf (listConditions (catalogueOf d) i room) ≡ by3 8 9 14 false false (ltb room (numberIn (d (entryAt i)) (layoutOf (editionOn d) .nameLength)))
-      unfolding entryIn
-      full-list =
-          free-list ∙ ap (λ (b : Bool). by3 8 9 14 false (not b) (ltb room (length (entryOf (catalogueOf d) i .name)))) o
-          ∙ ap (λ (e : Entry). by3 8 9 14 false false (ltb room (length (e .name)))) (entry-on d i l o)
-          ∙ ap (λ (n : ℕ). by3 8 9 14 false false (ltb room n)) (length-nameIn (editionOn d) (d (entryAt i)))
-
-      pub list-short : room < numberIn (d (entryAt i)) (layoutOf (editionOn d) .nameLength) → verdictOf (listConditions (catalogueOf d) i room) ≡ refusal 14
-      list-short h = full-list ∙ ap (λ (b : Bool). by3 8 9 14 false false b) (lt-ltb room (numberIn (d (entryAt i)) (layoutOf (editionOn d) .nameLength)) h)
-
-      pub list-done : numberIn (d (entryAt i)) (layoutOf (editionOn d) .nameLength) ≤ room → verdictOf (listConditions (catalogueOf d) i room) ≡ done
-      list-done h = full-list ∙ ap (λ (b : Bool). by3 8 9 14 false false b) (le-ltb room (numberIn (d (entryAt i)) (layoutOf (editionOn d) .nameLength)) h)
-
-      pub listed-name : entryOf (catalogueOf d) i .name ≡ nameIn (editionOn d) (d (entryAt i))
-      unfolding entryIn
-      listed-name = ap (λ (e : Entry). e .name) (entry-on d i l o)
+use Rattle.model.specs.Read.{readCount}
+use Rattle.laws.proofs.Named.{editionOn, entry-on}
+use Rattle.reading.specs.Given.{lentVerdict, fileVerdict, planned}
 
 -- ---- find: its conditions are tests of the code's
 
@@ -82,33 +40,46 @@ module _ (d : Disk) (name : List ℕ) where
   pub find-done : (i : ℕ) → badName (editionOn d) name ≡ false → fileNamed (catalogueOf d) name ≡ At i → verdictOf (nameConditions (catalogueOf d) name) ≡ done
   find-done i h n = find-tests ∙ rw (h, n)
 
--- ---- read
+-- ---- list and read, once the entry is found
 
-module _ (d : Disk) (name : List ℕ) (offset asked room : ℕ) where
-  read-tests : verdictOf (readConditions (catalogueOf d) name offset asked room)
-      ≡ cond (badName (editionOn d) name || ltb longestTransfer asked) (refusal 8)
-      (cond (not (isAt (fileNamed (catalogueOf d) name))) (refusal 9) (fileVerdict (sizeNamed (catalogueOf d) name) offset asked room))
-  unfolding verdictOf readConditions catalogueOf fileVerdict
-  read-tests = refl
+-- a test that did not refuse
+passed : (b : Bool) (n : ℕ) (v : Verdict) → cond b (refusal (n + 1)) v .number ≡ 0 → (b ≡ false) × (v .number ≡ 0)
+passed true n v e = let z : n + 1 ≡ 0 = e in absurd (omega arith)
+passed false n v e = (refl, e)
 
-  pub read-bad-name : badName (editionOn d) name ≡ true → verdictOf (readConditions (catalogueOf d) name offset asked room) ≡ refusal 8
-  read-bad-name h = read-tests ∙ rw h
+pub lent-enough : (needed room space : ℕ) → lentVerdict needed room space .number ≡ 0 → (needed ≤ room) × (9 * recordSize ≤ space)
+unfolding lentVerdict verdictOf
+lent-enough needed room space e =
+    let a = passed (ltb room needed) 13 (cond (ltb space (9 * recordSize)) (refusal 14) done) e in
+    (ltb-false room needed (a .0), ltb-false space (9 * recordSize) (passed (ltb space (9 * recordSize)) 13 done (a .1) .0))
 
-  or-true : (b : Bool) → (b || true) ≡ true
-  or-true true = refl
-  or-true false = refl
+pub file-enough : (size offset asked room space : ℕ) → fileVerdict size offset asked room space .number ≡ 0
+    → (offset ≤ size) × (readCount size offset asked ≤ room) × (9 * recordSize ≤ space)
+unfolding fileVerdict
+file-enough size offset asked room space e =
+    let a = passed (ltb size offset) 11 (lentVerdict (readCount size offset asked) room space) e in
+    let b = lent-enough (readCount size offset asked) room space (a .1) in
+    (ltb-false size offset (a .0), b .0, b .1)
 
-  pub read-long : longestTransfer < asked → verdictOf (readConditions (catalogueOf d) name offset asked room) ≡ refusal 8
-  read-long h = read-tests ∙ rw (lt-ltb longestTransfer asked h, or-true (badName (editionOn d) name))
+-- the list's 14 stands behind the output's
+pub lent-last : (a b : Bool) → cond a (refusal 14) (cond b (refusal 14) done) ≡ andThen (cond a (refusal 14) done) (cond b (refusal 14) done)
+lent-last true b = refl
+lent-last false b = refl
 
-  module _ (good : badName (editionOn d) name ≡ false) (most : asked ≤ longestTransfer) where
-    pub read-missing : isAt (fileNamed (catalogueOf d) name) ≡ false → verdictOf (readConditions (catalogueOf d) name offset asked room) ≡ refusal 9
-    read-missing h = read-tests ∙ rw (good, le-ltb longestTransfer asked most, h)
+pub planned-refused : (v : Verdict) (p : Plan) → (v .number ≡ 0 → ⊥) → planned v p ≡ record { verdict = v; plan = none }
+planned-refused v p h = rw (ne-eqb (v .number) 0 h)
 
-    pub size-named : (i : ℕ) → At i ≡ fileNamed (catalogueOf d) name → sizeNamed (catalogueOf d) name ≡ numberIn (d (entryAt i)) (entryField .size)
-    unfolding sizeNamed entryIn
-    size-named i e = ap (λ (p : Lowest). entryOf (catalogueOf d) (indexOf p) .size) (sym e) ∙ ap (λ (x : Entry). x .size) (named-entry d name i e)
+pub planned-done : (v : Verdict) (p : Plan) → v .number ≡ 0 → planned v p ≡ record { verdict = v; plan = some p }
+planned-done v p h = rw (eq-eqb (v .number) 0 h)
 
-    pub read-file : (i : ℕ) → At i ≡ fileNamed (catalogueOf d) name
-        → verdictOf (readConditions (catalogueOf d) name offset asked room) ≡ fileVerdict (numberIn (d (entryAt i)) (entryField .size)) offset asked room
-    read-file i e = read-tests ∙ rw (good, le-ltb longestTransfer asked most, size-named i e, ← e)
+-- ---- what the code reads by is the catalogue's
+
+pub files-is : (img : List ℕ) (g : Geometry) → g ≡ geometryIn (view img superblockAt) → catalogueOf (view img) .geometry .files ≡ g .files
+unfolding catalogueOf
+files-is img g is = rw is
+
+pub entry-is : (img : List ℕ) (g : Geometry) (i : ℕ) → g ≡ geometryIn (view img superblockAt) → i < g .files → isOccupied (view img (entryAt i)) ≡ true
+    → entryIn (g .edition) (view img (entryAt i)) ≡ entryOf (catalogueOf (view img)) i
+entry-is img g i is low occupied =
+    let f = ap (λ (x : Geometry). x .files) is in
+    ap (λ (x : Geometry). entryIn (x .edition) (view img (entryAt i))) is ∙ sym (entry-on (view img) i (omega arith) occupied)

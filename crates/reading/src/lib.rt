@@ -1,4 +1,4 @@
-// What find, list and read give on a volume that the refusals 1 to 7 let pass.
+// What find, list and read give, and the access times that list and read set, on a volume that the refusals 1 to 7 let pass.
 use model::BytesRead;
 use model::Fields;
 use model::FileIndex;
@@ -6,24 +6,26 @@ use model::Found;
 use model::Geometry;
 use model::Listed;
 use model::Lowest;
+use model::Sector;
 use model::Verdict;
 ghost use mathlib.Core.Path.{_≡_};
+ghost use mathlib.Core.Bool.{true, _||_};
 ghost use Prim.Native.Nat.{_+_, _*_, _≤_, _<_, _^_};
+ghost use lib.Dec.{ltb};
 ghost use lib.ListN.{length};
 ghost use Rattle.model.specs.Bytes.{numberIn, put};
 ghost use Rattle.model.specs.Geometry.{entryAt};
 ghost use Rattle.model.specs.Disk.{view};
-ghost use Rattle.model.specs.Search.{indexOf};
-ghost use Rattle.model.specs.Edition.{layoutOf};
-ghost use Rattle.model.specs.Entry.{nameIn, noFields};
-ghost use Rattle.model.specs.Table.{freeFile};
-ghost use Rattle.model.specs.Catalogue.{catalogueOf, fileNamed, fileBytes};
-ghost use Rattle.model.specs.Refusals.{verdictOf, given, judged};
+ghost use Rattle.model.specs.Edition.{layoutOf, badTime};
+ghost use Rattle.model.specs.Entry.{entryField, nameIn, noFields, isOccupied, badName};
+ghost use Rattle.model.specs.Catalogue.{catalogueOf, fileBytes};
+ghost use Rattle.model.specs.Refusals.{verdictOf, judged};
+ghost use Rattle.model.specs.WriteList.{listAfter};
 ghost use Rattle.model.specs.Find.{notFound, nameConditions, foundBy};
-ghost use Rattle.model.specs.Listing.{notListed, listConditions, listedBy, copiedBy};
-ghost use Rattle.model.specs.Read.{longestTransfer, readCount, notRead, readConditions, readBy};
+ghost use Rattle.model.specs.Listing.{notListed, listedOf, copiedOf, listAnswer, listOutput, listingList};
+ghost use Rattle.model.specs.Read.{longestTransfer, notRead, readAnswer, readOutput, readList};
 ghost use Rattle.model.specs.Opened.{Opened};
-ghost use Rattle.reading.specs.FileVerdict.{fileVerdict};
+ghost use Rattle.reading.specs.Given.{lentVerdict, fileVerdict, entryDecision, fileDecision, fileRead};
 
 fn no_fields() -> Fields
     ensures { λ r. ⌜ r ≡ noFields ⌝ }
@@ -54,7 +56,11 @@ pub fn not_listed(v: Verdict) -> Listed
     ensures { λ r. ⌜ r ≡ notListed v ⌝ }
 {
     let fields = no_fields();
-    Listed { verdict: v, fields }
+    Listed {
+        verdict: v,
+        fields,
+        length: 0,
+    }
 }
 
 pub fn not_read(v: Verdict) -> BytesRead
@@ -63,6 +69,7 @@ pub fn not_read(v: Verdict) -> BytesRead
     BytesRead {
         verdict: v,
         count: 0,
+        length: 0,
     }
 }
 
@@ -87,6 +94,21 @@ pub fn find_in(img: &[u8], name: &[u8]) -> Found
     not_found(volume::refusal(9))
 }
 
+// 14 where the output is shorter than what is given, or the list than that of the access time's one target.
+fn lent_verdict(needed: usize, room: usize, space: usize) -> Verdict
+    ensures { λ r. ⌜ r ≡ lentVerdict needed room space ⌝ }
+{
+    if room < needed {
+        return volume::refusal(14);
+    }
+    if space < commit::ONE_TARGET_SIZE {
+        return volume::refusal(14);
+    }
+    volume::refusal(0)
+}
+
+// ---- list
+
 // Copies entry i's name to the front of the output, which has room for it.
 fn copy_name(img: &[u8], edition: u64, i: FileIndex, out: &mut [u8], n: usize)
     requires { ⌜ 512 * entryAt (i .0) + 512 ≤ length (now img) ⌝ }
@@ -96,72 +118,136 @@ fn copy_name(img: &[u8], edition: u64, i: FileIndex, out: &mut [u8], n: usize)
     fields::copy_bytes(directory::name_at(img, edition, i), 0, out, 0, n);
 }
 
-pub fn list_in(img: &[u8], index: u64, out: &mut [u8]) -> Listed
+// Lists entry i, which is occupied, and sets the root's access time: refusal 14, or all of it.
+fn list_entry(
+    img: &[u8],
+    g: Geometry,
+    i: FileIndex,
+    time: u64,
+    out: &mut [u8],
+    list: &mut [u8],
+) -> Listed
+    requires { ⌜ Opened (now img) g ⌝ }
+    requires { ⌜ (i .0 < g .files) × (isOccupied (view (now img) (entryAt (i .0))) ≡ true) × (numberIn (view (now img) (entryAt (i .0))) (layoutOf (g .edition) .nameLength) ≤ layoutOf (g .edition) .longestName) ⌝ }
+    ensures { λ r. ⌜ r ≡ listedOf (entryDecision (view (now (img .entry))) (i .0) time (length (now (out .entry))) (length (now (list .entry)))) (view (now (img .entry))) (i .0) ⌝ }
+    ensures { λ _. ⌜ now (out .exit) ≡ put (now (out .entry)) 0 (copiedOf (entryDecision (view (now (img .entry))) (i .0) time (length (now (out .entry))) (length (now (list .entry)))) (view (now (img .entry))) (i .0)) ⌝ }
+    ensures { λ _. ⌜ now (list .exit) ≡ listAfter (view (now (img .entry))) (entryDecision (view (now (img .entry))) (i .0) time (length (now (out .entry))) (length (now (list .entry)))) (now (list .entry)) ⌝ }
+{
+    let fields = directory::fields_at(img, g.edition, i);
+    let n = fields.name_length as usize;
+    let verdict = lent_verdict(n, out.len(), list.len());
+    if verdict.number == 0 {
+        copy_name(img, g.edition, i, out, n);
+        let root = directory::accessed_root(img, g.edition, time);
+        commit::put_one_target(list, img, g, Sector(1), root);
+        return Listed {
+            verdict,
+            fields,
+            length: commit::ONE_TARGET_SIZE as u64,
+        };
+    }
+    not_listed(verdict)
+}
+
+pub fn list_in(img: &[u8], index: u64, time: u64, out: &mut [u8], list: &mut [u8]) -> Listed
     requires { ⌜ judged (length (now img)) (view (now img)) .number ≡ 0 ⌝ }
-    ensures { λ r. ⌜ r ≡ listedBy (verdictOf (listConditions (catalogueOf (view (now (img .entry)))) index (length (now (out .entry))))) (catalogueOf (view (now (img .entry)))) index ⌝ }
-    ensures { λ _. ⌜ now (out .exit) ≡ put (now (out .entry)) 0 (copiedBy (verdictOf (listConditions (catalogueOf (view (now (img .entry)))) index (length (now (out .entry))))) (catalogueOf (view (now (img .entry)))) index) ⌝ }
+    ensures { λ r. ⌜ r ≡ listAnswer (length (now (img .entry))) (view (now (img .entry))) index time (length (now (out .entry))) (length (now (list .entry))) ⌝ }
+    ensures { λ _. ⌜ now (out .exit) ≡ listOutput (length (now (img .entry))) (view (now (img .entry))) index time (now (out .entry)) (length (now (list .entry))) ⌝ }
+    ensures { λ _. ⌜ now (list .exit) ≡ listingList (length (now (img .entry))) (view (now (img .entry))) index time (length (now (out .entry))) (now (list .entry)) ⌝ }
 {
     let g = volume::geometry_in(img);
+    if layout::edition::bad_time(g.edition, time) {
+        return not_listed(volume::refusal(8));
+    }
     if index < g.files {
         let i = FileIndex(index);
         if directory::is_occupied(img, i) {
-            let fields = directory::fields_at(img, g.edition, i);
-            let n = fields.name_length as usize;
-            if n <= out.len() {
-                copy_name(img, g.edition, i, out, n);
-                let verdict = volume::refusal(0);
-                return Listed { verdict, fields };
-            }
-            return not_listed(volume::refusal(14));
+            return list_entry(img, g, i, time, out, list);
         }
         return not_listed(volume::refusal(9));
     }
     not_listed(volume::refusal(8))
 }
 
-// Reads of file i, whose size is given: refusals 12 and 14, or the bytes.
+// ---- read
+
+fn bad_argument(edition: u64, name: &[u8], asked: u64, time: u64) -> bool
+    ensures { λ r. ⌜ r ≡ (badTime edition time || (badName edition (now (name .entry)) || ltb longestTransfer asked)) ⌝ }
+{
+    if layout::edition::bad_time(edition, time) {
+        return true;
+    }
+    if directory::bad_name(edition, name) {
+        return true;
+    }
+    65536 < asked
+}
+
+// 12, or 14 for either buffer.
+fn file_verdict(size: u64, offset: u64, asked: u64, room: usize, space: usize) -> Verdict
+    requires { ⌜ asked ≤ longestTransfer ⌝ }
+    ensures { λ r. ⌜ r ≡ fileVerdict size offset asked room space ⌝ }
+{
+    if size < offset {
+        return volume::refusal(12);
+    }
+    let count = fields::least(asked, size - offset);
+    lent_verdict(count as usize, room, space)
+}
+
+// Reads of file i and sets its access time: refusals 12 and 14, or all of it.
 fn read_file(
     img: &[u8],
     g: Geometry,
     i: FileIndex,
-    size: u64,
     offset: u64,
     asked: u64,
+    time: u64,
     out: &mut [u8],
+    list: &mut [u8],
 ) -> BytesRead
     requires { ⌜ Opened (now img) g ⌝ }
-    requires { ⌜ (i .0 < freeFile) × (size < 2 ^ 62) × (asked ≤ longestTransfer) ⌝ }
-    ensures { λ r. ⌜ r ≡ given (fileVerdict size offset asked (length (now (out .entry)))) (record { verdict = fileVerdict size offset asked (length (now (out .entry))); count = readCount size offset asked }) notRead ⌝ }
+    requires { ⌜ (i .0 < g .files) × (isOccupied (view (now img) (entryAt (i .0))) ≡ true) × (numberIn (view (now img) (entryAt (i .0))) (entryField .size) < 2 ^ 62) × (asked ≤ longestTransfer) ⌝ }
+    ensures { λ r. ⌜ r ≡ fileRead (fileDecision (view (now (img .entry))) (i .0) offset asked time (length (now (out .entry))) (length (now (list .entry)))) (view (now (img .entry))) (i .0) offset asked ⌝ }
     ensures { λ r. ⌜ now (out .exit) ≡ put (now (out .entry)) 0 (fileBytes (catalogueOf (view (now (img .entry)))) (view (now (img .entry))) (i .0) offset (r .count)) ⌝ }
+    ensures { λ _. ⌜ now (list .exit) ≡ listAfter (view (now (img .entry))) (fileDecision (view (now (img .entry))) (i .0) offset asked time (length (now (out .entry))) (length (now (list .entry)))) (now (list .entry)) ⌝ }
 {
-    if size < offset {
-        return not_read(volume::refusal(12));
-    }
-    let count = fields::least(asked, size - offset);
-    if count as usize <= out.len() {
+    let size = directory::size_at(img, i);
+    let verdict = file_verdict(size, offset, asked, out.len(), list.len());
+    if verdict.number == 0 {
+        let count = fields::least(asked, size - offset);
         spans::read_span(img, g, i, offset, out, 0, count as usize);
-        let verdict = volume::refusal(0);
-        return BytesRead { verdict, count };
+        let entry = directory::accessed_entry(img, g.edition, i, time);
+        commit::put_one_target(list, img, g, i.sector(), entry);
+        return BytesRead {
+            verdict,
+            count,
+            length: commit::ONE_TARGET_SIZE as u64,
+        };
     }
-    not_read(volume::refusal(14))
+    not_read(verdict)
 }
 
-pub fn read_in(img: &[u8], name: &[u8], offset: u64, asked: u64, out: &mut [u8]) -> BytesRead
+pub fn read_in(
+    img: &[u8],
+    name: &[u8],
+    offset: u64,
+    asked: u64,
+    time: u64,
+    out: &mut [u8],
+    list: &mut [u8],
+) -> BytesRead
     requires { ⌜ judged (length (now img)) (view (now img)) .number ≡ 0 ⌝ }
-    ensures { λ r. ⌜ r ≡ readBy (verdictOf (readConditions (catalogueOf (view (now (img .entry)))) (now (name .entry)) offset asked (length (now (out .entry))))) (catalogueOf (view (now (img .entry)))) (now (name .entry)) offset asked ⌝ }
-    ensures { λ r. ⌜ now (out .exit) ≡ put (now (out .entry)) 0 (fileBytes (catalogueOf (view (now (img .entry)))) (view (now (img .entry))) (indexOf (fileNamed (catalogueOf (view (now (img .entry)))) (now (name .entry)))) offset (r .count)) ⌝ }
+    ensures { λ r. ⌜ r ≡ readAnswer (length (now (img .entry))) (view (now (img .entry))) (now (name .entry)) offset asked time (length (now (out .entry))) (length (now (list .entry))) ⌝ }
+    ensures { λ _. ⌜ now (out .exit) ≡ readOutput (length (now (img .entry))) (view (now (img .entry))) (now (name .entry)) offset asked time (now (out .entry)) (length (now (list .entry))) ⌝ }
+    ensures { λ _. ⌜ now (list .exit) ≡ readList (length (now (img .entry))) (view (now (img .entry))) (now (name .entry)) offset asked time (length (now (out .entry))) (now (list .entry)) ⌝ }
 {
     let g = volume::geometry_in(img);
-    if directory::bad_name(g.edition, name) {
-        return not_read(volume::refusal(8));
-    }
-    if 65536 < asked {
+    if bad_argument(g.edition, name, asked, time) {
         return not_read(volume::refusal(8));
     }
     if let Lowest::At(i) = directory::file_named(img, g, name) {
-        let index = FileIndex(i as u64);
-        let size = directory::size_at(img, index);
-        return read_file(img, g, index, size, offset, asked, out);
+        return read_file(img, g, FileIndex(i as u64), offset, asked, time, out, list);
     }
     not_read(volume::refusal(9))
 }

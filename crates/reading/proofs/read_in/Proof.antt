@@ -1,26 +1,28 @@
--- `reading::read_in` meets its contract. The name is bad, too many bytes are asked, the file is read, or no file has the name.
+-- `reading::read_in` meets its contract. An argument is bad, the file is read, or no file has the name.
 use mathlib.Core.Path.{sym, ap, _∙_}
+use mathlib.Core.Bool.{_||_}
 use native.Mathlib.Omega.{arith}
-use lib.ListN.{length}
+use lib.Dec.{ltb}
+use borrow.Author.Tests.{ltb-false}
 use Rattle.model.specs.declared.Geometry.{Geometry}
-use Rattle.model.specs.Search.{tabulate, isAt}
 use Rattle.model.specs.Disk.{view}
-use Rattle.model.specs.Catalogue.{fileBytes}
-use Rattle.model.specs.Read.{readBy}
-use Rattle.laws.proofs.Bytes.{put-nil}
+use Rattle.model.specs.Edition.{badTime}
+use Rattle.model.specs.Entry.{badName}
+use Rattle.model.specs.Read.{longestTransfer}
+use Rattle.laws.proofs.Booleans.{or-none}
 use Rattle.laws.proofs.Refusals.{image-length}
 use Rattle.laws.proofs.Judged.{judged-image, judged-sound, judged-opened}
 use Rattle.laws.proofs.Named.{named-at, short-name, size-fits}
-use Rattle.reading.proofs.Verdicts.{read-bad-name, read-long, read-missing, size-named, read-file}
+use Rattle.reading.proofs.ReadAnswers.{read-bad, read-missing, read-found}
 use borrow.Author.Needs.{needs}
 use Rattle.reading.proofs.read_in.Statement.{statement}
 use Rattle.reading.proofs.read_in.Tie as tie
 
 geometry-in-requires : tie.Need-geometry-in-requires
-geometry-in-requires c κs = image-length _ _ (judged-image _ _ (c .before .before .before .pre))
+geometry-in-requires c κs = image-length _ _ (judged-image _ _ (c .before .before .before .before .pre))
 
-bad-name-requires : tie.Need-bad-name-requires
-bad-name-requires c κs = search needs
+bad-argument-requires : tie.Need-bad-argument-requires
+bad-argument-requires c κs = search needs
 
 refusal-requires : tie.Need-refusal-requires
 refusal-requires c κs = search needs
@@ -29,13 +31,63 @@ not-read-requires : tie.Need-not-read-requires
 not-read-requires c κs = search needs
 
 returns : tie.Need-returns
-unfolding readBy fileBytes tabulate
 returns c =
-    let b = c .before .before .before in
-    let a = b .before .before .before .before .before .args in
-    let v = read-bad-name (view (a .img .now)) (a .name .now) (a .offset) (a .asked) (length (a .out .now))
-    (rw (b .before .geometry-in .ensures) at (sym (b .bad-name .ensures) ∙ c .before .before .if1 .taken)) in
-    (rw (v, ← c .before .refusal .ensures) (c .not-read .ensures), rw (c .not-read .ensures) (sym (put-nil _ _)))
+    let t = c .before .before .before in
+    let s = t .before .before .before .before .before .before in
+    let a = s .args in
+    rw (c .not-read .ensures, c .before .refusal .ensures)
+    (read-bad (a .img .now) (a .out .now) (a .list .now) (a .name .now) (a .offset) (a .asked) (a .time) (s .pre) (t .before .geometry-in .result) (t .before .geometry-in .ensures)
+    (sym (t .bad-argument .ensures) ∙ c .before .before .if1 .taken))
+
+file-named-requires : tie.Need-file-named-requires
+file-named-requires c κs =
+    let g = c .before .before in
+    let s = g .before .before .before .before .before in
+    let n = g .geometry-in .result .edition in
+    let good = or-none (badTime n (s .args .time)) (badName n (s .args .name .now) || ltb longestTransfer (s .args .asked)) (sym (c .before .bad-argument .ensures) ∙ c .if1 .left) .1 in (
+      judged-opened _ _ (g .geometry-in .ensures) (omega (arith, g .geometry-in .ok)) (s .pre),
+      short-name _ _ (or-none (badName n (s .args .name .now)) (ltb longestTransfer (s .args .asked)) good .0),
+    )
+
+enum-known-i : tie.Need-enum-known-i
+enum-known-i c = search needs
+
+read-file-requires : tie.Need-read-file-requires
+read-file-requires c κs =
+    let i = c .before .before .before in
+    let f = i .before .before in
+    let b = f .before in
+    let g = b .before .before in
+    let s = g .before .before .before .before .before in
+    let n = g .geometry-in .result .edition in
+    let good = or-none (badTime n (s .args .time)) (badName n (s .args .name .now) || ltb longestTransfer (s .args .asked)) (sym (b .before .bad-argument .ensures) ∙ b .if1 .left) .1 in
+    let most = ltb-false longestTransfer (s .args .asked) (or-none (badName n (s .args .name .now)) (ltb longestTransfer (s .args .asked)) good .1) in
+    let o = judged-opened _ _ (g .geometry-in .ensures) (omega (arith, g .geometry-in .ok)) (s .pre) in
+    let h = named-at (view (s .args .img .now)) (s .args .name .now) (i .i .given .0 .0) (sym (sym (f .file-named .ensures) ∙ i .i .given .1)) in
+    let e = ap (λ (x : Geometry). x .files) (g .geometry-in .ensures) in
+    let z = size-fits (s .args .img .now) (g .geometry-in .result) o (judged-sound _ _ (s .pre)) (i .i .given .0 .0) (h .0) (h .1) in
+    (o, (omega arith, h .1, z, most))
+
+same-length : tie.Need-same-length
+same-length c = search needs
+
+same-length-2 : tie.Need-same-length-2
+same-length-2 c = search needs
+
+returns-2 : tie.Need-returns-2
+returns-2 c =
+    let l = c .before .before .before .before in
+    let i = l .before .before .before .before in
+    let f = i .before .before in
+    let b = f .before in
+    let g = b .before .before in
+    let s = g .before .before .before .before .before in
+    let a = s .args in
+    read-found (a .img .now) (a .out .now) (a .list .now) (a .name .now) (a .offset) (a .asked) (a .time) (s .pre) (g .geometry-in .result) (g .geometry-in .ensures)
+    (sym (b .before .bad-argument .ensures) ∙ b .if1 .left) (i .i .given .0 .0) (sym (f .file-named .ensures) ∙ i .i .given .1) (l .read-file .ensures)
+
+enum-told : tie.Need-enum-told
+enum-told c = search needs
 
 refusal-requires-2 : tie.Need-refusal-requires-2
 refusal-requires-2 c κs = search needs
@@ -43,104 +95,33 @@ refusal-requires-2 c κs = search needs
 not-read-requires-2 : tie.Need-not-read-requires-2
 not-read-requires-2 c κs = search needs
 
-returns-2 : tie.Need-returns-2
-unfolding readBy fileBytes tabulate
-returns-2 c =
-    let a = c .before .before .before .before .before .before .before .before .before .args in
-    let v = read-long (view (a .img .now)) (a .name .now) (a .offset) (a .asked) (length (a .out .now)) (c .before .before .if2 .taken) in
-    (rw (v, ← c .before .refusal2 .ensures) (c .not-read2 .ensures), rw (c .not-read2 .ensures) (sym (put-nil _ _)))
-
-file-named-requires : tie.Need-file-named-requires
-file-named-requires c κs =
-    let b = c .before .before in
-    (judged-opened _ _ (b .before .geometry-in .ensures) (omega arith) (b .before .before .before .before .before .pre), short-name _ _ (sym (b .bad-name .ensures) ∙ c .before .if1 .left))
-
-enum-known-i : tie.Need-enum-known-i
-enum-known-i c = search needs
-
-size-at-requires : tie.Need-size-at-requires
-size-at-requires c κs =
-    let f = c .before .before .before in
-    let g = f .before .before .before .before in
-    let s = g .before .before .before .before in
-    let o = judged-opened _ _ (g .geometry-in .ensures) (omega (arith, g .geometry-in .ok)) (s .pre) in
-    let e = ap (λ (x : Geometry). x .files) (g .geometry-in .ensures) in
-    let h = named-at (view (s .args .img .now)) (s .args .name .now) (c .before .i .given .0 .0) (sym (sym (f .file-named .ensures) ∙ c .before .i .given .1)) in
-    omega arith
-
-read-file-requires : tie.Need-read-file-requires
-read-file-requires c κs =
-    let i = c .before .before .before in
-    let f = i .before .before in
-    let g = f .before .before .before .before in
-    let s = g .before .before .before .before in
-    let o = judged-opened _ _ (g .geometry-in .ensures) (omega (arith, g .geometry-in .ok)) (s .pre) in
-    let h = named-at (view (s .args .img .now)) (s .args .name .now) (i .i .given .0 .0) (sym (sym (f .file-named .ensures) ∙ i .i .given .1)) in
-    let e = ap (λ (x : Geometry). x .files) (g .geometry-in .ensures) in
-    let b = size-fits (s .args .img .now) (g .geometry-in .result) o (judged-sound _ _ (s .pre)) (i .i .given .0 .0) (h .0) (h .1) in
-    let z = c .before .size-at .ensures in
-    (o, (omega arith, omega (arith, z, b), f .before .if2 .left))
-
-same-length : tie.Need-same-length
-same-length c = search needs
-
 returns-3 : tie.Need-returns-3
-unfolding readBy
 returns-3 c =
-    let f = c .before .before .before .before .before .before in
-    let t = f .before .before .before in
-    let a = t .before .before .before .before .before .before .before .args in
-    let q = sym (sym (f .before .before .file-named .ensures) ∙ f .i .given .1) in
-    let g = rw (t .before .before .before .geometry-in .ensures) at (sym (t .before .before .bad-name .ensures) ∙ t .before .if1 .left) in
-    let m = t .if2 .left in
-    let z = c .before .before .before .before .size-at .ensures in (
-      rw (
-        read-file (view (a .img .now)) (a .name .now) (a .offset) (a .asked) (length (a .out .now)) g m (f .i .given .0 .0) q,
-        size-named (view (a .img .now)) (a .name .now) (a .offset) (a .asked) (length (a .out .now)) g m (f .i .given .0 .0) q,
-        ← z,
-      )
-          (c .before .before .read-file .ensures .0),
-      rw (← q) (c .before .before .read-file .ensures .1),
-    )
-
-enum-told : tie.Need-enum-told
-enum-told c = search needs
-
-refusal-requires-3 : tie.Need-refusal-requires-3
-refusal-requires-3 c κs = search needs
-
-not-read-requires-3 : tie.Need-not-read-requires-3
-not-read-requires-3 c κs = search needs
-
-returns-4 : tie.Need-returns-4
-unfolding readBy fileBytes tabulate
-returns-4 c =
-    let n = sym (c .before .before .before .before .file-named .ensures) ∙ c .before .before .enum-told .given .1 in
-    let t = c .before .before .before .before .before in
-    let a = t .before .before .before .before .before .before .before .args in
-    let v = read-missing (view (a .img .now)) (a .name .now) (a .offset) (a .asked) (length (a .out .now))
-    (rw (t .before .before .before .geometry-in .ensures) at (sym (t .before .before .bad-name .ensures) ∙ t .before .if1 .left)) (t .if2 .left) (ap isAt n) in
-    (rw (v, ← c .before .refusal3 .ensures) (c .not-read3 .ensures), rw (c .not-read3 .ensures) (sym (put-nil _ _)))
+    let f = c .before .before .before .before in
+    let b = f .before in
+    let g = b .before .before in
+    let s = g .before .before .before .before .before in
+    let a = s .args in
+    rw (c .not-read2 .ensures, c .before .refusal2 .ensures)
+    (read-missing (a .img .now) (a .out .now) (a .list .now) (a .name .now) (a .offset) (a .asked) (a .time) (s .pre) (g .geometry-in .result) (g .geometry-in .ensures)
+    (sym (b .before .bad-argument .ensures) ∙ b .if1 .left) (sym (f .file-named .ensures) ∙ c .before .before .enum-told .given .1))
 
 pub read-in-spec : {M : Type 1} → statement M
 read-in-spec =
     tie.close
     (tie.spec
     geometry-in-requires
-    bad-name-requires
+    bad-argument-requires
     refusal-requires
     not-read-requires
     returns
-    refusal-requires-2
-    not-read-requires-2
-    returns-2
     file-named-requires
     enum-known-i
-    size-at-requires
     read-file-requires
     same-length
-    returns-3
+    same-length-2
+    returns-2
     enum-told
-    refusal-requires-3
-    not-read-requires-3
-    returns-4)
+    refusal-requires-2
+    not-read-requires-2
+    returns-3)

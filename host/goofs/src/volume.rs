@@ -7,7 +7,7 @@ use std::ops::ControlFlow;
 use crate::change::{step, Change, Format, List, Step, FORMAT_BARRIERS};
 use crate::device::{Device, SECTOR};
 use crate::error::{Error, Interrupted};
-use crate::image::{Image, State};
+use crate::image::{Entry, Image, State};
 use crate::save::Save;
 
 #[derive(Debug)]
@@ -113,6 +113,31 @@ impl<D: Device> Volume<D> {
         let id = image.unused_id(&[])?;
         let save = Save::new(image, name, id, None, time)?;
         self.apply(&save.changes(contents))
+    }
+
+    /// Fills the start of the output with bytes of the file, says how many, and sets the file's access
+    /// time, also where there are none to give. `image` has the calls that leave times alone.
+    pub fn read(
+        &mut self,
+        name: &[u8],
+        offset: u64,
+        output: &mut [u8],
+        time: u64,
+    ) -> Result<usize, Error> {
+        let (count, list) = self.image()?.read_touching(name, offset, output, time)?;
+        self.carry_out(&list, 0)?;
+        Ok(count)
+    }
+
+    /// All files, in the directory's order; sets the root's access time. In a directory without a file
+    /// there is none to list, and the time stays.
+    pub fn entries(&mut self, time: u64) -> Result<Vec<Entry>, Error> {
+        let entries = self.image()?.entries()?;
+        if let Some(first) = entries.first() {
+            let index = first.index;
+            self.apply(&[Change::TouchRoot { index, time }])?;
+        }
+        Ok(entries)
     }
 
     /// Finishes a change that was cut. Gives whether there was one.

@@ -4,8 +4,8 @@
 use crate::device::SECTOR;
 use crate::error::Refusal;
 use crate::image::{
-    claimed, Edition, Entry, Image, Summary, ENTRIES_IN_TABLE_SECTOR, JOURNAL_SECTORS, LONGEST_NAME,
-    LONGEST_TRANSFER,
+    claimed, Edition, Entry, Image, Summary, ENTRIES_IN_TABLE_SECTOR, JOURNAL_SECTORS,
+    LONGEST_NAME, LONGEST_TRANSFER,
 };
 use crate::ChangeAnswer;
 
@@ -144,10 +144,7 @@ impl List {
 }
 
 /// The list that a call fills, at most so many records long.
-fn list_of(
-    records: usize,
-    call: impl FnOnce(&mut [u8]) -> ChangeAnswer,
-) -> Result<List, Refusal> {
+fn list_of(records: usize, call: impl FnOnce(&mut [u8]) -> ChangeAnswer) -> Result<List, Refusal> {
     let mut bytes = vec![0; records * RECORD];
     let answer = call(&mut bytes);
     Refusal::judge(answer.code, answer.fault, answer.place)?;

@@ -441,6 +441,50 @@ mod tests {
         assert!(counting.medium.bytes[..held.len()] == held);
     }
 
+    /// Who reads through the image leaves the times alone; who reads through the volume sets an access
+    /// time, on the device too, and nothing else.
+    #[test]
+    fn access_times() {
+        let mut medium = formatted();
+        let mut volume = Volume::open(&mut medium).unwrap();
+        let mut output = [0; 9];
+        assert_eq!(volume.entries(77).unwrap(), []);
+        assert_eq!(volume.image().unwrap().root().access_time, 1);
+        volume.save(b"f", b"counts", 5).unwrap();
+
+        let image = volume.image().unwrap();
+        let before = image.bytes().to_vec();
+        assert_eq!(image.read(b"f", 1, &mut output), Ok(5));
+        assert_eq!(image.contents(b"f").unwrap(), b"counts");
+        let mut file = image.find(b"f").unwrap();
+        assert_eq!(image.entries().unwrap(), [file.clone()]);
+        assert!(volume.image().unwrap().bytes() == before);
+
+        for (offset, given, time) in [(1, 5, 78), (6, 0, 79)] {
+            assert_eq!(volume.read(b"f", offset, &mut output, time).unwrap(), given);
+            file.access_time = time;
+            assert_eq!(volume.image().unwrap().find(b"f"), Ok(file.clone()));
+        }
+        let mut root = volume.image().unwrap().root();
+        assert_eq!(root.access_time, 1);
+        assert_eq!(volume.entries(80).unwrap(), [file.clone()]);
+        root.access_time = 80;
+        assert_eq!(volume.image().unwrap().root(), root);
+
+        for (name, offset, time, refusal) in [
+            (&b"f"[..], 7, 81, Refusal::PastTheEnd),
+            (b"g", 0, 81, Refusal::NotThere),
+            (b"f", 0, 1 << 32, Refusal::BadArgument),
+        ] {
+            let refused = volume.read(name, offset, &mut output, time);
+            assert!(matches!(refused, Err(Error::Refused(found)) if found == refusal));
+        }
+        let held = volume.image().unwrap().bytes().to_vec();
+        assert_eq!(volume.image().unwrap().find(b"f"), Ok(file));
+        drop(volume);
+        assert!(medium.bytes == held);
+    }
+
     /// The caller may stop between two changes; what was done is done.
     #[test]
     fn changes_are_stopped() {

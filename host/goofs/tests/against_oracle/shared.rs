@@ -5,7 +5,9 @@ use crate::counts::{count, Compared};
 use oracle::answers::{code, CheckAnswer, FormatRecordAnswer, RecoverAnswer, SliceAnswer};
 use oracle::layout::Edition;
 use oracle::testing::buffers::{LentBuffer, LentScratch};
-use oracle::testing::requests::{create, delete, find, list, read, rename, resize, shortened, write};
+use oracle::testing::requests::{
+    create, delete, find, list, read, rename, resize, shortened, write,
+};
 use oracle::testing::volumes::{ANY, ANY_LIST};
 use oracle::testing::{checks_alike, Filled, Oracle, Subject};
 use oracle::{Answer, FormatRequest, Lent, Request};
@@ -305,6 +307,14 @@ pub fn output(length: usize) -> Lent {
     }
 }
 
+/// A list of this length, and no output.
+pub fn only_list(length: usize) -> Lent {
+    Lent {
+        output: 0,
+        list: length,
+    }
+}
+
 /// Puts a call with long buffers, exact ones, either of them a byte too short, and none. Gives the
 /// code and the lengths that were filled.
 pub fn with_each_buffer(request: &Request, image: &[u8]) -> (u64, Lent) {
@@ -316,7 +326,10 @@ pub fn with_each_buffer(request: &Request, image: &[u8]) -> (u64, Lent) {
     };
     if answer.code() == code::DONE {
         assert!(alike(request, image, exact) == (answer, filled));
-        let short_output = exact.output.checked_sub(1).map(|output| Lent { output, ..exact });
+        let short_output = exact
+            .output
+            .checked_sub(1)
+            .map(|output| Lent { output, ..exact });
         let short_list = exact.list.checked_sub(1).map(|list| Lent { list, ..exact });
         for short in [short_output, short_list].into_iter().flatten() {
             let (refused, _) = alike(request, image, short);

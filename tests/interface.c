@@ -924,9 +924,9 @@ static void access_times(void)
                 NUMBER(read_call("beam", 3000, 9, much).length, ACCESS_LIST);
             else
                 NUMBER(list_call(1, much).length, ACCESS_LIST);
-            list_is(__LINE__, access_list(target[k].sector, target[k].at), ACCESS_LIST);
-            memcpy(wanted.bytes, lent_list.bytes, ACCESS_LIST);
+            memcpy(wanted.bytes, access_list(target[k].sector, target[k].at), ACCESS_LIST);
             wanted.length = ACCESS_LIST;
+            list_is(__LINE__, wanted.bytes, ACCESS_LIST);
             land(medium.bytes, records);
             recovered = goofs_recover(medium.bytes, IMAGE, lent.bytes, sizeof lent.bytes);
             NUMBER(recovered.length, records >= 4 && records < 8 ? 4 * 528 : 0); /* the target, a mark and two barriers */

@@ -45,7 +45,8 @@
  * edition 2 they have 8, and so a name of edition 2 has at most 468 bytes instead of 476. All else is the same, and every call takes
  * both. Times have 64 bits in every call and result; on edition 1 a time above 4,294,967,295 (in seconds since 1970, the year 2106)
  * gets 8 from every call that takes one, also where it would store none (a write of no data, the same size, the same name twice) and
- * where the list is not carried out. The format chooses the edition, and no call turns one into the other. A build of before edition 2 refuses such a volume with 2.
+ * where the list is not carried out. The format chooses the edition, and no call turns one into the other. A build of before edition 2
+ * refuses such a volume with 2.
  *
  * A name is its bytes, without a 0 at the end. examples/detector.c is a whole program.
  */

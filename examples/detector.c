@@ -65,6 +65,7 @@ static const char *const refusals[] = {
 /* One list at a time is asked for, so one place serves all of them, and it is as long as the longest. It is static, as half a
  * megabyte is much for a stack. It is no part of the image: the slices of one call must not overlap. */
 static union {
+    uint8_t access[GOOFS_ACCESS_LIST];
     uint8_t create[GOOFS_CREATE_LIST];
     uint8_t write[GOOFS_WRITE_LIST];
     uint8_t rename[GOOFS_RENAME_LIST];
@@ -354,7 +355,10 @@ static void print(const struct card *card)
         puts("no calibration");
         return;
     }
-    answer = goofs_read(card->image, card->length, name, NAME_LENGTH, 0, sizeof calibration, calibration, sizeof calibration);
+    /* The list would set the access time. It is not carried out: a start that only reads then wears the card as little as it can, and
+     * any time will do. */
+    answer = goofs_read(card->image, card->length, name, NAME_LENGTH, 0, sizeof calibration, 0, calibration, sizeof calibration,
+                        list.access, sizeof list.access);
     done("read", answer.code);
     printf("%.*s\n", (int)answer.count, (const char *)calibration); /* ends at the padding, or at the sector's end */
 }

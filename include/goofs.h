@@ -22,6 +22,12 @@
  * (goofs_carry_out does that to an image in memory). Its first write of the superblock is the start mark: a change that is cut
  * before it is not done, one that is cut after it is finished by recovery.
  *
+ * goofs_read and goofs_list give, besides what is asked for, such a list of GOOFS_ACCESS_LIST bytes: carried out, it sets the file's or
+ * the root's access time, and nothing else. A place for it must be lent, but a program need not carry it out: one that leaves access
+ * times alone, or has the card open for reading only, drops it, and the next call is given the image as it was. Such a program may pass
+ * any time that the edition stores, as 0. One that carries it out holds the lock of a program that changes the volume. What the call
+ * gave in its output stays true if the list is cut: the time is then set exactly if the start mark landed.
+ *
  * If a write or barrier fails, write nothing more, and start over. What a system that holds writes back shows then need not be on
  * the medium, and may never get there: on Linux a failed fdatasync leaves pages marked as written, and the next one succeeds
  * without them. The same goes for a program that was ended in the middle of a list. So at each start, before the first list:
@@ -38,8 +44,9 @@
  * A volume is of one of two editions, which the summary tells. In edition 1 the two times of an entry and of the root have 4 bytes, in
  * edition 2 they have 8, and so a name of edition 2 has at most 468 bytes instead of 476. All else is the same, and every call takes
  * both. Times have 64 bits in every call and result; on edition 1 a time above 4,294,967,295 (in seconds since 1970, the year 2106)
- * gets 8 from every call that takes one, also where it would store none (a write of no data, the same size, the same name twice). The
- * format chooses the edition, and no call turns one into the other. A build of before edition 2 refuses such a volume with 2.
+ * gets 8 from every call that takes one, also where it would store none (a write of no data, the same size, the same name twice) and
+ * where the list is not carried out. The format chooses the edition, and no call turns one into the other. A build of before edition 2
+ * refuses such a volume with 2.
  *
  * A name is its bytes, without a 0 at the end. examples/detector.c is a whole program.
  */
@@ -75,6 +82,7 @@ extern "C" {
 /* The longest list that each call can give, in bytes. Targets are the root, the entry, that of a file which a rename replaces, and
  * at most 512 sectors of the allocation table; a write touches at most 129 data sectors and one of the table; a journal has at most
  * 1,024 entries. */
+#define GOOFS_ACCESS_LIST (GOOFS_RECORDS(0, 1) * GOOFS_RECORD) /* of goofs_read and goofs_list, always this long */
 #define GOOFS_CREATE_LIST (GOOFS_RECORDS(0, 2) * GOOFS_RECORD)
 #define GOOFS_DELETE_LIST (GOOFS_RECORDS(0, 2 + 512) * GOOFS_RECORD)
 #define GOOFS_RENAME_LIST (GOOFS_RECORDS(0, 3 + 512) * GOOFS_RECORD)
@@ -106,7 +114,8 @@ enum goofs_code {
     GOOFS_DIRECTORY_FULL = 11,   /* create: no free entry */
     GOOFS_PAST_THE_END = 12,     /* offset greater than size */
     GOOFS_NO_ROOM = 13,          /* one more extent is needed and none is free */
-    GOOFS_BUFFER_TOO_SHORT = 14  /* list or output too short for the answer, or scratch for the check */
+    GOOFS_BUFFER_TOO_SHORT = 14  /* list or output too short for the answer, in read and list either of them, or scratch for the
+                                  * check */
 };
 
 enum goofs_fault {
@@ -142,10 +151,13 @@ typedef struct {
 
 typedef struct {
     uint64_t code, fault, place, size, version, id, mode, access_time, change_time, name_length;
+    uint64_t length; /* bytes of the write list */
 } goofs_list_result;
 
 typedef struct {
-    uint64_t code, fault, place, count;
+    uint64_t code, fault, place;
+    uint64_t count;  /* bytes of the output */
+    uint64_t length; /* bytes of the write list */
 } goofs_read_result;
 
 typedef struct {
@@ -180,15 +192,20 @@ goofs_check_result goofs_check(const uint8_t *image, size_t image_length);
  * code it is untouched. The call has no large array of its own: 360 bytes of stack, measured. Gives 0 to 7 and 14. */
 goofs_check_result goofs_check_with(const uint8_t *image, size_t image_length, uint32_t *scratch, size_t numbers);
 
-/* The file of that name: its index and fields. Gives 0 to 9. */
+/* The file of that name: its index and fields. It sets no time. Gives 0 to 9. */
 goofs_find_result goofs_find(const uint8_t *image, size_t image_length, const uint8_t *name, size_t name_length);
 
-/* Entry `index`: its name is copied to `out` (at most GOOFS_LONGEST_NAME bytes), its fields are given. Gives 0 to 9 and 14. */
-goofs_list_result goofs_list(const uint8_t *image, size_t image_length, uint64_t index, uint8_t *out, size_t out_length);
+/* Entry `index`: its name is copied to `out` (at most GOOFS_LONGEST_NAME bytes), its fields are given, as they are before the call. The
+ * list sets the root's access time to `time`, whatever the index; root and entry keep their versions. 14 if `out` or `list` is too
+ * short, and then neither changes. Gives 0 to 9 and 14. List: GOOFS_ACCESS_LIST. */
+goofs_list_result goofs_list(const uint8_t *image, size_t image_length, uint64_t index, uint64_t time, uint8_t *out, size_t out_length,
+                             uint8_t *list, size_t list_length);
 
-/* The lesser of `count` and size - `offset` bytes of the file, to `out` (at most 65,536). Gives 0 to 9, 12 and 14. */
+/* The lesser of `count` and size - `offset` bytes of the file, to `out` (at most 65,536). The list sets the file's access time to `time`,
+ * also where no byte is given; its version and its change time stay. 14 if `out` or `list` is too short, and then neither changes.
+ * Gives 0 to 9, 12 and 14. List: GOOFS_ACCESS_LIST. */
 goofs_read_result goofs_read(const uint8_t *image, size_t image_length, const uint8_t *name, size_t name_length, uint64_t offset,
-                             uint64_t count, uint8_t *out, size_t out_length);
+                             uint64_t count, uint64_t time, uint8_t *out, size_t out_length, uint8_t *list, size_t list_length);
 
 /* A new, empty file in the lowest free entry. Gives 0 to 8, 10, 11 and 14. List: at most GOOFS_CREATE_LIST. The name has bytes 33
  * to 126 without the slash, else 8 is given, also where a file of that name is there: a volume of before this rule may hold one. No

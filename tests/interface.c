@@ -110,9 +110,10 @@ static struct {
     uint8_t before[512], bytes[IMAGE], after[512];
 } medium, held;
 
-static struct {
+/* The list of a changing call, or the output of another one; and the list beside an output. */
+static struct buffer {
     uint8_t before[512], bytes[LONGEST + 512], after[512];
-} lent;
+} lent, lent_list;
 
 static void hold(void) { memcpy(&held, &medium, sizeof held); }
 
@@ -121,17 +122,25 @@ static void held_is(int line)
     bytes(line, "the image", (const uint8_t *)&medium, (const uint8_t *)&held, sizeof medium);
 }
 
-static void lend(void) { memset(&lent, LENT, sizeof lent); }
-
-/* The lent buffer has these bytes at its start and is otherwise as it was. */
-static void lent_is(int line, const uint8_t *expected, size_t length)
+static void lend(void)
 {
-    filled(line, "before the buffer", lent.before, LENT, sizeof lent.before);
-    if (length > 0)
-        bytes(line, "the buffer", lent.bytes, expected, length);
-    filled(line, "past the answer", lent.bytes + length, LENT, sizeof lent.bytes - length);
-    filled(line, "past the buffer", lent.after, LENT, sizeof lent.after);
+    memset(&lent, LENT, sizeof lent);
+    memset(&lent_list, LENT, sizeof lent_list);
 }
+
+/* The buffer has these bytes at its start and is otherwise as it was. */
+static void buffer_is(int line, const struct buffer *buffer, const uint8_t *expected, size_t length)
+{
+    filled(line, "before the buffer", buffer->before, LENT, sizeof buffer->before);
+    if (length > 0)
+        bytes(line, "the buffer", buffer->bytes, expected, length);
+    filled(line, "past the answer", buffer->bytes + length, LENT, sizeof buffer->bytes - length);
+    filled(line, "past the buffer", buffer->after, LENT, sizeof buffer->after);
+}
+
+static void lent_is(int line, const uint8_t *expected, size_t length) { buffer_is(line, &lent, expected, length); }
+
+static void list_is(int line, const uint8_t *expected, size_t length) { buffer_is(line, &lent_list, expected, length); }
 
 /* -------------------- the sectors as document 01 has them */
 
@@ -414,52 +423,104 @@ static void made(struct change c)
 #define REFUSED(code, ...) (from = __LINE__, refused((code), (struct change){__VA_ARGS__}))
 #define MADE(...) (from = __LINE__, made((struct change){__VA_ARGS__}))
 
-/* Find and list give the entry; its name is copied to an output that has just its length, and to a longer one. */
+/* The time of reads and lists, and the list of one: the sector of the image with the time at this place, and with no other byte
+ * changed. 1 copy, a journal sector, 2 marks, 1 target, 4 barriers: 9 records. */
+#define ACCESS_TIME UINT32_C(0x61626364)
+enum { ACCESS_LIST = 4752 };
+
+static const uint8_t *access_list(uint64_t sector, size_t at)
+{
+    static uint8_t list[ACCESS_LIST], kept[ACCESS_LIST];
+    uint8_t contents[1][512];
+    size_t length = wanted.length;
+
+    memcpy(contents[0], medium.bytes + sector * 512, 512);
+    put(contents[0] + at, volume.edition == 2 ? 8 : 4, late(ACCESS_TIME));
+    memcpy(kept, wanted.bytes, sizeof kept);
+    wanted.length = 0;
+    want_commit(1, &sector, contents);
+    NUMBER(wanted.length, sizeof list);
+    memcpy(list, wanted.bytes, sizeof list);
+    memcpy(wanted.bytes, kept, sizeof kept);
+    wanted.length = length;
+    return list;
+}
+
+/* The lengths of both buffers of a read or list. */
+struct lending {
+    size_t out, list;
+};
+
+static goofs_list_result list_call(uint64_t index, struct lending l)
+{
+    return goofs_list(medium.bytes, IMAGE, index, late(ACCESS_TIME), l.out ? lent.bytes : NULL, l.out, l.list ? lent_list.bytes : NULL,
+                      l.list);
+}
+
+static goofs_read_result read_call(const char *name, uint64_t offset, uint64_t count, struct lending l)
+{
+    return goofs_read(medium.bytes, IMAGE, (const uint8_t *)name, strlen(name), offset, count, late(ACCESS_TIME),
+                      l.out ? lent.bytes : NULL, l.out, l.list ? lent_list.bytes : NULL, l.list);
+}
+
+static const struct lending much = {sizeof lent.bytes, sizeof lent_list.bytes}, nothing = {0, 0};
+
+/* Find and list give the entry; its name is copied to an output that has just its length, and to a longer one. The list sets the
+ * root's access time. */
 static void entry_is(uint64_t index, struct entry e)
 {
-    const uint8_t *name = (const uint8_t *)e.name;
-    size_t length = strlen(e.name), room;
+    const uint8_t *name = (const uint8_t *)e.name, *list;
+    size_t length = strlen(e.name), more;
 
     hold();
     IS(goofs_find_result, goofs_find(medium.bytes, IMAGE, name, length), .code = 0, .index = index, .size = e.size,
        .version = e.version, .id = e.id, .mode = e.mode, .access_time = late(e.access_time), .change_time = late(e.change_time),
        .name_length = length);
     lend();
-    IS(goofs_list_result, goofs_list(medium.bytes, IMAGE, index, lent.bytes, length - 1), .code = 14);
-    IS(goofs_list_result, goofs_list(medium.bytes, IMAGE, index, NULL, 0), .code = 14);
+    IS(goofs_list_result, list_call(index, (struct lending){length - 1, ACCESS_LIST}), .code = 14);
+    IS(goofs_list_result, list_call(index, (struct lending){length, ACCESS_LIST - 1}), .code = 14);
+    IS(goofs_list_result, list_call(index, (struct lending){length, 0}), .code = 14);
+    IS(goofs_list_result, list_call(index, nothing), .code = 14);
     lent_is(__LINE__, NULL, 0);
-    for (room = length; room <= length + 1; room++) {
+    list_is(__LINE__, NULL, 0);
+    list = access_list(1, 16);
+    for (more = 0; more <= 1; more++) {
         lend();
-        IS(goofs_list_result, goofs_list(medium.bytes, IMAGE, index, lent.bytes, room), .code = 0, .size = e.size,
+        IS(goofs_list_result, list_call(index, (struct lending){length + more, ACCESS_LIST + more}), .code = 0, .size = e.size,
            .version = e.version, .id = e.id, .mode = e.mode, .access_time = late(e.access_time), .change_time = late(e.change_time),
-           .name_length = length);
+           .name_length = length, .length = ACCESS_LIST);
         lent_is(__LINE__, name, length);
+        list_is(__LINE__, list, ACCESS_LIST);
     }
     held_is(__LINE__);
 }
 
 #define ENTRY_IS(index, ...) (from = __LINE__, entry_is((index), (struct entry){__VA_ARGS__}))
 
-/* A read gives these bytes, into an output that has just their length, and into a longer one. */
+/* A read gives these bytes, into an output that has just their length, and into a longer one. The list sets the file's access time,
+ * also where there are none. */
 static void reads(const char *name, uint64_t offset, uint64_t count, const uint8_t *expected, size_t length)
 {
-    const uint8_t *n = (const uint8_t *)name;
-    size_t room;
+    uint64_t index = goofs_find(medium.bytes, IMAGE, (const uint8_t *)name, strlen(name)).index;
+    const uint8_t *list;
+    size_t more;
 
     hold();
     lend();
-    if (length > 0) {
-        IS(goofs_read_result, goofs_read(medium.bytes, IMAGE, n, strlen(name), offset, count, lent.bytes, length - 1), .code = 14);
-        IS(goofs_read_result, goofs_read(medium.bytes, IMAGE, n, strlen(name), offset, count, NULL, 0), .code = 14);
-    } else {
-        IS(goofs_read_result, goofs_read(medium.bytes, IMAGE, n, strlen(name), offset, count, NULL, 0), .code = 0, .count = 0);
-    }
+    if (length > 0)
+        IS(goofs_read_result, read_call(name, offset, count, (struct lending){length - 1, ACCESS_LIST}), .code = 14);
+    IS(goofs_read_result, read_call(name, offset, count, (struct lending){length, ACCESS_LIST - 1}), .code = 14);
+    IS(goofs_read_result, read_call(name, offset, count, (struct lending){length, 0}), .code = 14);
+    IS(goofs_read_result, read_call(name, offset, count, nothing), .code = 14);
     lent_is(__LINE__, NULL, 0);
-    for (room = length; room <= length + 1; room++) {
+    list_is(__LINE__, NULL, 0);
+    list = access_list(2 + index, 26);
+    for (more = 0; more <= 1; more++) {
         lend();
-        IS(goofs_read_result, goofs_read(medium.bytes, IMAGE, n, strlen(name), offset, count, lent.bytes, room), .code = 0,
-           .count = length);
+        IS(goofs_read_result, read_call(name, offset, count, (struct lending){length + more, ACCESS_LIST + more}), .code = 0,
+           .count = length, .length = ACCESS_LIST);
         lent_is(__LINE__, expected, length);
+        list_is(__LINE__, list, ACCESS_LIST);
     }
     held_is(__LINE__);
 }
@@ -468,14 +529,12 @@ static void reads(const char *name, uint64_t offset, uint64_t count, const uint8
 
 static void read_refused(uint64_t code, const char *name, uint64_t offset, uint64_t count)
 {
-    const uint8_t *n = (const uint8_t *)name;
-
     hold();
     lend();
-    IS(goofs_read_result,
-       goofs_read(medium.bytes, IMAGE, n, strlen(name), offset, count, lent.bytes, sizeof lent.bytes), .code = code);
-    IS(goofs_read_result, goofs_read(medium.bytes, IMAGE, n, strlen(name), offset, count, NULL, 0), .code = code);
+    IS(goofs_read_result, read_call(name, offset, count, much), .code = code);
+    IS(goofs_read_result, read_call(name, offset, count, nothing), .code = code);
     lent_is(__LINE__, NULL, 0);
+    list_is(__LINE__, NULL, 0);
     held_is(__LINE__);
 }
 
@@ -500,12 +559,13 @@ static void all_refuse(int besides, const uint8_t *image, size_t length, uint64_
         const uint8_t *name = bad ? NULL : beam, *new_name = bad ? NULL : created, *data = bad ? NULL : one;
         size_t name_length = bad ? 0 : 4, new_length = bad ? 0 : 3, data_length = bad ? 0 : 1, room = bad ? 0 : sizeof lent.bytes;
         uint64_t number = bad ? UINT64_MAX : 0, time = number;
-        uint8_t *out = bad ? NULL : lent.bytes;
+        uint8_t *out = bad ? NULL : lent.bytes, *list = bad ? NULL : lent_list.bytes;
 
         IS(goofs_find_result, goofs_find(image, length, name, name_length), .code = code, .fault = fault, .place = place);
-        IS(goofs_list_result, goofs_list(image, length, number, out, room), .code = code, .fault = fault, .place = place);
-        IS(goofs_read_result, goofs_read(image, length, name, name_length, number, number, out, room), .code = code, .fault = fault,
+        IS(goofs_list_result, goofs_list(image, length, number, time, out, room, list, room), .code = code, .fault = fault,
            .place = place);
+        IS(goofs_read_result, goofs_read(image, length, name, name_length, number, number, time, out, room, list, room), .code = code,
+           .fault = fault, .place = place);
         IS(goofs_change_result, goofs_create(image, length, new_name, new_length, bad ? 0 : 99, 0, time, out, room), .code = code,
            .fault = fault, .place = place);
         IS(goofs_change_result, goofs_delete(image, length, name, name_length, time, out, room), .code = code, .fault = fault,
@@ -524,6 +584,7 @@ static void all_refuse(int besides, const uint8_t *image, size_t length, uint64_
             IS(goofs_slice_result, goofs_recover_slice(image, length, number, out, room), .code = code);
     }
     lent_is(__LINE__, NULL, 0);
+    list_is(__LINE__, NULL, 0);
     held_is(__LINE__);
 }
 
@@ -610,8 +671,8 @@ static void sizes_of_results(void)
     NUMBER(sizeof(goofs_summary_result), 56); /* 7 numbers of 8 bytes */
     NUMBER(sizeof(goofs_check_result), 24);   /* 3 */
     NUMBER(sizeof(goofs_find_result), 88);    /* 11 */
-    NUMBER(sizeof(goofs_list_result), 80);    /* 10 */
-    NUMBER(sizeof(goofs_read_result), 32);    /* 4 */
+    NUMBER(sizeof(goofs_list_result), 88);    /* 11 */
+    NUMBER(sizeof(goofs_read_result), 40);    /* 5 */
     NUMBER(sizeof(goofs_change_result), 32);  /* 4 */
     NUMBER(sizeof(goofs_repair_result), 40);  /* 5 */
     NUMBER(sizeof(goofs_length_result), 16);  /* 2 */
@@ -656,6 +717,7 @@ static void macros(void)
     NUMBER(GOOFS_STATE_WAITING, 1);
     NUMBER(GOOFS_STATE_DAMAGED, 2);
     NUMBER(GOOFS_STATE_UNFINISHED, 3);
+    NUMBER(GOOFS_ACCESS_LIST, 4752);    /* 1 copy, journal, start mark, 1 target, end mark, 4 barriers: 9 records */
     NUMBER(GOOFS_CREATE_LIST, 5808);    /* 2 copies, journal, start mark, 2 targets, end mark, 4 barriers: 11 records */
     NUMBER(GOOFS_DELETE_LIST, 554928);  /* 514 copies, 17 journal sectors, 2 marks, 514 targets, 4 barriers: 1,051 */
     NUMBER(GOOFS_RENAME_LIST, 555984);  /* 515 copies, 17 journal sectors, 2 marks, 515 targets, 4 barriers: 1,053 */
@@ -844,6 +906,47 @@ static void writes_and_reads(void)
     REFUSED(9, WRITE, "beams", .at = 0, .data = data, .data_length = 1);
 }
 
+/* The lists of a read, of no byte, and of a list, landed up to each record and recovered: the access time is the new one exactly if
+ * the start mark, the fourth record, landed. No other byte has changed, but for what stages the change: the first sectors of journal
+ * and reserve, and the superblock, which is as before. */
+static void access_times(void)
+{
+    static const struct {
+        uint64_t sector;
+        size_t at;
+    } target[] = {{2, 26}, {1, 16}};
+    size_t k, records;
+
+    for (k = 0; k < 2; k++) {
+        for (records = 0; records <= 9; records++) {
+            goofs_length_result recovered;
+
+            two_files();
+            hold();
+            lend();
+            if (k == 0)
+                NUMBER(read_call("beam", 3000, 9, much).length, ACCESS_LIST);
+            else
+                NUMBER(list_call(1, much).length, ACCESS_LIST);
+            memcpy(wanted.bytes, access_list(target[k].sector, target[k].at), ACCESS_LIST);
+            wanted.length = ACCESS_LIST;
+            list_is(__LINE__, wanted.bytes, ACCESS_LIST);
+            land(medium.bytes, records);
+            recovered = goofs_recover(medium.bytes, IMAGE, lent.bytes, sizeof lent.bytes);
+            NUMBER(recovered.length, records >= 4 && records < 8 ? 4 * 528 : 0); /* the target, a mark and two barriers */
+            NUMBER(goofs_carry_out(medium.bytes, IMAGE, lent.bytes, (size_t)recovered.length), 0);
+            IS(goofs_check_result, goofs_check(medium.bytes, IMAGE), .code = 0);
+            if (records >= 4)
+                put(held.bytes + target[k].sector * 512 + target[k].at, volume.edition == 2 ? 8 : 4, late(ACCESS_TIME));
+            memcpy(held.bytes + 257 * 512, medium.bytes + 257 * 512, 512);
+            memcpy(held.bytes + 674 * 512, medium.bytes + 674 * 512, 512);
+            held_is(__LINE__);
+        }
+        ENTRY_IS(0, .size = 3000, .version = 1, .id = BEAM_ID, .mode = BEAM_MODE, .access_time = k == 0 ? ACCESS_TIME : 1001,
+                 .change_time = 1002, .name = "beam");
+    }
+}
+
 static void longest_write(void)
 {
     uint8_t contents[2][512], sector[512];
@@ -966,12 +1069,12 @@ static void deletes(void)
     GIVES(DELETE, "beam", .time = 1004);
     IS(goofs_find_result, goofs_find(medium.bytes, IMAGE, (const uint8_t *)"beam", 4), .code = 9);
     lend();
-    IS(goofs_list_result, goofs_list(medium.bytes, IMAGE, 0, lent.bytes, sizeof lent.bytes), .code = 9); /* a free entry */
-    IS(goofs_list_result, goofs_list(medium.bytes, IMAGE, 254, lent.bytes, sizeof lent.bytes), .code = 9);
-    IS(goofs_list_result, goofs_list(medium.bytes, IMAGE, 255, lent.bytes, sizeof lent.bytes), .code = 8);
-    IS(goofs_list_result, goofs_list(medium.bytes, IMAGE, UINT64_C(4294967297), lent.bytes, sizeof lent.bytes),
-       .code = 8); /* 2^32 + 1 is not entry 1 */
+    IS(goofs_list_result, list_call(0, much), .code = 9); /* a free entry */
+    IS(goofs_list_result, list_call(254, much), .code = 9);
+    IS(goofs_list_result, list_call(255, much), .code = 8);
+    IS(goofs_list_result, list_call(UINT64_C(4294967297), much), .code = 8); /* 2^32 + 1 is not entry 1 */
     lent_is(__LINE__, NULL, 0);
+    list_is(__LINE__, NULL, 0);
     REFUSED(9, DELETE, "beam", .time = 1005);
 
     /* A file without extents: the table is no target. 2 copies: 11 records. The mode and the times of the root stay but one. */
@@ -1015,7 +1118,7 @@ static void renames(void)
     ENTRY_IS(0, .size = 3000, .version = 3, .id = BEAM_ID, .mode = BEAM_MODE, .access_time = 1001, .change_time = 900,
              .name = "gain");
     lend();
-    IS(goofs_list_result, goofs_list(medium.bytes, IMAGE, 1, lent.bytes, sizeof lent.bytes), .code = 9); /* free now */
+    IS(goofs_list_result, list_call(1, much), .code = 9); /* free now */
 
     /* From an entry above onto one below, whose extent is freed: zeros, the renamed entry, the table. 4 copies: 15 records. The
      * versions of root and entry are followed by 0. */
@@ -1397,7 +1500,7 @@ static void names(void)
     IS(goofs_find_result, goofs_find(medium.bytes, IMAGE, long_name, longest), .code = 9);
     IS(goofs_find_result, goofs_find(medium.bytes, IMAGE, NULL, 0), .code = 8);
     IS(goofs_find_result, goofs_find(medium.bytes, IMAGE, long_name, 0), .code = 8);
-    IS(goofs_read_result, goofs_read(medium.bytes, IMAGE, NULL, 0, 0, 0, NULL, 0), .code = 8);
+    IS(goofs_read_result, goofs_read(medium.bytes, IMAGE, NULL, 0, 0, 0, 0, NULL, 0, NULL, 0), .code = 8);
     IS(goofs_change_result, goofs_create(medium.bytes, IMAGE, NULL, 0, 5, 0, 0, NULL, 0), .code = 8);
     IS(goofs_change_result, goofs_delete(medium.bytes, IMAGE, NULL, 0, 0, NULL, 0), .code = 8);
     IS(goofs_change_result, goofs_rename(medium.bytes, IMAGE, NULL, 0, NULL, 0, 0, NULL, 0), .code = 8);
@@ -1412,7 +1515,7 @@ static void names(void)
     for (length = longest + 1; length <= 477; length++) {
         from = (int)length;
         NUMBER(goofs_find(medium.bytes, IMAGE, long_name, length).code, 8);
-        NUMBER(goofs_read(medium.bytes, IMAGE, long_name, length, 0, 0, NULL, 0).code, 8);
+        NUMBER(goofs_read(medium.bytes, IMAGE, long_name, length, 0, 0, 0, NULL, 0, NULL, 0).code, 8);
         NUMBER(goofs_create(medium.bytes, IMAGE, long_name, length, 5, 0, 0, NULL, 0).code, 8);
         NUMBER(goofs_delete(medium.bytes, IMAGE, long_name, length, 0, NULL, 0).code, 8);
         NUMBER(goofs_resize(medium.bytes, IMAGE, long_name, length, 0, 0, NULL, 0).code, 8);
@@ -1501,6 +1604,12 @@ static void times_of_calls(void)
         NUMBER(goofs_write(medium.bytes, IMAGE, beam, 4, 3001, data, 9, t, lent.bytes, LONGEST).code, bad ? 8 : 12);
         NUMBER(goofs_rename(medium.bytes, IMAGE, beam, 4, gain, 4, t, lent.bytes, LONGEST).code, bad ? 8 : 0);
         NUMBER(goofs_rename(medium.bytes, IMAGE, none, 4, gain, 4, t, lent.bytes, LONGEST).code, bad ? 8 : 9);
+        NUMBER(goofs_read(medium.bytes, IMAGE, beam, 4, 0, 9, t, lent.bytes, LONGEST, lent_list.bytes, LONGEST).code, bad ? 8 : 0);
+        NUMBER(goofs_read(medium.bytes, IMAGE, none, 4, 0, 9, t, lent.bytes, LONGEST, lent_list.bytes, LONGEST).code, bad ? 8 : 9);
+        NUMBER(goofs_read(medium.bytes, IMAGE, beam, 4, 3001, 0, t, NULL, 0, lent_list.bytes, LONGEST).code, bad ? 8 : 12);
+        NUMBER(goofs_list(medium.bytes, IMAGE, 0, t, lent.bytes, LONGEST, lent_list.bytes, LONGEST).code, bad ? 8 : 0);
+        NUMBER(goofs_list(medium.bytes, IMAGE, 2, t, lent.bytes, LONGEST, lent_list.bytes, LONGEST).code, bad ? 8 : 9);
+        NUMBER(goofs_list(medium.bytes, IMAGE, 0, t, NULL, 0, NULL, 0).code, bad ? 8 : 14);
         /* where nothing would be stored, into no list */
         IS(goofs_change_result, goofs_resize(medium.bytes, IMAGE, beam, 4, 3000, t, NULL, 0), .code = bad ? 8 : 0);
         IS(goofs_change_result, goofs_write(medium.bytes, IMAGE, beam, 4, 7, NULL, 0, t, NULL, 0), .code = bad ? 8 : 0);
@@ -1794,6 +1903,7 @@ static const struct test tests[] = {
     {"geometries", geometries},
     {"first create", first_create},
     {"writes and reads", writes_and_reads},
+    {"access times", access_times},
     {"longest write", longest_write},
     {"no free extent", no_free_extent},
     {"resizes", resizes},

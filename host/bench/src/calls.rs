@@ -16,6 +16,8 @@ use crate::write_list::{counts, up_to_start_mark, written_places, Counts};
 const LONGEST_SPAN: usize = 65_536;
 /// The longest list: the format of the largest volume.
 const LONGEST_LIST: usize = 66_053 * RECORD;
+/// The list of read and list, which sets an access time.
+const ACCESS_LIST: usize = 9 * RECORD;
 
 const SAMPLE: &str = "sample";
 
@@ -29,7 +31,7 @@ pub fn print(comparisons: &mut Comparisons) {
     let mut table = CallTable {
         comparisons,
         list: vec![0; LONGEST_LIST],
-        output: vec![0; LONGEST_SPAN],
+        output: vec![0; LONGEST_SPAN + ACCESS_LIST],
         slower: Vec::new(),
     };
     sample(&mut table);
@@ -193,6 +195,7 @@ fn cut(image: &mut [u8], list: &[u8]) {
 struct CallTable<'c> {
     comparisons: &'c mut Comparisons,
     list: Vec<u8>,
+    /// The output of read and list, and behind it their list.
     output: Vec<u8>,
     slower: Vec<String>,
 }
@@ -234,8 +237,14 @@ impl CallTable<'_> {
         let compared = self.comparisons.filling(
             call,
             &mut self.output,
-            |output| goofs::list(black_box(image), index, output).name_length,
-            |output| oracle::list(black_box(image), index, output).name_length,
+            |buffers| {
+                let (output, list) = buffers.split_at_mut(LONGEST_SPAN);
+                goofs::list(black_box(image), index, 2, output, list).name_length
+            },
+            |buffers| {
+                let (output, list) = buffers.split_at_mut(LONGEST_SPAN);
+                oracle::list(black_box(image), index, 2, output, list).name_length
+            },
         );
         self.row_of_output(call, input, &compared);
     }
@@ -252,8 +261,14 @@ impl CallTable<'_> {
         let compared = self.comparisons.filling(
             call,
             &mut self.output,
-            |output| goofs::read(black_box(image), name, offset, count, output).count,
-            |output| oracle::read(black_box(image), name, offset, count, output).count,
+            |buffers| {
+                let (output, list) = buffers.split_at_mut(LONGEST_SPAN);
+                goofs::read(black_box(image), name, offset, count, 2, output, list).count
+            },
+            |buffers| {
+                let (output, list) = buffers.split_at_mut(LONGEST_SPAN);
+                oracle::read(black_box(image), name, offset, count, 2, output, list).count
+            },
         );
         self.row_of_output(call, input, &compared);
     }
@@ -269,7 +284,7 @@ impl CallTable<'_> {
 
     /// What a read does besides finding its bytes.
     fn memory_copy(&mut self, bytes: &[u8]) {
-        let time = median_alone(&mut self.output, |output| {
+        let time = median_alone(&mut self.output[..LONGEST_SPAN], |output| {
             output.copy_from_slice(black_box(bytes));
             0
         });
@@ -430,10 +445,15 @@ impl CallTable<'_> {
         self.row_of_counts(call, input, &compared, counts(list));
     }
 
-    /// A row of a call that gave the number of bytes that it put out.
+    /// A row of a call that gave the number of bytes that it put out, besides a list.
     fn row_of_output(&mut self, call: &str, input: &str, compared: &Compared) {
         assert!(compared.answer > 0, "{call}");
-        self.row(call, input, compared, "", "", &digits(compared.answer));
+        let of_list = counts(&self.output[LONGEST_SPAN..]);
+        let counts = Counts {
+            bytes: of_list.bytes + compared.answer,
+            ..of_list
+        };
+        self.row_of_counts(call, input, compared, counts);
     }
 
     /// A row of a call that gave the length of its list.

@@ -59,23 +59,36 @@ short, has left beside another is no fault; it is told with what to do about it.
 ";
 
 pub const LS: &str = "\
-goofs ls CARD [--numeric]
+goofs ls CARD [--accessed] [--numeric] [--touch [--time T]]
 
 Lists the files in the directory's order: size, version, id, mode (octal), time of the last change and
 name. A name is printed as a word for the shell, so that it can be given back as it stands there: in
 quotes where it needs them, and as $'...' where it has bytes that a terminal does not show.
+  --accessed  the time of the last access in the place of that of the last change
   --numeric   the times in seconds since 1970; else day and time in UTC
+  --touch     set the access time of the directory, the root's, which info shows; without a file it
+              stays. The card is then opened for writing, and no one else may have it open
+  --time T    with --touch, this time, in seconds since 1970, on edition 1 up to 4294967295; else now
+
+Without --touch the card is opened for reading only and no access time is set, as on a file system that
+is mounted with noatime.
 
 A file NAME.goofs-saving was left by a put that was cut. It is in the list, and told on the standard
 error, too, with what to do about it.
 ";
 
 pub const GET: &str = "\
-goofs get CARD NAME... [--as FILE]
+goofs get CARD NAME... [--as FILE] [--touch [--time T]]
 
 Copies files from the card: one to the standard output, or several into a folder.
   --as FILE   to this file; a FILE that exists is replaced. If FILE is a folder, each file goes into it
               under the name that it has on the card; `-` is the standard output
+  --touch     set the access time of each file, which ls --accessed shows, before the first is copied.
+              The card is then opened for writing, and no one else may have it open
+  --time T    with --touch, this time, in seconds since 1970, on edition 1 up to 4294967295; else now
+
+Without --touch the card is opened for reading only and no access time is set, as on a file system that
+is mounted with noatime.
 
 The bytes are written beside FILE (to .goofs-NUMBER-0, which a kill may leave behind), and take its
 name when all of them are on its disk. Until then a FILE that exists stays as it was. A FILE is named
@@ -195,6 +208,8 @@ goofs trial CARD rm NAME
 goofs trial CARD mv OLD NEW
 goofs trial CARD resize NAME SIZE
 goofs trial CARD write NAME OFFSET FILE
+goofs trial CARD get NAME
+goofs trial CARD ls
     [--id ID] [--mode M] [--time T] [--seed S] [--every] [--leave FILE]
 
 Tries the change in memory; the card is only read. The power is cut within each group of the change's
@@ -208,7 +223,8 @@ in a trial, so that it takes no longer on a card with many bytes.
   --every       cut recoveries in all the ways, also where there are more than 64
   --leave FILE  leave the volume, as it is when the power goes right after the last change's start
                 mark, in FILE, which must be new: to look at, or to recover
-  --id, --mode and --time are those of the change, as for put
+  --id, --mode and --time are those of the change, as for put; get and ls stand for the access time
+  that they set with --touch
 
 The table has a line for each change:
   cuts         points at which the change was cut

@@ -54,8 +54,14 @@ const fn command(
 const COMMANDS: [Command; 12] = [
     command("info", help::INFO, &[], &[], reading::info),
     command("check", help::CHECK, &[], &[], reading::check),
-    command("ls", help::LS, &[], &["numeric"], reading::ls),
-    command("get", help::GET, &["as"], &[], reading::get),
+    command(
+        "ls",
+        help::LS,
+        &["time"],
+        &["accessed", "numeric", "touch"],
+        reading::ls,
+    ),
+    command("get", help::GET, &["as", "time"], &["touch"], reading::get),
     command(
         "put",
         help::PUT,

@@ -1,4 +1,5 @@
-//! The commands that change nothing: info, check, ls and get.
+//! The commands that read: info, check, ls and get. Only ls and get with `--touch` change a card, and
+//! only an access time.
 
 use std::ffi::{OsStr, OsString};
 use std::fmt::Write as _;
@@ -7,12 +8,17 @@ use std::io::ErrorKind;
 use std::os::unix::ffi::OsStrExt;
 use std::path::{Component, Path};
 
-use goofs::error::Refusal;
-use goofs::image::{Edition, Entry, State};
+use goofs::change::Change;
+use goofs::device::Disk;
+use goofs::error::{Error, Refusal};
+use goofs::image::{Edition, Entry, Image, State};
 use goofs::names;
+use goofs::system::Held;
+use goofs::volume::Volume;
 
 use crate::arguments::Arguments;
 use crate::card;
+use crate::changing::{apply, edition_for, time};
 use crate::failure::{of_call, of_card, of_file, quoted, Failure};
 use crate::output::{print, print_bytes, print_error, save};
 use crate::space::Space;
@@ -93,11 +99,12 @@ pub fn info(arguments: &Arguments) -> Result<(), Failure> {
         line(
             "root",
             format!(
-                "id {}, mode {:o}, version {}, changed {}",
+                "id {}, mode {:o}, version {}, changed {}, accessed {}",
                 root.id,
                 root.mode,
                 root.version,
-                text::time(root.change_time)
+                text::time(root.change_time),
+                text::time(root.access_time)
             ),
         );
         let space = Space::of(&image);
@@ -134,25 +141,50 @@ pub fn leftovers(card: &OsStr, files: &[Entry]) -> String {
     .collect()
 }
 
+/// The time to be set as access time, if one is.
+fn touch(arguments: &Arguments) -> Result<Option<u64>, Failure> {
+    if arguments.flag("touch") {
+        return time(arguments).map(Some);
+    }
+    match arguments.word("time") {
+        Some(_) => Err(Failure::Usage("--time is for --touch".to_string())),
+        None => Ok(None),
+    }
+}
+
+/// All files, and with `--touch` the root's access time set.
+fn files(arguments: &Arguments, card: &OsStr) -> Result<Vec<Entry>, Failure> {
+    let wait = arguments.wait()?;
+    let Some(time) = touch(arguments)? else {
+        return card::read(card, wait)?.entries().map_err(of_card(card));
+    };
+    let mut volume = card::volume(card, wait)?;
+    edition_for(card, volume.image().map_err(of_card(card))?, time)?;
+    let _held = Held::new();
+    volume.entries(time).map_err(of_card::<Error>(card))
+}
+
 pub fn ls(arguments: &Arguments) -> Result<(), Failure> {
     let card = &arguments.places(&["CARD"])?[0];
-    let image = card::read(card, arguments.wait()?)?;
-    let changed = |seconds: u64| match arguments.flag("numeric") {
+    let files = files(arguments, card)?;
+    let shown = |seconds: u64| match arguments.flag("numeric") {
         true => seconds.to_string(),
         false => text::time(seconds),
     };
     let mut lines = String::new();
-    let files = image.entries().map_err(of_card(card))?;
-    drop(image);
     for entry in &files {
+        let (what, time) = match arguments.flag("accessed") {
+            true => ("accessed", entry.access_time),
+            false => ("changed", entry.change_time),
+        };
         let _ = writeln!(
             lines,
-            "{:>12} bytes  version {:<4} id {:<6} mode {:<6o} changed {}  {}",
+            "{:>12} bytes  version {:<4} id {:<6} mode {:<6o} {what} {}  {}",
             entry.size,
             entry.version,
             entry.id,
             entry.mode,
-            changed(entry.change_time),
+            shown(time),
             text::word(&entry.name)
         );
     }
@@ -184,21 +216,16 @@ pub fn get(arguments: &Arguments) -> Result<(), Failure> {
     for target in targets.iter().flatten() {
         may_be_written(card, target)?;
     }
-    let image = card::read(card, arguments.wait()?)?;
-    let edition = image.summary().edition;
-    // A name that isn't there is found out before the first file is written.
-    for name in names {
-        let name = name.as_bytes();
-        image.find(name).map_err(of_call(card, name, edition))?;
-    }
+    let opened = opened(arguments, card, names)?;
     let contents = |name: &OsStr| {
-        let failure = of_call(card, name.as_bytes(), edition);
+        let image = opened.image().map_err(of_card::<Error>(card))?;
+        let failure = of_call(card, name.as_bytes(), image.summary().edition);
         image.contents(name.as_bytes()).map_err(failure)
     };
     if let [name] = names {
         let contents = contents(name)?;
         // The lock is given back first: who reads the output may take any time.
-        drop(image);
+        drop(opened);
         return match &targets[0] {
             Some(file) => save(file, &contents),
             None => print_bytes(&contents),
@@ -206,6 +233,49 @@ pub fn get(arguments: &Arguments) -> Result<(), Failure> {
     }
     for (name, target) in names.iter().zip(targets.iter().flatten()) {
         save(target, &contents(name)?)?;
+    }
+    Ok(())
+}
+
+/// What files are read from.
+enum Opened {
+    Image(Image),
+    Volume(Volume<Disk>),
+}
+
+impl Opened {
+    fn image(&self) -> Result<&Image, Error> {
+        match self {
+            Opened::Image(image) => Ok(image),
+            Opened::Volume(volume) => volume.image(),
+        }
+    }
+}
+
+/// Opens the card with these files, and with `--touch` sets their access times. A name that isn't there
+/// is found out first.
+fn opened(arguments: &Arguments, card: &OsStr, names: &[OsString]) -> Result<Opened, Failure> {
+    let wait = arguments.wait()?;
+    let Some(time) = touch(arguments)? else {
+        let image = card::read(card, wait)?;
+        all_there(card, &image, names)?;
+        return Ok(Opened::Image(image));
+    };
+    let mut volume = card::volume(card, wait)?;
+    let image = volume.image().map_err(of_card(card))?;
+    edition_for(card, image, time)?;
+    all_there(card, image, names)?;
+    let names = names.iter().map(|name| name.as_bytes());
+    let touches: Vec<Change> = names.map(|name| Change::Touch { name, time }).collect();
+    apply(&mut volume, &touches).map_err(of_card::<Error>(card))?;
+    Ok(Opened::Volume(volume))
+}
+
+fn all_there(card: &OsStr, image: &Image, names: &[OsString]) -> Result<(), Failure> {
+    let edition = image.summary().edition;
+    for name in names {
+        let name = name.as_bytes();
+        image.find(name).map_err(of_call(card, name, edition))?;
     }
     Ok(())
 }

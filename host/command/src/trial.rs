@@ -33,13 +33,14 @@ const RECOVERY_CUTS: usize = 64;
 pub fn run(arguments: &Arguments) -> Result<(), Failure> {
     let names: &[&str] = match arguments.places_or_more(&["CARD", "CHANGE"])?[1].as_bytes() {
         b"put" => &["FILE"],
-        b"create" | b"rm" => &["NAME"],
+        b"create" | b"rm" | b"get" => &["NAME"],
+        b"ls" => &[],
         b"mv" => &["OLD", "NEW"],
         b"resize" => &["NAME", "SIZE"],
         b"write" => &["NAME", "OFFSET", "FILE"],
         other => {
             return Err(Failure::Usage(format!(
-                "trial knows put, create, rm, mv, resize and write, not {}",
+                "trial knows put, create, rm, mv, resize, write, get and ls, not {}",
                 text::word(other)
             )))
         }
@@ -76,7 +77,7 @@ pub fn run(arguments: &Arguments) -> Result<(), Failure> {
     };
     let name = match &sources[..] {
         [source] => source.name,
-        _ => rest[0].as_bytes(),
+        _ => rest.first().map_or(&b""[..], |name| name.as_bytes()),
     };
     let changes = match kind {
         b"create" => {
@@ -95,6 +96,12 @@ pub fn run(arguments: &Arguments) -> Result<(), Failure> {
         }
         b"put" => put_changes(card, space, &puts, &contents)?,
         b"resize" => resize_changes(card, &image, name, size(&rest[1])?, time)?,
+        b"get" => vec![Change::Touch { name, time }],
+        b"ls" => {
+            let files = image.entries().map_err(of_card(card))?;
+            let index = files.first().map_or(0, |file| file.index);
+            vec![Change::TouchRoot { index, time }]
+        }
         _ => vec![Change::Write {
             name,
             offset: size(&rest[1])?,
@@ -108,6 +115,7 @@ pub fn run(arguments: &Arguments) -> Result<(), Failure> {
         b"create" => of_new(card, name, edition, new_file.id, "take another NAME")(refusal),
         b"mv" => of_rename(card, name, rest[1].as_bytes(), edition)(refusal),
         b"put" => of_put(card, &puts)(refusal.into()),
+        b"ls" => of_card(card)(refusal),
         _ => of_call(card, name, edition)(refusal),
     };
     image
@@ -199,6 +207,8 @@ fn words(change: &Change) -> String {
         Change::Rename { old, new, .. } => format!("mv {} {}", text::word(old), text::word(new)),
         Change::Resize { name, size, .. } => format!("resize {} {size}", text::word(name)),
         Change::Write { name, offset, .. } => format!("write {} at {offset}", text::word(name)),
+        Change::Touch { name, .. } => format!("get {}", text::word(name)),
+        Change::TouchRoot { .. } => "ls".to_string(),
     }
 }
 
@@ -273,7 +283,7 @@ impl<E: Into<Error>> From<E> for End {
 /// and time do not depend on how many bytes the files have.
 ///
 /// Create, delete and rename raise the root's version and set its change time; write and resize leave
-/// the root as it is. In all of them the root, the entries and the table change with the start mark,
+/// the root as it is; get and ls only set an access time. In all of them the root, the entries and the table change with the start mark,
 /// together. So at an end the metadata are all as before or all as after. Only bytes of files may be
 /// old in one sector and new in another, and only where the metadata are as before.
 #[derive(Debug)]

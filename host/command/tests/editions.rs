@@ -107,6 +107,12 @@ fn times_past_2106() {
     );
     good("mv", &card, &["g", "k", "--time", LATEST]);
     good("resize", &card, &["k", "9", "--time", WIDE]);
+    good("get", &card, &["k", "--touch", "--time", LATEST]);
+    let accessed = good("ls", &card, &["--accessed", "--numeric"]);
+    assert!(
+        accessed.contains(&format!("accessed {LATEST}  k")),
+        "{accessed}"
+    );
     good("rm", &card, &["h", "--time", LATEST]);
     let info = good("info", &card, &[]);
     assert!(
@@ -155,6 +161,10 @@ fn times_that_edition_1_refuses() {
         &["trial", "mv", "f", "g"],
         &["trial", "resize", "f", "9"],
         &["trial", "write", "f", "0", source],
+        &["trial", "get", "f"],
+        &["trial", "ls"],
+        &["get", "f", "--touch"],
+        &["ls", "--touch"],
         &["format", "--yes"],
     ] {
         for time in [WIDE, LATEST] {

@@ -17,7 +17,7 @@ use std::time::{Duration, Instant, SystemTime, UNIX_EPOCH};
 use oracle::draw::Draw;
 use oracle::ledger::{CutReport, File};
 use oracle::lists::RECORD;
-use oracle::{FormatRequest, Ledger, Request};
+use oracle::{FormatRequest, Ledger, Lent, Request};
 use shared::{good, start, Folder};
 
 /// Of each kind, in the order of `KINDS`; a thousand are of puts.
@@ -29,7 +29,7 @@ const SECTOR: usize = 512;
 /// The most bytes that one change adds or writes.
 const PIECE: u64 = 65_536;
 /// Longer than any list.
-const LIST: usize = 1_100 * RECORD;
+const LENT: Lent = Lent::both(1_100 * RECORD);
 const SMALL: [&str; 4] = ["beam", "gain", "temperature", "clock"];
 const LARGE: [&str; 1] = ["transect"];
 const MIB: u64 = 1 << 20;
@@ -41,7 +41,7 @@ enum Kind {
         is_new: bool,
         is_large: bool,
     },
-    /// Rm, mv, resize, and a put in place.
+    /// Rm, mv, resize, a put in place, and a get that sets the access time.
     Other,
 }
 
@@ -151,10 +151,11 @@ impl Run {
                     self.whole(first);
                 }
                 let size = self.draw.below(2 * PIECE + 1);
-                match self.draw.below(4) {
+                match self.draw.below(5) {
                     0 => rm(name, self.time),
                     1 => self.mv(name),
                     2 => self.resize(name, size),
+                    3 => self.get_touching(name),
                     _ => self.put_in_place(name, size),
                 }
             }
@@ -171,7 +172,7 @@ impl Run {
         let rest = [&rest[..], &["--time", &time]].concat();
         good(&work.words[0], &self.card, &rest);
         for call in &work.calls {
-            assert_eq!(self.ledger.call(call, LIST).answer.code(), 0, "{call:?}");
+            assert_eq!(self.ledger.call(call, LENT).answer.code(), 0, "{call:?}");
         }
     }
 
@@ -186,6 +187,23 @@ impl Run {
             calls: vec![Request::Rename {
                 old: name.into(),
                 new: new.into(),
+                time: self.time,
+            }],
+            contents: None,
+        }
+    }
+
+    fn get_touching(&self, name: &'static str) -> Work {
+        let copy = self.folder.file("copy");
+        Work {
+            name,
+            words: ["get", name, "--touch", "--as", copy.to_str().unwrap()]
+                .map(String::from)
+                .to_vec(),
+            calls: vec![Request::Read {
+                name: name.into(),
+                offset: 0,
+                count: 0,
                 time: self.time,
             }],
             contents: None,
@@ -335,12 +353,12 @@ fn found(ledger: &Ledger, calls: &[Request], image: &[u8]) -> Result<(usize, Led
         // Data sectors in the place of old ones may have landed before the start mark.
         if let Some(cut) = landed(&ledger, call, image) {
             let mut ledger = ledger.clone();
-            ledger.cut_call(call, LIST, &cut);
+            ledger.cut_call(call, LENT, &cut);
             if ledger.compare(image).is_ok() {
                 return Ok((done, ledger));
             }
         }
-        assert_eq!(ledger.call(call, LIST).answer.code(), 0, "{call:?}");
+        assert_eq!(ledger.call(call, LENT).answer.code(), 0, "{call:?}");
     }
     Err(last)
 }
@@ -354,7 +372,9 @@ fn landed(ledger: &Ledger, call: &Request, image: &[u8]) -> Option<CutReport> {
         return None;
     };
     let mut now = vec![0; data.len()];
-    let answer = oracle::read(image, name, *offset, data.len() as u64, &mut now);
+    let count = data.len() as u64;
+    let mut list = [0; 9 * RECORD];
+    let answer = oracle::read(image, name, *offset, count, 0, &mut now, &mut list);
     if answer.code != 0 {
         return None;
     }
@@ -428,7 +448,7 @@ fn kills(seed: u64, mut most: [u64; 5]) -> Counts {
         assert!(was_killed || is_whole, "KILL_SEED={seed}: {words:?}");
         let mut whole = run.ledger.clone();
         for call in &work.calls[..done] {
-            whole.call(call, LIST);
+            whole.call(call, LENT);
         }
         let old = run.file(work.name).map(|file| file.bytes.clone());
         counts.recovered += u64::from(was_cut);

@@ -13,7 +13,9 @@ use std::time::Duration;
 
 use oracle::lists::RECORD;
 use oracle::{FormatRequest, Request};
-use shared::{bad, good, goofs, name_by_hand, on, run, start, Folder};
+use shared::{
+    bad, good, goofs, name_by_hand, numbers_of_trial, on, on_failing_medium, run, start, Folder,
+};
 
 /// The sample volume with one file, and a tail past the volume's end.
 fn sample(folder: &Folder) -> PathBuf {
@@ -106,6 +108,113 @@ fn what_stands_on_a_volume() {
         &["dark frame", "--as", copy.to_str().unwrap()],
     );
     assert_eq!(fs::read(&copy).unwrap(), b"counts");
+}
+
+/// The image after a command with `--touch`, which sets 4 bytes of a time here and uses the first sectors
+/// of journal and reserve.
+fn touched(before: &[u8], at: usize, time: u32, now: &[u8]) -> bool {
+    let mut expected = before.to_vec();
+    expected[at..at + 4].copy_from_slice(&time.to_be_bytes());
+    for sector in [257, 674] {
+        let staged = sector * 512..(sector + 1) * 512;
+        expected[staged.clone()].copy_from_slice(&now[staged]);
+    }
+    now == expected
+}
+
+/// Access times stay, as with noatime; with `--touch` one is set and nothing else.
+#[test]
+fn access_times() {
+    const ROOT: usize = 512 + 16;
+    const FILE: usize = 2 * 512 + 26;
+    let folder = Folder::new("access");
+    let card = sample(&folder);
+    let copy = folder.file("copy");
+    let copy = copy.to_str().unwrap();
+    let read = || fs::read(&card).unwrap();
+    let before = read();
+    let ls = good("ls", &card, &["--accessed", "--numeric"]);
+    assert!(ls.ends_with("accessed 1001  'dark frame'\n"), "{ls}");
+    good("get", &card, &["dark frame"]);
+    good("get", &card, &["dark frame", "--as", copy]);
+    assert!(read() == before, "a command that reads changed the card");
+
+    let words = ["dark frame", "--touch", "--time=2000"];
+    assert_eq!(good("get", &card, &words), "counts");
+    assert!(touched(&before, FILE, 2_000, &read()));
+    let ls = good("ls", &card, &["--accessed"]);
+    assert!(
+        ls.ends_with("accessed 1970-01-01 00:33:20 UTC  'dark frame'\n"),
+        "{ls}"
+    );
+    let before = read();
+    let ls = good("ls", &card, &["--touch", "--time=3000"]);
+    assert!(ls.ends_with("UTC  'dark frame'\n"), "{ls}");
+    assert!(touched(&before, ROOT, 3_000, &read()));
+    let info = good("info", &card, &[]);
+    assert!(
+        info.contains("accessed 1970-01-01 00:50:00 UTC\n"),
+        "{info}"
+    );
+
+    // Of several files each one's; and now, where no time is given.
+    let source = folder.write("gain", b"1.25");
+    good("put", &card, &[source.to_str().unwrap(), "--time=4000"]);
+    let into = folder.file("into");
+    fs::create_dir(&into).unwrap();
+    let into = into.to_str().unwrap();
+    good(
+        "get",
+        &card,
+        &["gain", "dark frame", "--touch", "--as", into],
+    );
+    let ls = good("ls", &card, &["--accessed", "--numeric"]);
+    for line in ls.lines() {
+        let (_, time) = line.split_once("accessed ").expect("a time");
+        let (time, _) = time.split_once(' ').expect("a name behind it");
+        assert!(time.parse::<u64>().unwrap() > 1_700_000_000, "{ls}");
+    }
+    good("check", &card, &[]);
+
+    // Refused before anything is written.
+    bad("get", &card, &["gain", "light", "--touch", "--as", into], 1);
+    bad("get", &card, &["gain", "--time=5"], 2);
+    bad("ls", &card, &["--time=5"], 2);
+    for rest in [&["ls", "--time=9"][..], &["get", "gain", "--time=9"]] {
+        let numbers = numbers_of_trial(&card, rest);
+        let [writes, _, _, undone, _, done, different] = numbers;
+        assert_eq!((writes, different), (5, 0), "{rest:?}");
+        assert!(undone > 0 && done > 0, "{rest:?}");
+    }
+    // There is no file whose listing could set a time.
+    let empty = folder.file("empty");
+    good("format", &empty, &["--sectors=1313", "--time=7"]);
+    let before = fs::read(&empty).unwrap();
+    assert_eq!(good("ls", &empty, &["--touch"]), "");
+    assert!(fs::read(&empty).unwrap() == before);
+}
+
+/// A card that can't be written, or that others read, is read all the same; only `--touch` fails.
+#[test]
+fn a_card_to_be_read_only() {
+    let folder = Folder::new("read-only");
+    let card = sample(&folder);
+    let before = fs::read(&card).unwrap();
+    let holder = File::open(&card).unwrap();
+    for rest in [&["ls"][..], &["get", "dark frame"]] {
+        let touching = [rest, &["--touch", "--wait=0"]].concat();
+        // No write goes through.
+        assert_eq!(on_failing_medium(0, rest[0], &card, &rest[1..]).status, 0);
+        let said = on_failing_medium(0, rest[0], &card, &touching[1..]);
+        assert_eq!((said.status, said.text()), (1, String::new()));
+
+        holder.lock_shared().unwrap();
+        good(rest[0], &card, &rest[1..]);
+        let err = bad(rest[0], &card, &touching[1..], 1);
+        assert!(err.contains("another program has it open"), "{err}");
+        holder.unlock().unwrap();
+    }
+    assert!(fs::read(&card).unwrap() == before);
 }
 
 #[test]

@@ -4,9 +4,10 @@
 use crate::device::SECTOR;
 use crate::error::{Fault, Refusal};
 use crate::image::{
-    claimed, number, Edition, Image, Summary, ENTRIES_IN_TABLE_SECTOR, JOURNAL_SECTORS,
-    LONGEST_TRANSFER, OCCUPIED,
+    claimed, number, Edition, Entry, Image, Summary, ENTRIES_IN_TABLE_SECTOR, JOURNAL_SECTORS,
+    LONGEST_NAME, LONGEST_TRANSFER, OCCUPIED,
 };
+use crate::ChangeAnswer;
 
 /// Bytes of a list's record: its position in the list, from 0 on, the sector number, the contents.
 pub const RECORD: usize = CONTENTS + SECTOR;
@@ -68,6 +69,16 @@ pub enum Change<'c> {
         name: &'c [u8],
         offset: u64,
         data: &'c [u8],
+        time: u64,
+    },
+    /// The file's access time, as a read sets it; nothing else of the file.
+    Touch {
+        name: &'c [u8],
+        time: u64,
+    },
+    /// The root's access time, as listing the file with this index sets it.
+    TouchRoot {
+        index: u64,
         time: u64,
     },
 }
@@ -160,41 +171,92 @@ impl List {
     }
 }
 
+/// The list that a call fills, at most so many records long.
+fn list_of(records: usize, call: impl FnOnce(&mut [u8]) -> ChangeAnswer) -> Result<List, Refusal> {
+    let mut bytes = vec![0; records * RECORD];
+    let answer = call(&mut bytes);
+    Refusal::judge(answer.code, answer.fault, answer.place)?;
+    bytes.truncate(answer.length as usize);
+    Ok(List { bytes })
+}
+
 impl Image {
     /// The list that does this change; empty if there is nothing to do.
     pub fn list_of(&self, change: &Change) -> Result<List, Refusal> {
-        let records = match change {
+        let image = &self.bytes;
+        match *change {
             // Root and entry.
-            Change::Create { .. } => records(0, 2),
-            Change::Delete { .. } => records(0, 2 + MOST_TABLE_SECTORS),
-            // Both entries.
-            Change::Rename { .. } => records(0, 3 + MOST_TABLE_SECTORS),
-            // The entry. What a growing one writes is shorter.
-            Change::Resize { .. } => records(0, 1 + MOST_TABLE_SECTORS),
-            Change::Write { .. } => records(MOST_DATA_SECTORS, 2),
-        };
-        let mut bytes = vec![0; records * RECORD];
-        let (image, list) = (&self.bytes, &mut bytes[..]);
-        let answer = match *change {
             Change::Create {
                 name,
                 id,
                 mode,
                 time,
-            } => crate::create(image, name, id, mode, time, list),
-            Change::Delete { name, time } => crate::delete(image, name, time, list),
-            Change::Rename { old, new, time } => crate::rename(image, old, new, time, list),
-            Change::Resize { name, size, time } => crate::resize(image, name, size, time, list),
+            } => list_of(records(0, 2), |list| {
+                crate::create(image, name, id, mode, time, list)
+            }),
+            Change::Delete { name, time } => list_of(records(0, 2 + MOST_TABLE_SECTORS), |list| {
+                crate::delete(image, name, time, list)
+            }),
+            // Both entries.
+            Change::Rename { old, new, time } => {
+                list_of(records(0, 3 + MOST_TABLE_SECTORS), |list| {
+                    crate::rename(image, old, new, time, list)
+                })
+            }
+            // The entry. What a growing one writes is shorter.
+            Change::Resize { name, size, time } => {
+                list_of(records(0, 1 + MOST_TABLE_SECTORS), |list| {
+                    crate::resize(image, name, size, time, list)
+                })
+            }
             Change::Write {
                 name,
                 offset,
                 data,
                 time,
-            } => crate::write(image, name, offset, data, time, list),
-        };
+            } => list_of(records(MOST_DATA_SECTORS, 2), |list| {
+                crate::write(image, name, offset, data, time, list)
+            }),
+            Change::Touch { name, time } => Ok(self.read_touching(name, 0, &mut [], time)?.1),
+            Change::TouchRoot { index, time } => Ok(self.list_touching(index, time)?.1),
+        }
+    }
+
+    /// As `read`, with the list that sets the file's access time. Its version and its change time stay.
+    pub fn read_touching(
+        &self,
+        name: &[u8],
+        offset: u64,
+        output: &mut [u8],
+        time: u64,
+    ) -> Result<(usize, List), Refusal> {
+        let mut bytes = vec![0; records(0, 1) * RECORD];
+        let count = output.len() as u64;
+        let answer = crate::read(&self.bytes, name, offset, count, time, output, &mut bytes);
         Refusal::judge(answer.code, answer.fault, answer.place)?;
         bytes.truncate(answer.length as usize);
-        Ok(List { bytes })
+        Ok((answer.count as usize, List { bytes }))
+    }
+
+    /// The file with this index, with the list that sets the root's access time.
+    pub fn list_touching(&self, index: u64, time: u64) -> Result<(Entry, List), Refusal> {
+        let mut bytes = vec![0; records(0, 1) * RECORD];
+        let mut name = vec![0; LONGEST_NAME];
+        let answer = crate::list(&self.bytes, index, time, &mut name, &mut bytes);
+        Refusal::judge(answer.code, answer.fault, answer.place)?;
+        name.truncate(answer.name_length as usize);
+        bytes.truncate(answer.length as usize);
+        let entry = Entry {
+            index,
+            name,
+            size: answer.size,
+            version: answer.version as u32,
+            id: answer.id,
+            mode: answer.mode as u32,
+            access_time: answer.access_time,
+            change_time: answer.change_time,
+        };
+        Ok((entry, List { bytes }))
     }
 
     /// What a repair does to this volume, which is clean but may have faults.
@@ -374,10 +436,11 @@ impl Format {
 mod tests {
     use super::*;
 
-    /// The lengths that the rules of the volume name: a first create, the longest delete, the longest
-    /// rename, and a write of 65,536 bytes into an empty file.
+    /// The lengths that the rules of the volume name: an access time, a first create, the longest delete,
+    /// the longest rename, and a write of 65,536 bytes into an empty file.
     #[test]
     fn records_of_changes() {
+        assert_eq!(records(0, 1), 9);
         assert_eq!(records(0, 2), 11);
         assert_eq!(records(0, 2 + MOST_TABLE_SECTORS), 1_051);
         assert_eq!(records(0, 3 + MOST_TABLE_SECTORS), 1_053);

@@ -28,13 +28,13 @@ results! {
         code, fault, place, index, size, version, id, mode, access_time, change_time, name_length,
     }
 
-    /// The name itself stands at the start of the output.
+    /// The name itself stands at the start of the output. `length` bytes of the list are filled.
     ListAnswer {
-        code, fault, place, size, version, id, mode, access_time, change_time, name_length,
+        code, fault, place, size, version, id, mode, access_time, change_time, name_length, length,
     }
 
-    /// `count` bytes stand at the start of the output.
-    ReadAnswer { code, fault, place, count }
+    /// `count` bytes stand at the start of the output. `length` bytes of the list are filled.
+    ReadAnswer { code, fault, place, count, length }
 
     /// `length` bytes of the list are filled.
     ChangeAnswer { code, fault, place, length }
@@ -123,12 +123,16 @@ calls! {
     /// The index and the fields of the file of this name.
     find is goofs_find(image: bytes, name: bytes) -> FindAnswer;
 
-    /// The fields of the entry with this index; its name is copied to the output.
-    list is goofs_list(image: bytes, index: u64, output: buffer) -> ListAnswer;
+    /// The fields of the entry with this index; its name is copied to the output. The list sets the
+    /// root's access time; who leaves it alone drops the list.
+    list is goofs_list(
+        image: bytes, index: u64, time: u64, output: buffer, list: buffer
+    ) -> ListAnswer;
 
-    /// Copies at most `count` bytes of the file from this offset on to the output.
+    /// Copies at most `count` bytes of the file from this offset on to the output. The list sets the
+    /// file's access time; who leaves it alone drops the list.
     read is goofs_read(
-        image: bytes, name: bytes, offset: u64, count: u64, output: buffer
+        image: bytes, name: bytes, offset: u64, count: u64, time: u64, output: buffer, list: buffer
     ) -> ReadAnswer;
 
     /// A new empty file in the lowest free entry.
@@ -187,11 +191,10 @@ mod tests {
             assert_eq!(goofs_check(null(), 0).code, one);
             assert_eq!(goofs_check_with(null(), 0, null_mut(), 0).code, one);
             assert_eq!(goofs_find(null(), 0, null(), 0).code, one);
-            assert_eq!(goofs_list(null(), 0, 0, null_mut(), 0).code, one);
-            assert_eq!(
-                goofs_read(null(), 0, null(), 0, 0, 0, null_mut(), 0).code,
-                one
-            );
+            let listed = goofs_list(null(), 0, 0, 0, null_mut(), 0, null_mut(), 0);
+            assert_eq!(listed.code, one);
+            let read = goofs_read(null(), 0, null(), 0, 0, 0, 0, null_mut(), 0, null_mut(), 0);
+            assert_eq!(read.code, one);
             assert_eq!(
                 goofs_create(null(), 0, null(), 0, 1, 0, 0, null_mut(), 0).code,
                 one

@@ -375,7 +375,7 @@ impl Image {
     }
 
     /// All files, in the directory's order. The volume is judged once: a call for each entry would
-    /// judge it anew each time.
+    /// judge it anew each time. The root's access time stays.
     pub fn entries(&self) -> Result<Vec<Entry>, Refusal> {
         self.check()?;
         let Summary { files, edition, .. } = self.summary();
@@ -402,14 +402,16 @@ impl Image {
             .expect("a directory has fewer entries than there are ids"))
     }
 
-    /// Fills the start of the output with bytes of the file, and says how many.
+    /// Fills the start of the output with bytes of the file, and says how many. The file's access time
+    /// stays: the list that would set it is dropped (`read_touching` gives it, `Volume::read` carries it
+    /// out).
     pub fn read(&self, name: &[u8], offset: u64, output: &mut [u8]) -> Result<usize, Refusal> {
-        let answer = crate::read(&self.bytes, name, offset, output.len() as u64, output);
-        Refusal::judge(answer.code, answer.fault, answer.place)?;
-        Ok(answer.count as usize)
+        // A time that both editions store.
+        let (count, _) = self.read_touching(name, offset, output, 0)?;
+        Ok(count)
     }
 
-    /// The whole file.
+    /// The whole file. Its access time stays.
     pub fn contents(&self, name: &[u8]) -> Result<Vec<u8>, Error> {
         let mut contents = zeros(self.find(name)?.size)?;
         for (i, part) in contents.chunks_mut(LONGEST_TRANSFER).enumerate() {

@@ -1,10 +1,12 @@
 //! The proved volume code, for Rust: one safe function for each call of the static library.
 //!
 //! Every call takes an image of any bytes and gives back numbers; `code` is 0 or says why the call
-//! was refused, and a refused call leaves its buffer as it was.
-//! - `summary`, `check`, `check_with`, `find`, `list` and `read` change nothing;
+//! was refused, and a refused call leaves its buffers as they were.
+//! - `summary`, `check`, `check_with` and `find` change nothing;
 //! - `create`, `delete`, `rename`, `resize`, `write`, `repair`, `recover` and `recover_slice` only read
 //!   the image too, and fill a lent list of sector writes;
+//! - so do `list` and `read`, besides what they give: their list sets an access time, and who leaves
+//!   times alone drops it;
 //! - `format_record` gives the records of a format one at a time;
 //! - `carry_out` does the writes of a list, and is the only call that changes an image.
 //!

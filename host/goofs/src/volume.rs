@@ -7,7 +7,7 @@ use std::ops::ControlFlow;
 use crate::change::{step, Change, Format, List, Repair, Step, FORMAT_BARRIERS};
 use crate::device::{Device, SECTOR};
 use crate::error::{Error, Interrupted};
-use crate::image::{Image, State};
+use crate::image::{Entry, Image, State};
 use crate::save::Save;
 
 #[derive(Debug)]
@@ -120,6 +120,31 @@ impl<D: Device> Volume<D> {
         let repair = self.image()?.repair()?;
         self.carry_out(&repair.list, 0)?;
         Ok(repair)
+    }
+
+    /// Fills the start of the output with bytes of the file, says how many, and sets the file's access
+    /// time, also where there are none to give. `image` has the calls that leave times alone.
+    pub fn read(
+        &mut self,
+        name: &[u8],
+        offset: u64,
+        output: &mut [u8],
+        time: u64,
+    ) -> Result<usize, Error> {
+        let (count, list) = self.image()?.read_touching(name, offset, output, time)?;
+        self.carry_out(&list, 0)?;
+        Ok(count)
+    }
+
+    /// All files, in the directory's order; sets the root's access time. In a directory without a file
+    /// there is none to list, and the time stays.
+    pub fn entries(&mut self, time: u64) -> Result<Vec<Entry>, Error> {
+        let entries = self.image()?.entries()?;
+        if let Some(first) = entries.first() {
+            let index = first.index;
+            self.apply(&[Change::TouchRoot { index, time }])?;
+        }
+        Ok(entries)
     }
 
     /// Finishes a change that was cut. Gives whether there was one.
@@ -421,6 +446,50 @@ mod tests {
         drop(volume);
         assert_eq!((counting.writes, counting.barriers), (6 + 1 + 7, 5 + 1 + 4));
         assert!(counting.medium.bytes[..held.len()] == held);
+    }
+
+    /// Who reads through the image leaves the times alone; who reads through the volume sets an access
+    /// time, on the device too, and nothing else.
+    #[test]
+    fn access_times() {
+        let mut medium = formatted();
+        let mut volume = Volume::open(&mut medium).unwrap();
+        let mut output = [0; 9];
+        assert_eq!(volume.entries(77).unwrap(), []);
+        assert_eq!(volume.image().unwrap().root().access_time, 1);
+        volume.save(b"f", b"counts", 5).unwrap();
+
+        let image = volume.image().unwrap();
+        let before = image.bytes().to_vec();
+        assert_eq!(image.read(b"f", 1, &mut output), Ok(5));
+        assert_eq!(image.contents(b"f").unwrap(), b"counts");
+        let mut file = image.find(b"f").unwrap();
+        assert_eq!(image.entries().unwrap(), [file.clone()]);
+        assert!(volume.image().unwrap().bytes() == before);
+
+        for (offset, given, time) in [(1, 5, 78), (6, 0, 79)] {
+            assert_eq!(volume.read(b"f", offset, &mut output, time).unwrap(), given);
+            file.access_time = time;
+            assert_eq!(volume.image().unwrap().find(b"f"), Ok(file.clone()));
+        }
+        let mut root = volume.image().unwrap().root();
+        assert_eq!(root.access_time, 1);
+        assert_eq!(volume.entries(80).unwrap(), [file.clone()]);
+        root.access_time = 80;
+        assert_eq!(volume.image().unwrap().root(), root);
+
+        for (name, offset, time, refusal) in [
+            (&b"f"[..], 7, 81, Refusal::PastTheEnd),
+            (b"g", 0, 81, Refusal::NotThere),
+            (b"f", 0, 1 << 32, Refusal::BadArgument),
+        ] {
+            let refused = volume.read(name, offset, &mut output, time);
+            assert!(matches!(refused, Err(Error::Refused(found)) if found == refusal));
+        }
+        let held = volume.image().unwrap().bytes().to_vec();
+        assert_eq!(volume.image().unwrap().find(b"f"), Ok(file));
+        drop(volume);
+        assert!(medium.bytes[..held.len()] == held);
     }
 
     /// The caller may stop between two changes; what was done is done.

@@ -5,7 +5,8 @@ use std::time::{Duration, Instant};
 
 use goofs::change::{Change, Format};
 use goofs::device::Memory;
-use goofs::image::{Edition, Image, LONGEST_NAME};
+use goofs::error::Refusal;
+use goofs::image::{Edition, Image};
 use goofs::volume;
 
 const FILES: u64 = 1_024;
@@ -73,32 +74,13 @@ fn entries_are_those_of_the_proved_call() {
 fn entries_of(image: &Image) {
     let mut entries = image.entries().unwrap().into_iter();
     for index in 0..FILES {
-        let mut output = [0; LONGEST_NAME];
-        let answer = goofs::list(image.bytes(), index, &mut output);
-        assert_eq!(answer.code, if index % 5 == 0 { 9 } else { 0 });
-        if answer.code != 0 {
+        let listed = image.list_touching(index, 9);
+        if index % 5 == 0 {
+            assert_eq!(listed, Err(Refusal::NotThere));
             continue;
         }
-        let entry = entries.next().unwrap();
-        assert_eq!(entry.index, index);
-        assert_eq!(entry.name, output[..answer.name_length as usize]);
-        let found = [
-            entry.size,
-            u64::from(entry.version),
-            entry.id,
-            u64::from(entry.mode),
-            entry.access_time,
-            entry.change_time,
-        ];
-        let told = [
-            answer.size,
-            answer.version,
-            answer.id,
-            answer.mode,
-            answer.access_time,
-            answer.change_time,
-        ];
-        assert_eq!(found, told);
+        let (entry, _) = listed.unwrap();
+        assert_eq!(entries.next().as_ref(), Some(&entry));
         assert_eq!(image.find(&entry.name), Ok(entry));
     }
     assert_eq!(entries.next(), None);

@@ -16,8 +16,8 @@ use goofs::volume::{self, Volume};
 use oracle::draw::Draw;
 use oracle::ledger::CutReport;
 use oracle::power::{data_sectors, groups};
-use oracle::testing::requests::{create, delete, rename, resize, shortened, write};
-use oracle::{FormatRequest, Ledger, Request};
+use oracle::testing::requests::{create, delete, list, read, rename, resize, shortened, write};
+use oracle::{FormatRequest, Ledger, Lent, Request};
 
 /// Which pages the system forgets when it is asked to.
 #[derive(Clone, Copy, Debug, PartialEq, Eq)]
@@ -195,7 +195,7 @@ impl Device for Card {
 }
 
 /// Longer than any list.
-const BUFFER: usize = 2_000 * RECORD;
+const LENT: Lent = Lent::both(2_000 * RECORD);
 
 fn change(request: &Request) -> Change<'_> {
     match request {
@@ -230,6 +230,11 @@ fn change(request: &Request) -> Change<'_> {
             name,
             offset: *offset,
             data,
+            time: *time,
+        },
+        Request::Read { name, time, .. } => Change::Touch { name, time: *time },
+        Request::List { index, time } => Change::TouchRoot {
+            index: *index,
             time: *time,
         },
         _ => panic!("it changes nothing"),
@@ -290,12 +295,12 @@ fn ends(before: &Ledger, requests: &[Request]) -> Vec<End> {
                 start_mark: false,
                 data_sectors: (0..32).filter(|place| landed >> place & 1 == 1).collect(),
             };
-            part.cut_call(request, BUFFER, &report);
+            part.cut_call(request, LENT, &report);
             if ends.iter().all(|end| end.ledger != part) {
                 ends.push(End { done, ledger: part });
             }
         }
-        let told = ledger.call(request, BUFFER);
+        let told = ledger.call(request, LENT);
         assert_eq!(told.answer.code(), 0, "{}", shortened(request));
     }
     ends
@@ -363,7 +368,7 @@ fn sample(edition: Edition) -> (Card, Ledger) {
     ];
     run(&mut card, &requests).unwrap();
     for request in &requests {
-        ledger.call(request, BUFFER);
+        ledger.call(request, LENT);
     }
     ledger.compare(&card.bytes()).unwrap();
     (Card::of(card.bytes()), ledger)
@@ -388,6 +393,8 @@ fn commands() -> Vec<(&'static str, Vec<Request>)> {
             vec![write(b"f", 0, vec![8; 700]), resize(b"f", 700)],
         ),
         ("mv", vec![rename(b"f", b"n")]),
+        ("get --touch", vec![read(b"f", 0, 0), read(b"g", 0, 0)]),
+        ("ls --touch", vec![list(0)]),
         (
             "put beside a file and mv onto it",
             vec![

@@ -154,6 +154,8 @@ pub struct ListAnswer {
     pub access_time: u64,
     pub change_time: u64,
     pub name_length: u64,
+    /// Bytes of the write list, which sets the root's access time.
+    pub length: u64,
 }
 
 impl ListAnswer {
@@ -162,6 +164,7 @@ impl ListAnswer {
             code: code::DONE,
             fault: 0,
             place: 0,
+            length: 0,
             size: entry.size(),
             version: u64::from(entry.version()),
             id: entry.id(),
@@ -178,7 +181,10 @@ pub struct ReadAnswer {
     pub code: u64,
     pub fault: u64,
     pub place: u64,
+    /// Bytes of the output.
     pub count: u64,
+    /// Bytes of the write list, which sets the file's access time.
+    pub length: u64,
 }
 
 /// The answer of create, delete, resize, write and rename; the length is that of the list, in bytes.

@@ -1,10 +1,13 @@
-//! The calls that change nothing: summary, check, find, list and read.
+//! The reading calls: summary, check and find change nothing; list and read give a write list that
+//! sets an access time.
 
 use crate::answers::{
     code, state, CheckAnswer, FindAnswer, ListAnswer, ReadAnswer, Refusal, SummaryAnswer,
 };
-use crate::judge::{open, open_sound, SoundVolume, State};
-use crate::layout::{Entry, FileIndex, LONGEST_SPAN, SECTOR};
+use crate::changes::{judge_time, transaction};
+use crate::judge::{open, open_sound, SoundVolume, State, Volume};
+use crate::layout::{entry, root, Entry, FileIndex, Sector, LONGEST_SPAN, SECTOR};
+use crate::lists::Target;
 
 /// The geometry and the state; only 1 to 3 refuse it.
 pub fn summary(image: &[u8]) -> SummaryAnswer {
@@ -47,40 +50,58 @@ pub fn find(image: &[u8], name: &[u8]) -> FindAnswer {
     }
 }
 
-/// The fields of the entry with this index; its name is copied to the output.
-pub fn list(image: &[u8], index: u64, output: &mut [u8]) -> ListAnswer {
-    match list_entry(image, index, output) {
+/// The fields of the entry with this index; its name is copied to the output, and the write list
+/// sets the root's access time.
+pub fn list(image: &[u8], index: u64, time: u64, output: &mut [u8], list: &mut [u8]) -> ListAnswer {
+    match list_entry(image, index, time, output, list) {
         Ok(answer) => answer,
         Err(refusal) => refusal.into(),
     }
 }
 
-fn list_entry(image: &[u8], index: u64, output: &mut [u8]) -> Result<ListAnswer, Refusal> {
-    let volume = open_sound(image)?;
-    if index >= volume.geometry().files() {
+fn list_entry(
+    image: &[u8],
+    index: u64,
+    time: u64,
+    output: &mut [u8],
+    list: &mut [u8],
+) -> Result<ListAnswer, Refusal> {
+    let sound = open_sound(image)?;
+    judge_time(&sound, time)?;
+    if index >= sound.geometry().files() {
         return Err(Refusal::new(code::BAD_ARGUMENT));
     }
-    let entry = volume.volume().entry(FileIndex(index));
+    let volume = sound.volume();
+    let entry = volume.entry(FileIndex(index));
     if !entry.is_occupied() {
         return Err(Refusal::new(code::NOT_THERE));
     }
     let name = entry
         .name()
         .expect("an occupied entry of a sound volume has a name");
-    let place = output
-        .get_mut(..name.len())
-        .ok_or(Refusal::new(code::BUFFER_TOO_SHORT))?;
-    place.copy_from_slice(name);
-    Ok(ListAnswer::of_entry(entry))
+    let output = start_of(output, name.len())?;
+    let root = accessed(volume, volume.geometry().root_at(), root::ACCESS_TIME, time);
+    let length = transaction(volume, &[root], list)?;
+    output.copy_from_slice(name);
+    Ok(ListAnswer {
+        length,
+        ..ListAnswer::of_entry(entry)
+    })
 }
 
-/// Copies at most `count` bytes of the file from this offset on to the output.
-pub fn read(image: &[u8], name: &[u8], offset: u64, count: u64, output: &mut [u8]) -> ReadAnswer {
-    match read_file(image, name, offset, count, output) {
-        Ok(count) => ReadAnswer {
-            count,
-            ..ReadAnswer::default()
-        },
+/// Copies at most `count` bytes of the file from this offset on to the output; the write list sets
+/// the file's access time.
+pub fn read(
+    image: &[u8],
+    name: &[u8],
+    offset: u64,
+    count: u64,
+    time: u64,
+    output: &mut [u8],
+    list: &mut [u8],
+) -> ReadAnswer {
+    match read_file(image, name, offset, count, time, output, list) {
+        Ok(answer) => answer,
         Err(refusal) => refusal.into(),
     }
 }
@@ -90,30 +111,44 @@ fn read_file(
     name: &[u8],
     offset: u64,
     count: u64,
+    time: u64,
     output: &mut [u8],
-) -> Result<u64, Refusal> {
-    let volume = open_sound(image)?;
+    list: &mut [u8],
+) -> Result<ReadAnswer, Refusal> {
+    let sound = open_sound(image)?;
+    judge_time(&sound, time)?;
     if count > LONGEST_SPAN {
         return Err(Refusal::new(code::BAD_ARGUMENT));
     }
-    let (file, entry) = find_file(&volume, name)?;
+    let (file, entry) = find_file(&sound, name)?;
     if offset > entry.size() {
         return Err(Refusal::new(code::PAST_THE_END));
     }
     let given = count.min(entry.size() - offset);
-    let mut rest = output
-        .get_mut(..given as usize)
-        .ok_or(Refusal::new(code::BUFFER_TOO_SHORT))?;
+    let output = start_of(output, given as usize)?;
+    let volume = sound.volume();
+    let entry_at = volume.geometry().entry_at(file);
+    let entry = accessed(volume, entry_at, entry::ACCESS_TIME, time);
+    let length = transaction(volume, &[entry], list)?;
+    copy_span(&sound, file, offset, output);
+    Ok(ReadAnswer {
+        count: given,
+        length,
+        ..ReadAnswer::default()
+    })
+}
 
-    // The span is cut at each extent edge, since neighbours in the file need not be neighbours on
-    // the medium.
-    let geometry = volume.geometry();
-    let extents = volume.extents_of(file);
+/// Fills the output with the file's bytes from this offset on. The span is cut at each extent edge,
+/// since neighbours in the file need not be neighbours on the medium.
+fn copy_span(sound: &SoundVolume, file: FileIndex, offset: u64, output: &mut [u8]) {
+    let geometry = sound.geometry();
+    let extents = sound.extents_of(file);
+    let mut rest = output;
     let mut at = offset;
     while !rest.is_empty() {
         let extent = extents[(at / geometry.extent_bytes()) as usize];
         let from = (at % geometry.extent_bytes()) as usize;
-        let bytes = volume
+        let bytes = sound
             .volume()
             .sectors(geometry.extent_at(extent), geometry.extent_sectors());
         let length = rest
@@ -124,7 +159,22 @@ fn read_file(
         rest = later;
         at += length as u64;
     }
-    Ok(given)
+}
+
+/// The start of a lent output, or refusal 14.
+fn start_of(output: &mut [u8], length: usize) -> Result<&mut [u8], Refusal> {
+    output
+        .get_mut(..length)
+        .ok_or(Refusal::new(code::BUFFER_TOO_SHORT))
+}
+
+/// Root or entry with its access time set; the version stays.
+fn accessed(volume: Volume, sector: Sector, access_time_at: usize, time: u64) -> Target {
+    let mut contents = *volume.sector(sector);
+    volume
+        .edition()
+        .put_time(&mut contents, access_time_at, time);
+    Target { sector, contents }
 }
 
 /// Refusals 8 for the name and 9; used by every call that takes the name of a file that must be

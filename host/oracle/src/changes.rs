@@ -224,7 +224,7 @@ fn write_span(
 }
 
 /// Refusal 8 for a time that the volume's edition can't store.
-fn judge_time(sound: &SoundVolume, time: u64) -> Result<(), Refusal> {
+pub(crate) fn judge_time(sound: &SoundVolume, time: u64) -> Result<(), Refusal> {
     if sound.edition().time_fits(time) {
         Ok(())
     } else {

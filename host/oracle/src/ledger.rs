@@ -10,7 +10,7 @@ use crate::answers::{
 };
 use crate::format::FormatRequest;
 use crate::layout::{Extent, Geometry, SECTOR};
-use crate::request::{Answer, Request};
+use crate::request::{Answer, Lent, Request};
 
 /// The fields of the root record.
 #[derive(Clone, Debug, PartialEq, Eq)]
@@ -59,9 +59,16 @@ pub struct Ledger {
     slots: Vec<Option<File>>,
 }
 
-/// What a changing call that is not refused does. The data of a growing resize are zeros.
+/// What a call that is not refused does. The data of a growing resize are zeros.
 enum Change {
     Nothing,
+    AccessRoot {
+        time: u64,
+    },
+    AccessFile {
+        slot: usize,
+        time: u64,
+    },
     Create {
         slot: usize,
         file: File,
@@ -140,23 +147,22 @@ impl Ledger {
         self.slots[slot] = Some(file);
     }
 
-    /// The answer of a call whose list, if it has one, lands whole. The length is that of the lent
-    /// buffer.
-    pub fn call(&mut self, request: &Request, buffer_length: usize) -> Told {
-        let (told, change) = self.tell(request, buffer_length);
+    /// What the call would answer.
+    pub fn answer(&self, request: &Request, lent: Lent) -> Answer {
+        self.tell(request, lent).0.answer
+    }
+
+    /// The answer of a call whose list, if it has one, lands whole.
+    pub fn call(&mut self, request: &Request, lent: Lent) -> Told {
+        let (told, change) = self.tell(request, lent);
         self.apply(change);
         told
     }
 
     /// The answer of a call that is cut while its list is carried out. A call without a list can't
     /// be cut; then nothing is answered and nothing changes.
-    pub fn cut_call(
-        &mut self,
-        request: &Request,
-        buffer_length: usize,
-        cut: &CutReport,
-    ) -> Option<Told> {
-        let (told, change) = self.tell(request, buffer_length);
+    pub fn cut_call(&mut self, request: &Request, lent: Lent, cut: &CutReport) -> Option<Told> {
+        let (told, change) = self.tell(request, lent);
         if told.answer.list_length() == 0 {
             return None;
         }
@@ -169,7 +175,7 @@ impl Ledger {
     }
 
     /// The answer, and what the call does if it is done.
-    fn tell(&self, request: &Request, buffer_length: usize) -> (Told, Change) {
+    fn tell(&self, request: &Request, lent: Lent) -> (Told, Change) {
         let mut output = Vec::new();
         let mut change = Change::Nothing;
         let answer = match request {
@@ -185,9 +191,10 @@ impl Ledger {
                 Ok((slot, file)) => find_answer(slot, file),
                 Err(refusal) => refusal.into(),
             }),
-            Request::List { index } => Answer::List(match self.list(*index, buffer_length) {
+            Request::List { index, time } => Answer::List(match self.list(*index, *time, lent) {
                 Ok(file) => {
                     output = file.name.clone();
+                    change = Change::AccessRoot { time: *time };
                     list_answer(file)
                 }
                 Err(refusal) => refusal.into(),
@@ -196,17 +203,20 @@ impl Ledger {
                 name,
                 offset,
                 count,
-            } => Answer::Read(match self.read(name, *offset, *count, buffer_length) {
-                Ok(bytes) => {
+                time,
+            } => Answer::Read(match self.read(name, *offset, *count, *time, lent) {
+                Ok((slot, bytes)) => {
                     output = bytes.to_vec();
+                    change = Change::AccessFile { slot, time: *time };
                     ReadAnswer {
                         count: bytes.len() as u64,
+                        length: length_by_groups(0, 1) as u64,
                         ..ReadAnswer::default()
                     }
                 }
                 Err(refusal) => refusal.into(),
             }),
-            _ => Answer::Change(match self.change(request, buffer_length) {
+            _ => Answer::Change(match self.change(request, lent.list) {
                 Ok((length, planned)) => {
                     change = planned;
                     ChangeAnswer {
@@ -221,7 +231,7 @@ impl Ledger {
     }
 
     /// The list length of a changing call and what it does, or its refusal.
-    fn change(&self, request: &Request, buffer_length: usize) -> Result<(usize, Change), Refusal> {
+    fn change(&self, request: &Request, list_length: usize) -> Result<(usize, Change), Refusal> {
         if request.time().is_some_and(|time| self.bad_time(time)) {
             return Err(Refusal::new(code::BAD_ARGUMENT));
         }
@@ -241,10 +251,10 @@ impl Ledger {
                 time,
             } => self.write(name, *offset, data, *time)?,
             Request::Rename { old, new, time } => self.rename(old, new, *time)?,
-            // The other calls have no list.
+            // The reading calls are told elsewhere.
             _ => (0, Change::Nothing),
         };
-        if buffer_length < length {
+        if list_length < length {
             return Err(Refusal::new(code::BUFFER_TOO_SHORT));
         }
         Ok((length, change))
@@ -267,14 +277,14 @@ impl Ledger {
             .filter_map(|(slot, file)| file.as_ref().map(|file| (slot, file)))
     }
 
-    fn list(&self, index: u64, buffer_length: usize) -> Result<&File, Refusal> {
-        if index >= self.slots.len() as u64 {
+    fn list(&self, index: u64, time: u64, lent: Lent) -> Result<&File, Refusal> {
+        if index >= self.slots.len() as u64 || self.bad_time(time) {
             return Err(Refusal::new(code::BAD_ARGUMENT));
         }
         let file = self.slots[index as usize]
             .as_ref()
             .ok_or(Refusal::new(code::NOT_THERE))?;
-        if buffer_length < file.name.len() {
+        if lent.output < file.name.len() || lent.list < length_by_groups(0, 1) {
             return Err(Refusal::new(code::BUFFER_TOO_SHORT));
         }
         Ok(file)
@@ -285,21 +295,22 @@ impl Ledger {
         name: &[u8],
         offset: u64,
         count: u64,
-        buffer_length: usize,
-    ) -> Result<&[u8], Refusal> {
-        if self.bad_name(name) || count > 65_536 {
+        time: u64,
+        lent: Lent,
+    ) -> Result<(usize, &[u8]), Refusal> {
+        if self.bad_name(name) || count > 65_536 || self.bad_time(time) {
             return Err(Refusal::new(code::BAD_ARGUMENT));
         }
-        let (_, file) = self.find(name)?;
+        let (slot, file) = self.find(name)?;
         if offset > file.bytes.len() as u64 {
             return Err(Refusal::new(code::PAST_THE_END));
         }
         let rest = &file.bytes[offset as usize..];
         let given = &rest[..rest.len().min(count as usize)];
-        if buffer_length < given.len() {
+        if lent.output < given.len() || lent.list < length_by_groups(0, 1) {
             return Err(Refusal::new(code::BUFFER_TOO_SHORT));
         }
-        Ok(given)
+        Ok((slot, given))
     }
 
     fn create(
@@ -479,6 +490,8 @@ impl Ledger {
     fn apply(&mut self, change: Change) {
         match change {
             Change::Nothing => {}
+            Change::AccessRoot { time } => self.root.access_time = time,
+            Change::AccessFile { slot, time } => self.file(slot).access_time = time,
             Change::Create { slot, file } => {
                 self.change_root(file.change_time);
                 self.slots[slot] = Some(file);
@@ -555,10 +568,14 @@ impl Ledger {
         self.root.change_time = time;
     }
 
-    fn changed_file(&mut self, slot: usize, time: u64) -> &mut File {
-        let file = self.slots[slot]
+    fn file(&mut self, slot: usize) -> &mut File {
+        self.slots[slot]
             .as_mut()
-            .expect("the slot of a planned change holds a file");
+            .expect("the slot of a planned change holds a file")
+    }
+
+    fn changed_file(&mut self, slot: usize, time: u64) -> &mut File {
+        let file = self.file(slot);
         file.version = file.version.wrapping_add(1);
         file.change_time = time;
         file
@@ -599,6 +616,7 @@ fn find_answer(slot: usize, file: &File) -> FindAnswer {
 
 fn list_answer(file: &File) -> ListAnswer {
     ListAnswer {
+        length: length_by_groups(0, 1) as u64,
         size: file.bytes.len() as u64,
         version: u64::from(file.version),
         id: file.id,

@@ -49,7 +49,7 @@ pub use lists::carry_out;
 pub use recovery::{recover, recover_slice};
 pub use rename::rename;
 pub use repair::repair;
-pub use request::{Answer, Request};
+pub use request::{Answer, Lent, Request};
 pub use sorted_check::check_with_scratch;
 
 #[cfg(test)]

@@ -6,7 +6,26 @@ use crate::answers::{
 };
 use crate::{calls, changes};
 
-/// A call with its arguments; the lent buffer goes beside it.
+/// The lengths of the buffers lent to a call: list and read take both, the changing calls only the
+/// write list.
+#[derive(Clone, Copy, Debug, PartialEq, Eq)]
+pub struct Lent {
+    pub output: usize,
+    pub list: usize,
+}
+
+impl Lent {
+    pub const NONE: Lent = Lent::both(0);
+
+    pub const fn both(length: usize) -> Lent {
+        Lent {
+            output: length,
+            list: length,
+        }
+    }
+}
+
+/// A call with its arguments; the lent buffers go beside it.
 #[derive(Clone, Debug, PartialEq, Eq)]
 pub enum Request {
     Summary,
@@ -16,11 +35,13 @@ pub enum Request {
     },
     List {
         index: u64,
+        time: u64,
     },
     Read {
         name: Vec<u8>,
         offset: u64,
         count: u64,
+        time: u64,
     },
     Create {
         name: Vec<u8>,
@@ -64,12 +85,10 @@ impl Request {
     /// The time that the call stores.
     pub fn time(&self) -> Option<u64> {
         match self {
-            Request::Summary
-            | Request::Check
-            | Request::Find { .. }
-            | Request::List { .. }
-            | Request::Read { .. } => None,
-            Request::Create { time, .. }
+            Request::Summary | Request::Check | Request::Find { .. } => None,
+            Request::List { time, .. }
+            | Request::Read { time, .. }
+            | Request::Create { time, .. }
             | Request::Delete { time, .. }
             | Request::Resize { time, .. }
             | Request::Write { time, .. }
@@ -91,39 +110,47 @@ impl Request {
         }
     }
 
-    /// Puts the call to an image; the buffer is its output or its list.
-    pub fn ask(&self, image: &[u8], buffer: &mut [u8]) -> Answer {
+    /// Puts the call to an image.
+    pub fn ask(&self, image: &[u8], output: &mut [u8], list: &mut [u8]) -> Answer {
         match self {
             Request::Summary => Answer::Summary(calls::summary(image)),
             Request::Check => Answer::Check(calls::check(image)),
             Request::Find { name } => Answer::Find(calls::find(image, name)),
-            Request::List { index } => Answer::List(calls::list(image, *index, buffer)),
+            Request::List { index, time } => {
+                Answer::List(calls::list(image, *index, *time, output, list))
+            }
             Request::Read {
                 name,
                 offset,
                 count,
-            } => Answer::Read(calls::read(image, name, *offset, *count, buffer)),
+                time,
+            } => Answer::Read(calls::read(
+                image, name, *offset, *count, *time, output, list,
+            )),
+            _ => Answer::Change(self.ask_change(image, list)),
+        }
+    }
+
+    fn ask_change(&self, image: &[u8], list: &mut [u8]) -> ChangeAnswer {
+        match self {
             Request::Create {
                 name,
                 id,
                 mode,
                 time,
-            } => Answer::Change(changes::create(image, name, *id, *mode, *time, buffer)),
-            Request::Delete { name, time } => {
-                Answer::Change(changes::delete(image, name, *time, buffer))
-            }
+            } => changes::create(image, name, *id, *mode, *time, list),
+            Request::Delete { name, time } => changes::delete(image, name, *time, list),
             Request::Resize { name, size, time } => {
-                Answer::Change(changes::resize(image, name, *size, *time, buffer))
+                changes::resize(image, name, *size, *time, list)
             }
             Request::Write {
                 name,
                 offset,
                 data,
                 time,
-            } => Answer::Change(changes::write(image, name, *offset, data, *time, buffer)),
-            Request::Rename { old, new, time } => {
-                Answer::Change(crate::rename(image, old, new, *time, buffer))
-            }
+            } => changes::write(image, name, *offset, data, *time, list),
+            Request::Rename { old, new, time } => crate::rename(image, old, new, *time, list),
+            _ => unreachable!("the reading calls have other answers"),
         }
     }
 }
@@ -140,22 +167,24 @@ impl Answer {
         }
     }
 
-    /// How many bytes of the lent buffer the call filled.
-    pub fn filled(&self) -> usize {
-        let filled = match self {
-            Answer::Summary(_) | Answer::Check(_) | Answer::Find(_) => 0,
+    /// How many bytes of the output the call filled.
+    pub fn output_length(&self) -> usize {
+        let length = match self {
             Answer::List(answer) => answer.name_length,
             Answer::Read(answer) => answer.count,
-            Answer::Change(answer) => answer.length,
+            _ => 0,
         };
-        filled as usize
+        length as usize
     }
 
-    /// The length of the write list, 0 for calls without one.
-    pub fn list_length(&self) -> u64 {
-        match self {
+    /// How many bytes of the write list.
+    pub fn list_length(&self) -> usize {
+        let length = match self {
+            Answer::Summary(_) | Answer::Check(_) | Answer::Find(_) => 0,
+            Answer::List(answer) => answer.length,
+            Answer::Read(answer) => answer.length,
             Answer::Change(answer) => answer.length,
-            _ => 0,
-        }
+        };
+        length as usize
     }
 }

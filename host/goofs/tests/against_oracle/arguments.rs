@@ -1,11 +1,11 @@
 //! Names, indexes, offsets, counts and output lengths at every edge.
 
 use crate::counts::{count, Compared};
-use crate::shared::{alike, ask, calls, on_both, with_each_buffer};
+use crate::shared::{alike, ask, calls, on_both, output, with_each_buffer};
 use oracle::draw::Draw;
-use oracle::testing::requests::{create, find, read, rename, write};
+use oracle::testing::requests::{create, find, list, read, rename, write};
 use oracle::testing::volumes::some_files_of;
-use oracle::Request;
+use oracle::Lent;
 
 /// Names that are taken, that begin alike, and bad ones.
 fn names() -> Vec<Vec<u8>> {
@@ -55,14 +55,14 @@ fn names_at_every_edge() {
         let mut codes = [0; 15];
         for name in names() {
             count(Compared::ArgumentEdges, 1);
-            codes[alike(&find(&name), &volume.image, 0).0.code() as usize] += 1;
+            codes[alike(&find(&name), &volume.image, Lent::NONE).0.code() as usize] += 1;
             for (offset, count, length) in [
                 (0, 10, 10),
                 (0, 65_537, 10),
                 (u64::MAX, 65_536, 0),
                 (1, 0, 0),
             ] {
-                alike(&read(&name, offset, count), &volume.image, length);
+                alike(&read(&name, offset, count), &volume.image, output(length));
             }
         }
         assert!(codes[0] == 8 && codes[8] > 40 && codes[9] > 5, "{codes:?}");
@@ -78,14 +78,14 @@ fn indexes_and_output_lengths_of_list() {
         for index in indexes {
             count(Compared::ArgumentEdges, 1);
             for length in [0, 1, 2, 3, 4, 467, 468, 469, 475, 476, 477, 1_000] {
-                alike(&Request::List { index }, &volume.image, length);
+                alike(&list(index), &volume.image, output(length));
             }
         }
     });
 }
 
-/// Offsets and counts around each edge of sectors, extents and the file, with an output that is
-/// long enough, exact, and one byte too short.
+/// Offsets and counts around each edge of sectors, extents and the file, with an output and a list
+/// that are long enough, exact, and one byte too short.
 #[test]
 fn spans_of_read() {
     on_both(|edition| {
@@ -117,9 +117,9 @@ fn spans_of_read() {
                 for span in spans {
                     let request = read(name, *offset, span);
                     count(Compared::ArgumentEdges, 1);
-                    let (code, length) = with_each_buffer(&request, &volume.image);
+                    let (code, filled) = with_each_buffer(&request, &volume.image);
                     codes[code as usize] += 1;
-                    alike(&request, &volume.image, length + 1);
+                    alike(&request, &volume.image, output(filled.output + 1));
                 }
             }
         }
@@ -140,36 +140,43 @@ fn random_spans_of_read() {
             let offset = draw.below(196_608 + 10);
             let count = draw.below(65_540);
             let length = draw.below(65_600) as usize;
-            alike(&read(b"ab", offset, count), &volume.image, length);
+            alike(&read(b"ab", offset, count), &volume.image, output(length));
         }
     });
 }
 
-/// Where several conditions hold, the lowest number is given; a refusal leaves the buffer alone.
+/// Where several conditions hold, the lowest number is given; a refusal leaves the buffers alone.
 #[test]
 fn the_lowest_number() {
     on_both(|edition| {
         let volume = some_files_of(edition);
         let expected = [
-            (8, read(b"", u64::MAX, 65_537), 0),
-            (8, read(b"none", u64::MAX, 65_537), 0),
-            (8, read(b"none\0", u64::MAX, 1), 0),
-            (9, read(b"none", u64::MAX, 65_536), 0),
-            (12, read(b"ab", 131_074, 65_536), 0),
-            (14, read(b"ab", 131_072, 65_536), 0),
-            (0, read(b"ab", 131_073, 65_536), 0),
-            (0, read(b"ab", 0, 0), 0),
-            (8, Request::List { index: 255 }, 0),
-            (9, Request::List { index: 254 }, 0),
-            (14, Request::List { index: 0 }, 0),
+            (8, read(b"", u64::MAX, 65_537)),
+            (8, read(b"none", u64::MAX, 65_537)),
+            (8, read(b"none\0", u64::MAX, 1)),
+            (9, read(b"none", u64::MAX, 65_536)),
+            (12, read(b"ab", 131_074, 65_536)),
+            (14, read(b"ab", 131_072, 65_536)),
+            (8, list(255)),
+            (9, list(254)),
+            (14, list(0)),
         ];
-        for (code, request, length) in expected {
-            let (answer, _) = alike(&request, &volume.image, length);
-            assert_eq!(answer.code(), code, "{request:?}");
+        for (code, request) in expected {
+            for lent in [Lent::NONE, output(0)] {
+                let (answer, _) = alike(&request, &volume.image, lent);
+                assert_eq!(answer.code(), code, "{request:?}");
+            }
+        }
+        // These give no byte, but a list.
+        for request in [read(b"ab", 131_073, 65_536), read(b"ab", 0, 0)] {
+            for (code, lent) in [(14, Lent::NONE), (0, output(0))] {
+                let (answer, _) = alike(&request, &volume.image, lent);
+                assert_eq!(answer.code(), code, "{request:?}");
+            }
         }
         let mut unfinished = volume.clone();
         unfinished.image[18..20].fill(255);
-        let (answer, _) = alike(&read(b"", 0, 65_537), &unfinished.image, 0);
+        let (answer, _) = alike(&read(b"", 0, 65_537), &unfinished.image, Lent::NONE);
         assert_eq!(answer.code(), 4);
     });
 }
@@ -196,8 +203,8 @@ fn empty_slices() {
             for image in [&[][..], &image] {
                 count(Compared::ArgumentEdges, 1);
                 assert_eq!(
-                    ask(&request, image, &mut []),
-                    request.ask(image, &mut []),
+                    ask(&request, image, &mut [], &mut []),
+                    request.ask(image, &mut [], &mut []),
                     "{request:?}"
                 );
             }

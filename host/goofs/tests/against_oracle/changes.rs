@@ -2,7 +2,7 @@
 //! extents and files, arguments at every edge, and lists exactly long enough and one byte too short.
 
 use crate::counts::{count, Compared};
-use crate::shared::{on_both, with_each_buffer};
+use crate::shared::{on_both, only_list, with_each_buffer};
 use oracle::draw::Draw;
 use oracle::layout::{put32, Edition, Geometry, SECTOR};
 use oracle::lists::RECORD;
@@ -145,14 +145,14 @@ fn several_table_sectors() {
         );
         assert_eq!(
             with_each_buffer(&delete(b"x"), &image),
-            (0, (2 * 7 + 1 + 6) * RECORD)
+            (0, only_list((2 * 7 + 1 + 6) * RECORD))
         );
         with_each_buffer(&delete(b"y"), &image);
         // Root, both entries and the five table sectors.
         for (old, new) in [(b"y", b"x"), (b"x", b"y")] {
             assert_eq!(
                 with_each_buffer(&rename(old, new), &image),
-                (0, (2 * 8 + 1 + 6) * RECORD)
+                (0, only_list((2 * 8 + 1 + 6) * RECORD))
             );
         }
         with_each_buffer(&write(b"x", size, vec![1; 65_536]), &image);

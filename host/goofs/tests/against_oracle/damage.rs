@@ -2,7 +2,7 @@
 //! once, whole sectors, large directories, and images of any bytes.
 
 use crate::counts::{count, Compared};
-use crate::shared::{alike, damaged_alike, on_both};
+use crate::shared::{alike, damaged_alike, on_both, output};
 use oracle::draw::Draw;
 use oracle::layout::{put16, put32, put64, Edition, Geometry, SECTOR};
 use oracle::testing::damage::{
@@ -10,9 +10,9 @@ use oracle::testing::damage::{
     table_field, METADATA,
 };
 use oracle::testing::images::{blank_of, put_file};
-use oracle::testing::requests::{find, read};
-use oracle::testing::volumes::{some_files_of, ANY_LIST};
-use oracle::Request;
+use oracle::testing::requests::{find, list, read};
+use oracle::testing::volumes::{some_files_of, ANY};
+use oracle::{Lent, Request};
 
 /// A number in the metadata: its byte offset in the image and its width in bytes.
 type Field = (usize, usize);
@@ -184,8 +184,8 @@ fn of_names_and_ids_in_a_large_directory() {
                 }
             }
             count(Compared::DamagedImages, 1);
-            let (answer, _) = alike(&Request::Check, &image, 0);
-            alike(&find(b"7"), &image, 0);
+            let (answer, _) = alike(&Request::Check, &image, Lent::NONE);
+            alike(&find(b"7"), &image, Lent::NONE);
             let told = oracle::check(&image);
             *seen.entry((answer.code(), told.fault)).or_insert(0) += 1;
         }
@@ -230,14 +230,10 @@ fn of_everything() {
         codes[damaged_alike(&image).code as usize] += 1;
         if round % 4 == 0 {
             let name = draw.bytes(3);
-            alike(&find(&name), &image, 0);
-            alike(
-                &read(&name, draw.number(), draw.below(70_000)),
-                &image,
-                ANY_LIST,
-            );
+            alike(&find(&name), &image, Lent::NONE);
+            alike(&read(&name, draw.number(), draw.below(70_000)), &image, ANY);
             let index = draw.below(300);
-            alike(&Request::List { index }, &image, 100);
+            alike(&list(index), &image, output(100));
         }
     }
     assert!(codes[1..8].iter().all(|times| *times > 20), "{codes:?}");

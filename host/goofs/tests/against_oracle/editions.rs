@@ -8,11 +8,11 @@ use oracle::layout::{get16, get32, get64, put16, superblock, Edition, SECTOR};
 use oracle::lists::{CONTENTS, RECORD};
 use oracle::testing::damage::entry_field;
 use oracle::testing::requests::{
-    at_time, create, delete, find, read, rename, resize, shortened, write,
+    at_time, create, delete, find, list, read, rename, resize, shortened, write,
 };
-use oracle::testing::volumes::{sample_of, some_files_of, Volume, ANY_LIST, SAMPLE};
+use oracle::testing::volumes::{sample_of, some_files_of, Volume, ANY, SAMPLE};
 use oracle::testing::Subject;
-use oracle::{Answer, FormatRequest, Request};
+use oracle::{Answer, FormatRequest, Lent, Request};
 
 /// The first time that has more than 32 bits.
 const WIDE: u64 = 4_294_967_296;
@@ -57,7 +57,7 @@ fn a_life_of_the_longest_name() {
             create(&name, 77),
             write(&name, 0, vec![7; 600]),
             find(&name),
-            Request::List { index: 3 },
+            list(3),
             rename(&name, b"short"),
             rename(b"ab", &name),
             resize(&name, 5),
@@ -94,6 +94,14 @@ fn calls_with_a_time() -> Vec<(u64, Request)> {
         (0, rename(b"ab", b"ab")),
         (9, rename(b"none", b"new")),
         (9, rename(b"none", b"none")),
+        (0, read(b"ab", 65_530, 20)),
+        (0, read(b"ab", 0, 0)),
+        (9, read(b"none", 0, 1)),
+        (12, read(b"ab", 131_074, 1)),
+        (8, read(b"ab", 0, 65_537)),
+        (0, list(5)),
+        (9, list(3)),
+        (8, list(255)),
     ]
 }
 
@@ -126,7 +134,7 @@ fn times_around_32_bits() {
                 let expected = if bad { 8 } else { usual };
                 let (code, _) = with_each_buffer(&request, &volume.image);
                 assert_eq!(code, expected, "{}", shortened(&request));
-                let code = |image: &[u8]| alike(&request, image, ANY_LIST).0.code();
+                let code = |image: &[u8]| alike(&request, image, ANY).0.code();
                 assert_eq!((code(&unsound), code(&waiting)), (7, 5));
             }
         }
@@ -162,16 +170,15 @@ fn wide_times_on_a_full_volume() {
 
 /// The two times that find and list give of a file.
 fn times_of(image: &[u8], name: &[u8]) -> (u64, u64) {
-    let (found, _) = alike(&find(name), image, 0);
+    let (found, _) = alike(&find(name), image, Lent::NONE);
     let Answer::Find(found) = found else {
         panic!("a find's answer");
     };
-    let list = Request::List { index: found.index };
-    let (listed, told_name) = alike(&list, image, 476);
+    let (listed, filled) = alike(&list(found.index), image, ANY);
     let Answer::List(listed) = listed else {
         panic!("a list's answer");
     };
-    assert_eq!(told_name, name);
+    assert_eq!(filled.output, name);
     let times = (found.access_time, found.change_time);
     assert_eq!((listed.access_time, listed.change_time), times);
     times
@@ -271,7 +278,7 @@ fn every_version() {
         let mut image = some_files_of(edition).image;
         for version in 0..=u16::MAX {
             put16(&mut image, superblock::VERSION, version);
-            let (answer, _) = alike(&Request::Summary, &image, 0);
+            let (answer, _) = alike(&Request::Summary, &image, Lent::NONE);
             let Answer::Summary(told) = answer else {
                 panic!("a summary's answer");
             };

@@ -3,7 +3,7 @@
 use crate::shared::{alike, calls, calls_alike, damaged_alike, on_both};
 use oracle::layout::{put16, superblock, SECTOR};
 use oracle::testing::damage::{FAULTS, METADATA};
-use oracle::testing::volumes::{some_files_of, ANY_LIST};
+use oracle::testing::volumes::{some_files_of, ANY};
 
 #[test]
 fn each_fault() {
@@ -11,7 +11,7 @@ fn each_fault() {
         let sound = some_files_of(edition).image;
         assert_eq!(calls_alike(&sound).code, 0);
         for request in calls() {
-            let (answer, _) = alike(&request, &sound, ANY_LIST);
+            let (answer, _) = alike(&request, &sound, ANY);
             assert_eq!(answer.code(), 0, "{request:?}");
         }
         for (number, (expected, spoil)) in FAULTS.iter().enumerate() {

@@ -5,14 +5,14 @@
 use std::sync::{Mutex, MutexGuard};
 
 use crate::counts::{count, Compared};
-use crate::shared::{alike, on_both, with_each_buffer};
+use crate::shared::{alike, on_both, output, with_each_buffer};
 use oracle::draw::Draw;
 use oracle::layout::{put16, put64, Edition, Geometry, SECTOR};
 use oracle::testing::damage::entry_field;
 use oracle::testing::images::{blank_of, put_file, table_entry};
-use oracle::testing::requests::{create, delete, find, read, rename, resize, write};
-use oracle::testing::volumes::ANY_LIST;
-use oracle::Request;
+use oracle::testing::requests::{create, delete, find, list, read, rename, resize, write};
+use oracle::testing::volumes::ANY;
+use oracle::{Lent, Request};
 
 static ONE_AT_A_TIME: Mutex<()> = Mutex::new(());
 
@@ -59,13 +59,13 @@ fn every_call() {
         let mut image = full(edition);
         let name = |index| name(edition, index);
         let mut draw = Draw::new(41);
-        alike(&Request::Summary, &image, 0);
-        let (answer, _) = alike(&Request::Check, &image, 0);
+        alike(&Request::Summary, &image, Lent::NONE);
+        let (answer, _) = alike(&Request::Check, &image, Lent::NONE);
         assert_eq!(answer.code(), 0);
         for index in (0..1_024).step_by(31).chain([1_023, 1_024, 65_535]) {
-            alike(&Request::List { index }, &image, 476);
-            alike(&Request::List { index }, &image, 475);
-            alike(&find(&name(index)), &image, 0);
+            alike(&list(index), &image, output(476));
+            alike(&list(index), &image, output(475));
+            alike(&find(&name(index)), &image, Lent::NONE);
         }
         for index in [0, 1, 2, 513, 1_022, 1_023] {
             let size = 63 * 65_536;
@@ -73,12 +73,12 @@ fn every_call() {
                 // Noise where the span is read, so that a wrong extent shows.
                 scatter_noise(&mut image, &mut draw);
                 for (offset, count) in [(edge, 65_536), (edge + 65_535, 65_536), (edge + 1, 600)] {
-                    alike(&read(&name(index), offset, count), &image, 65_536);
+                    alike(&read(&name(index), offset, count), &image, output(65_536));
                 }
             }
         }
         let long_after = read(&name(1_023), 64 * 65_536 + 1, 1);
-        assert_eq!(alike(&long_after, &image, 1).0.code(), 12);
+        assert_eq!(alike(&long_after, &image, output(1)).0.code(), 12);
         for index in [0, 1, 1_023] {
             let size = if index < 1_018 { 64 } else { 63 } * 65_536 - index % 3;
             for (expected, request) in [
@@ -124,8 +124,8 @@ fn every_fault() {
             let old = image[at..at + bytes.len()].to_vec();
             image[at..at + bytes.len()].copy_from_slice(bytes);
             count(Compared::DamagedImages, 1);
-            for request in [Request::Check, find(&name(9)), Request::List { index: 9 }] {
-                alike(&request, &image, 476);
+            for request in [Request::Check, find(&name(9)), list(9)] {
+                alike(&request, &image, ANY);
             }
             let told = oracle::check(&image);
             assert_eq!((told.fault, told.place), fault, "byte {at}");
@@ -193,22 +193,22 @@ fn one_file_with_everything() {
         let geometry = geometry();
         let size = geometry.largest_size();
         let mut image = one_file(edition);
-        assert_eq!(alike(&Request::Check, &image, 0).0.code(), 0);
+        assert_eq!(alike(&Request::Check, &image, Lent::NONE).0.code(), 0);
         let mut draw = Draw::new(42);
         for offset in [0, 65_535, size / 2 + 1, size - 65_536, size - 1, size] {
             scatter_noise(&mut image, &mut draw);
-            alike(&read(b"all", offset, 65_536), &image, 65_536);
+            alike(&read(b"all", offset, 65_536), &image, output(65_536));
         }
         for (at, bytes) in [(2, [255, 249]), (0, [255, 255]), (2, [0, 1])] {
             let entry = table_entry(geometry, 32_000);
             let old = image[entry..entry + 4].to_vec();
             image[entry + at..entry + at + 2].copy_from_slice(&bytes);
             count(Compared::DamagedImages, 1);
-            assert_eq!(alike(&Request::Check, &image, 0).0.code(), 7);
+            assert_eq!(alike(&Request::Check, &image, Lent::NONE).0.code(), 7);
             image[entry..entry + 4].copy_from_slice(&old);
         }
         put16(&mut image, 18, 1_024);
-        assert_eq!(alike(&Request::Check, &image, 0).0.code(), 5);
+        assert_eq!(alike(&Request::Check, &image, Lent::NONE).0.code(), 5);
     });
 }
 
@@ -230,8 +230,8 @@ fn largest_directory() {
             put_file(&mut image, geometry, index, &name(index), size, extents);
         }
         for index in [0, 1, 65_533, 65_534, 65_535, 65_536] {
-            alike(&Request::List { index }, &image, 476);
-            alike(&find(&name(index)), &image, 0);
+            alike(&list(index), &image, output(476));
+            alike(&find(&name(index)), &image, Lent::NONE);
         }
         let last = name(65_534);
         for (expected, request) in [
@@ -250,18 +250,18 @@ fn largest_directory() {
                 "{request:?}"
             );
             if expected == 0 {
-                let (_, list) = alike(&request, &image, ANY_LIST);
-                assert_eq!(goofs::carry_out(&mut image, &list), 0);
+                let (_, filled) = alike(&request, &image, ANY);
+                assert_eq!(goofs::carry_out(&mut image, &filled.list), 0);
             }
         }
-        alike(&find(&last), &image, 0);
-        alike(&read(&last, 0, 20), &image, 20);
-        assert_eq!(alike(&Request::Check, &image, 0).0.code(), 0);
+        alike(&find(&last), &image, Lent::NONE);
+        alike(&read(&last, 0, 20), &image, output(20));
+        assert_eq!(alike(&Request::Check, &image, Lent::NONE).0.code(), 0);
         let mut place_of = |spoil: &dyn Fn(&mut [u8])| {
             let held = image[..geometry.data_at().0 as usize * SECTOR].to_vec();
             spoil(&mut image);
             count(Compared::DamagedImages, 1);
-            let (answer, _) = alike(&Request::Check, &image, 0);
+            let (answer, _) = alike(&Request::Check, &image, Lent::NONE);
             assert_eq!(answer.code(), 7);
             image[..held.len()].copy_from_slice(&held);
         };
@@ -278,8 +278,8 @@ fn largest_directory() {
             )
         });
         place_of(&|image| put16(image, table_entry(geometry, 160), 65_534));
-        let (_, list) = alike(&delete(&last), &image, ANY_LIST);
-        assert_eq!(goofs::carry_out(&mut image, &list), 0);
-        assert_eq!(alike(&Request::Check, &image, 0).0.code(), 0);
+        let (_, filled) = alike(&delete(&last), &image, ANY);
+        assert_eq!(goofs::carry_out(&mut image, &filled.list), 0);
+        assert_eq!(alike(&Request::Check, &image, Lent::NONE).0.code(), 0);
     });
 }

@@ -2,16 +2,16 @@
 //! one extent, every number of files, images of exactly the volume and one sector less.
 
 use crate::counts::{count, Compared};
-use crate::shared::{alike, calls, on_both, with_each_buffer, Both};
+use crate::shared::{alike, calls, on_both, output, with_each_buffer, Both};
 use oracle::draw::Draw;
 use oracle::layout::{put16, put64, Edition, Geometry, SECTOR};
 use oracle::power::{draw_cut, groups};
 use oracle::testing::cuts::recovery_length;
 use oracle::testing::images::{blank_of, put_file, table_entry};
-use oracle::testing::requests::{create, delete, find, read, rename, resize, write};
-use oracle::testing::volumes::ANY_LIST;
-use oracle::testing::Subject;
-use oracle::Request;
+use oracle::testing::requests::{create, delete, find, list, read, rename, resize, write};
+use oracle::testing::volumes::ANY;
+use oracle::testing::{Filled, Subject};
+use oracle::{Lent, Request};
 
 /// Fills a volume with files of random lengths in random extents, as many as there are.
 fn fill(image: &mut [u8], geometry: Geometry, draw: &mut Draw) -> Vec<(Vec<u8>, u64)> {
@@ -45,18 +45,18 @@ fn fill(image: &mut [u8], geometry: Geometry, draw: &mut Draw) -> Vec<(Vec<u8>, 
 
 /// Every reading call on the files, with spans around the extents' edges.
 fn all_alike(image: &[u8], geometry: Geometry, files: &[(Vec<u8>, u64)], draw: &mut Draw) {
-    alike(&Request::Summary, image, 0);
-    let (answer, _) = alike(&Request::Check, image, 0);
+    alike(&Request::Summary, image, Lent::NONE);
+    let (answer, _) = alike(&Request::Check, image, Lent::NONE);
     assert_eq!(answer.code(), 0);
     for index in [0, 1, geometry.files() - 1, geometry.files()] {
-        alike(&Request::List { index }, image, 100);
+        alike(&list(index), image, output(100));
     }
     for (name, size) in files {
-        alike(&find(name), image, 0);
+        alike(&find(name), image, Lent::NONE);
         let edge = geometry.extent_bytes() * draw.below(size / geometry.extent_bytes() + 1);
         for offset in [0, edge.max(1) - 1, edge, edge + 1, draw.below(size + 1)] {
             for count in [1, 513, 65_536] {
-                alike(&read(name, offset, count), image, 65_536);
+                alike(&read(name, offset, count), image, output(65_536));
             }
         }
     }
@@ -107,7 +107,7 @@ fn cut_changes_alike(image: &mut [u8], files: &[(Vec<u8>, u64)], draw: &mut Draw
 /// Asks for the change and cuts it, and the recoveries after it, until no file has the name.
 fn cut_until_gone(image: &mut [u8], change: &Request, name: &[u8], draw: &mut Draw) {
     while oracle::find(image, name).code == 0 {
-        let (answer, list) = alike(change, image, ANY_LIST);
+        let (answer, Filled { list, .. }) = alike(change, image, ANY);
         assert_eq!(answer.code(), 0);
         land_a_part(image, &list, draw);
         count(Compared::Cuts, 1);
@@ -121,7 +121,7 @@ fn cut_until_gone(image: &mut [u8], change: &Request, name: &[u8], draw: &mut Dr
             count(Compared::Recoveries, 1);
             count(Compared::CutRecoveries, 1);
         }
-        assert_eq!(alike(&Request::Check, image, 0).0.code(), 0);
+        assert_eq!(alike(&Request::Check, image, Lent::NONE).0.code(), 0);
     }
 }
 
@@ -142,7 +142,7 @@ fn edges_alike(image: &mut [u8], geometry: Geometry) {
             _ => put64(image, at, number),
         }
         count(Compared::DamagedImages, 1);
-        alike(&Request::Check, image, 0);
+        alike(&Request::Check, image, Lent::NONE);
         image[at..at + width].copy_from_slice(&old);
     };
     for extent in [0, usable - 1, usable, geometry.extents() - 1] {
@@ -179,7 +179,7 @@ fn one_geometry(
 
     let short = image.len() - SECTOR;
     count(Compared::Truncations, 1);
-    let (answer, _) = alike(&Request::Check, &image[..short], 0);
+    let (answer, _) = alike(&Request::Check, &image[..short], Lent::NONE);
     assert_eq!(answer.code(), 3);
     cut_changes_alike(&mut image, &files, &mut draw);
 }
@@ -245,7 +245,7 @@ fn geometries_too_large_for_the_image() {
             let image = blank_start(edition, geometry);
             count(Compared::DamagedImages, 1);
             for request in calls() {
-                let (answer, _) = alike(&request, &image, ANY_LIST);
+                let (answer, _) = alike(&request, &image, ANY);
                 assert_eq!(answer.code(), 3);
             }
         }

@@ -3,14 +3,14 @@
 //! reserve.
 
 use crate::full_volume::{alone, geometry, one_file};
-use crate::shared::{alike, on_both, Both};
+use crate::shared::{alike, on_both, only_list, Both};
 use oracle::layout::{Edition, Geometry, SECTOR};
 use oracle::lists::RECORD;
 use oracle::power::{groups, Cut};
 use oracle::testing::images::{blank_of, put_file};
 use oracle::testing::requests::{delete, rename, resize, write};
-use oracle::testing::Subject;
-use oracle::Request;
+use oracle::testing::{Filled, Subject};
+use oracle::{Lent, Request};
 
 #[test]
 fn longest_delete() {
@@ -22,26 +22,28 @@ fn longest_delete() {
 
         let request = delete(b"all");
         let length = 1_051 * RECORD;
-        let (answer, list) = alike(&request, &image, length);
+        let (answer, Filled { list, .. }) = alike(&request, &image, only_list(length));
         assert_eq!((answer.code(), list.len()), (0, length));
-        alike(&request, &image, length + 1);
-        assert_eq!(alike(&request, &image, length - 1).0.code(), 14);
+        alike(&request, &image, only_list(length + 1));
+        assert_eq!(alike(&request, &image, only_list(length - 1)).0.code(), 14);
         let groups = groups(&list);
         let sizes: Vec<usize> = groups.iter().map(Vec::len).collect();
         assert_eq!(sizes, [514 + 17, 1, 514, 1]);
 
         // The next longest, a resize, and a write that finds no room.
         for new_size in [0, 1, 65_536, 128 * 65_536, size - 65_536, size - 1, size] {
-            alike(&resize(b"all", new_size), &image, length);
+            alike(&resize(b"all", new_size), &image, only_list(length));
         }
         assert_eq!(
-            alike(&resize(b"all", size + 1), &image, length).0.code(),
+            alike(&resize(b"all", size + 1), &image, only_list(length))
+                .0
+                .code(),
             13
         );
         alike(
             &write(b"all", size - 70_000, vec![3; 65_536]),
             &image,
-            length,
+            only_list(length),
         );
 
         cut_and_recovered(&mut image, geometry, &list, 514);
@@ -59,7 +61,7 @@ fn cut_and_recovered(image: &mut [u8], geometry: Geometry, list: &[u8], targets:
         landed: (0..targets).step_by(3).collect(),
     };
     every_third.apply(&groups, image);
-    assert_eq!(alike(&Request::Check, image, 0).0.code(), 5);
+    assert_eq!(alike(&Request::Check, image, Lent::NONE).0.code(), 5);
     let length = (targets + 3) * RECORD;
     let (short, _) = Both.recover(image, length - 1);
     assert_eq!(short.code, 14);
@@ -75,7 +77,7 @@ fn cut_and_recovered(image: &mut [u8], geometry: Geometry, list: &[u8], targets:
         assert!(sector < geometry.data_at().0);
         assert!(image[sector as usize * SECTOR..][..SECTOR] == record[16..]);
     }
-    assert_eq!(alike(&Request::Check, image, 0).0.code(), 0);
+    assert_eq!(alike(&Request::Check, image, Lent::NONE).0.code(), 0);
 }
 
 /// So large an image is compared only where the list writes: in the metadata and the reserve.
@@ -96,17 +98,17 @@ fn longest_rename() {
             let before = two_files(edition, geometry, index, replaced);
             let request = rename(b"new", b"all");
             let length = 1_053 * RECORD;
-            let (answer, list) = alike(&request, &before, length);
+            let (answer, Filled { list, .. }) = alike(&request, &before, only_list(length));
             assert_eq!((answer.code(), list.len()), (0, length));
-            alike(&request, &before, length + 1);
-            assert_eq!(alike(&request, &before, length - 1).0.code(), 14);
+            alike(&request, &before, only_list(length + 1));
+            assert_eq!(alike(&request, &before, only_list(length - 1)).0.code(), 14);
             let sizes: Vec<usize> = groups(&list).iter().map(Vec::len).collect();
             assert_eq!(sizes, [515 + 17, 1, 515, 1]);
             // Away from the full file only root and entry move.
-            let (away, list_away) = alike(&rename(b"all", b"old"), &before, length);
-            assert_eq!((away.code(), list_away.len()), (0, 11 * RECORD));
-            let (onto, list_onto) = alike(&rename(b"all", b"new"), &before, length);
-            assert_eq!((onto.code(), list_onto.len()), (0, 13 * RECORD));
+            let (away, filled_away) = alike(&rename(b"all", b"old"), &before, only_list(length));
+            assert_eq!((away.code(), filled_away.list.len()), (0, 11 * RECORD));
+            let (onto, filled_onto) = alike(&rename(b"all", b"new"), &before, only_list(length));
+            assert_eq!((onto.code(), filled_onto.list.len()), (0, 13 * RECORD));
 
             let mut image = before;
             cut_and_recovered(&mut image, geometry, &list, 515);
@@ -154,9 +156,9 @@ fn renames_that_need_the_whole_reserve() {
             let targets = table_sectors as usize + 3;
             let length = (2 * targets + targets.div_ceil(32) + 6) * RECORD;
             let request = rename(b"new", b"all");
-            let (answer, list) = alike(&request, &image, length);
+            let (answer, Filled { list, .. }) = alike(&request, &image, only_list(length));
             assert_eq!((answer.code(), list.len()), (0, length));
-            assert_eq!(alike(&request, &image, length - 1).0.code(), 14);
+            assert_eq!(alike(&request, &image, only_list(length - 1)).0.code(), 14);
             let last_copy = groups(&list)[0][targets - 1].sector;
             assert_eq!(last_copy + 1 + unused, geometry.end().0);
             cut_and_recovered(&mut image, geometry, &list, targets);

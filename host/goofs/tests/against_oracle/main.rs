@@ -5,6 +5,7 @@
 //!
 //!     cargo test --offline -p goofs --test against_oracle -- --ignored --nocapture sums
 
+mod access_times;
 mod arguments;
 mod carrying_out;
 mod cases;

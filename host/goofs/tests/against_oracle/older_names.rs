@@ -5,7 +5,9 @@ use crate::counts::{count, Compared};
 use crate::shared::{on_both, with_each_buffer, Both};
 use oracle::draw::Draw;
 use oracle::layout::Edition;
-use oracle::testing::requests::{create, delete, find, read, rename, resize, shortened, write};
+use oracle::testing::requests::{
+    create, delete, find, list, read, rename, resize, shortened, write,
+};
 use oracle::testing::volumes::{some_files_of, Volume};
 use oracle::Request;
 
@@ -49,7 +51,7 @@ fn every_call() {
             for (expected, request) in [
                 (0, Request::Check),
                 (0, find(&name)),
-                (0, Request::List { index: 5 }),
+                (0, list(5)),
                 (0, read(&name, 0, 65_536)),
                 (0, read(&name, 699, 9)),
                 (12, read(&name, 701, 9)),

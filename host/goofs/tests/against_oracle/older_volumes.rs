@@ -8,9 +8,9 @@ use oracle::layout::{put16, put64, superblock, Geometry, SECTOR};
 use oracle::lists::RECORD;
 use oracle::testing::images::{blank_of, put_file};
 use oracle::testing::requests::shortened;
-use oracle::testing::volumes::ANY_LIST;
+use oracle::testing::volumes::ANY;
 use oracle::testing::Subject;
-use oracle::{Answer, Request};
+use oracle::{Answer, Lent, Request};
 
 /// Number of extents, sectors of an extent, and the extents of the reserve before and now. The
 /// first four are the geometries of our own formats with extents of 128 sectors.
@@ -28,12 +28,12 @@ const GROWN: [(u64, u64, u64, u64); 7] = [
 /// The fault and its place, that every call which judges the volume must tell.
 fn fault_alike(image: &[u8]) -> (u64, u64, u64) {
     count(Compared::DamagedImages, 1);
-    let (answer, _) = alike(&Request::Check, image, 0);
+    let (answer, _) = alike(&Request::Check, image, Lent::NONE);
     let Answer::Check(check) = answer else {
         panic!("a check's answer");
     };
     for request in calls() {
-        let (answer, _) = alike(&request, image, ANY_LIST);
+        let (answer, _) = alike(&request, image, ANY);
         if check.code != 0 && request != Request::Summary {
             assert_eq!(answer.code(), check.code, "{}", shortened(&request));
         }
@@ -140,7 +140,7 @@ fn waiting_changes() {
             assert_eq!((answer.code, list.len()), (0, 4 * RECORD));
             assert_eq!(goofs::carry_out(&mut image, &list), 0);
             assert_eq!(oracle::find(&image, b"new").index, 1);
-            assert_eq!(alike(&Request::Check, &image, 0).0.code(), 0);
+            assert_eq!(alike(&Request::Check, &image, Lent::NONE).0.code(), 0);
         }
     });
 }

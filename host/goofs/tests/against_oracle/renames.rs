@@ -2,7 +2,7 @@
 //! every order of their slots, and lists exactly long enough and one byte too short.
 
 use crate::counts::{count, Compared};
-use crate::shared::{alike, latest_time, on_both, with_each_buffer, Both};
+use crate::shared::{alike, latest_time, on_both, only_list, with_each_buffer, Both};
 use oracle::draw::Draw;
 use oracle::layout::{get32, sector, Edition, Entry, Geometry, Sector, SECTOR};
 use oracle::lists::RECORD;
@@ -10,9 +10,9 @@ use oracle::power::sector_numbers;
 use oracle::testing::damage::entry_field;
 use oracle::testing::images::{blank_of, put_file};
 use oracle::testing::requests::{create, find, rename, shortened};
-use oracle::testing::volumes::{some_files_of, Volume, ANY_LIST};
-use oracle::testing::Subject;
-use oracle::Request;
+use oracle::testing::volumes::{some_files_of, Volume, ANY};
+use oracle::testing::{Filled, Subject};
+use oracle::{Lent, Request};
 
 /// The longest name, and three that no call gives.
 fn longest(edition: Edition) -> Vec<u8> {
@@ -77,10 +77,10 @@ fn both_names_at_every_edge() {
             for new in names() {
                 count(Compared::ArgumentEdges, 1);
                 let request = rename(&old, &new);
-                let (code, length) = with_each_buffer(&request, &volume.image);
+                let (code, filled) = with_each_buffer(&request, &volume.image);
                 codes[code as usize] += 1;
                 if old == new {
-                    assert_eq!(length, 0, "{}", shortened(&request));
+                    assert_eq!(filled.list, 0, "{}", shortened(&request));
                 }
             }
         }
@@ -153,19 +153,25 @@ fn slots_in_every_order() {
         assert_eq!(oracle::check(&image).code, 0);
         for (this, old) in names.iter().enumerate() {
             let fresh = rename(old, b"n");
-            assert_eq!(with_each_buffer(&fresh, &image), (0, 11 * RECORD));
+            assert_eq!(
+                with_each_buffer(&fresh, &image),
+                (0, only_list(11 * RECORD))
+            );
             for (that, new) in names.iter().enumerate() {
                 let request = rename(old, new);
                 if this == that {
-                    assert_eq!(with_each_buffer(&request, &image), (0, 0));
+                    assert_eq!(with_each_buffer(&request, &image), (0, only_list(0)));
                     continue;
                 }
                 let mut targets = vec![1, 2 + slots[this], 2 + slots[that]];
                 targets.extend(extents[that].iter().map(|extent| 289 + extent / 128));
                 targets.sort_unstable();
                 let records = 2 * targets.len() + 1 + 6;
-                assert_eq!(with_each_buffer(&request, &image), (0, records * RECORD));
-                let (_, list) = alike(&request, &image, records * RECORD);
+                assert_eq!(
+                    with_each_buffer(&request, &image),
+                    (0, only_list(records * RECORD))
+                );
+                let (_, Filled { list, .. }) = alike(&request, &image, only_list(records * RECORD));
                 let numbers = sector_numbers(&list);
                 assert_eq!(numbers[targets.len() + 4..][..targets.len()], targets);
                 landed(edition, &image, &list, slots[this], slots[that], new);
@@ -197,7 +203,7 @@ fn landed(edition: Edition, image: &[u8], list: &[u8], slot: u64, replaced: u64,
     assert!(after[after_name].iter().all(|byte| *byte == 0));
     assert_eq!(get32(&after, SECTOR), get32(image, SECTOR) + 1);
     assert_eq!(after[entry_field(replaced, 0)..][..SECTOR], [0; SECTOR]);
-    let (found, _) = alike(&find(name), &after, 0);
+    let (found, _) = alike(&find(name), &after, Lent::NONE);
     assert_eq!(found.code(), 0);
 }
 
@@ -224,13 +230,13 @@ fn the_lowest_number() {
             (14, rename(b" ", b"abc")),
         ] {
             for length in [0, 1, RECORD] {
-                let (answer, _) = alike(&request, &volume.image, length);
+                let (answer, _) = alike(&request, &volume.image, only_list(length));
                 assert_eq!(answer.code(), expected, "{}", shortened(&request));
             }
         }
         let mut faulty = volume.clone();
         faulty.image[entry_field(30, 0)] = 1;
-        let (answer, _) = alike(&rename(b"", b""), &faulty.image, ANY_LIST);
+        let (answer, _) = alike(&rename(b"", b""), &faulty.image, ANY);
         assert_eq!(answer.code(), 7);
     });
 }

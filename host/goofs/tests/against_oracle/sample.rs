@@ -1,12 +1,12 @@
 //! The reading calls on the sample volume, empty and with files.
 
-use crate::shared::{alike, calls_alike, on_both};
+use crate::shared::{alike, calls_alike, on_both, output};
 use oracle::draw::Draw;
 use oracle::layout::SECTOR;
-use oracle::testing::requests::{create, delete, find, read, write};
+use oracle::testing::requests::{create, delete, find, list, read, write};
 use oracle::testing::volumes::{sample_of, some_files_of, Volume, SAMPLE};
 use oracle::testing::Oracle;
-use oracle::{Answer, Request};
+use oracle::{Answer, Lent, Request};
 
 /// Summary, check, every list index and, of every file, find and some reads.
 fn everything_alike(volume: &Volume) {
@@ -14,17 +14,18 @@ fn everything_alike(volume: &Volume) {
     let before = image.clone();
     calls_alike(image);
     for index in 0..volume.ledger.geometry().files() + 2 {
-        alike(&Request::List { index }, image, 476);
+        alike(&list(index), image, output(476));
     }
     for (_, file) in volume.ledger.files() {
         let size = file.bytes.len() as u64;
-        alike(&find(&file.name), image, 0);
+        alike(&find(&file.name), image, Lent::NONE);
         for offset in [0, 1, 511, 512, 65_535, 65_536, size / 2, size, size + 1] {
             for count in [0, 1, 512, 513, 65_536] {
-                let (answer, bytes) = alike(&read(&file.name, offset, count), image, 65_536);
+                let (answer, filled) =
+                    alike(&read(&file.name, offset, count), image, output(65_536));
                 if answer.code() == 0 {
                     let end = size.min(offset + count);
-                    assert!(bytes == file.bytes[offset as usize..end as usize]);
+                    assert!(filled.output == file.bytes[offset as usize..end as usize]);
                 }
             }
         }
@@ -37,7 +38,7 @@ fn empty() {
     on_both(|edition| {
         let volume = Volume::formatted(&Oracle, &sample_of(edition));
         everything_alike(&volume);
-        let (answer, _) = alike(&Request::Summary, &volume.image, 0);
+        let (answer, _) = alike(&Request::Summary, &volume.image, Lent::NONE);
         let Answer::Summary(told) = answer else {
             panic!("a summary's answer");
         };
@@ -81,7 +82,7 @@ fn a_full_directory() {
             volume.done(&create(&name, 1_000 - number % 100 + 1_000 * number));
         }
         everything_alike(&volume);
-        alike(&find(&[b'n'; 256]), &volume.image, 0);
+        alike(&find(&[b'n'; 256]), &volume.image, Lent::NONE);
     });
 }
 

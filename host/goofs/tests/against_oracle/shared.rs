@@ -7,10 +7,12 @@ use oracle::answers::{
 };
 use oracle::layout::Edition;
 use oracle::testing::buffers::{LentBuffer, LentScratch};
-use oracle::testing::requests::{create, delete, find, read, rename, resize, shortened, write};
-use oracle::testing::volumes::ANY_LIST;
-use oracle::testing::{checks_alike, Oracle, Subject};
-use oracle::{Answer, FormatRequest, Request};
+use oracle::testing::requests::{
+    create, delete, find, list, read, rename, resize, shortened, write,
+};
+use oracle::testing::volumes::{ANY, ANY_LIST};
+use oracle::testing::{checks_alike, Filled, Oracle, Subject};
+use oracle::{Answer, FormatRequest, Lent, Request};
 
 /// The oracle's answer with the same fields; neither side may have one that the other lacks.
 macro_rules! as_oracle {
@@ -21,7 +23,7 @@ macro_rules! as_oracle {
 }
 
 /// Puts a call to the proved code.
-pub fn ask(request: &Request, image: &[u8], buffer: &mut [u8]) -> Answer {
+pub fn ask(request: &Request, image: &[u8], output: &mut [u8], list: &mut [u8]) -> Answer {
     match request {
         Request::Summary => Answer::Summary(as_oracle!(
             goofs::summary(image),
@@ -55,8 +57,8 @@ pub fn ask(request: &Request, image: &[u8], buffer: &mut [u8]) -> Answer {
                 name_length,
             }
         )),
-        Request::List { index } => Answer::List(as_oracle!(
-            goofs::list(image, *index, buffer),
+        Request::List { index, time } => Answer::List(as_oracle!(
+            goofs::list(image, *index, *time, output, list),
             ListAnswer {
                 code,
                 fault,
@@ -68,43 +70,46 @@ pub fn ask(request: &Request, image: &[u8], buffer: &mut [u8]) -> Answer {
                 access_time,
                 change_time,
                 name_length,
+                length,
             }
         )),
         Request::Read {
             name,
             offset,
             count,
+            time,
         } => Answer::Read(as_oracle!(
-            goofs::read(image, name, *offset, *count, buffer),
+            goofs::read(image, name, *offset, *count, *time, output, list),
             ReadAnswer {
                 code,
                 fault,
                 place,
                 count,
+                length,
             }
         )),
-        _ => ask_change(request, image, buffer),
+        _ => ask_change(request, image, list),
     }
 }
 
-fn ask_change(request: &Request, image: &[u8], buffer: &mut [u8]) -> Answer {
+fn ask_change(request: &Request, image: &[u8], list: &mut [u8]) -> Answer {
     let answer = match request {
         Request::Create {
             name,
             id,
             mode,
             time,
-        } => goofs::create(image, name, *id, *mode, *time, buffer),
-        Request::Delete { name, time } => goofs::delete(image, name, *time, buffer),
-        Request::Resize { name, size, time } => goofs::resize(image, name, *size, *time, buffer),
+        } => goofs::create(image, name, *id, *mode, *time, list),
+        Request::Delete { name, time } => goofs::delete(image, name, *time, list),
+        Request::Resize { name, size, time } => goofs::resize(image, name, *size, *time, list),
         Request::Write {
             name,
             offset,
             data,
             time,
-        } => goofs::write(image, name, *offset, data, *time, buffer),
-        Request::Rename { old, new, time } => goofs::rename(image, old, new, *time, buffer),
-        _ => unreachable!("the other calls change nothing"),
+        } => goofs::write(image, name, *offset, data, *time, list),
+        Request::Rename { old, new, time } => goofs::rename(image, old, new, *time, list),
+        _ => unreachable!("the reading calls have other answers"),
     };
     Answer::Change(as_oracle!(
         answer,
@@ -121,18 +126,28 @@ fn ask_change(request: &Request, image: &[u8], buffer: &mut [u8]) -> Answer {
 pub struct Both;
 
 impl Subject for Both {
-    fn ask(&self, request: &Request, image: &[u8], buffer_length: usize) -> (Answer, Vec<u8>) {
-        let expected = Oracle.ask(request, image, buffer_length);
-        let mut buffer = LentBuffer::new(buffer_length);
-        let answer = ask(request, image, buffer.lent());
-        let found = (answer, buffer.filled(answer.filled()));
-        let what = || format!("{} with {buffer_length} bytes lent", shortened(request));
-        assert_eq!(found.0, expected.0, "{}", what());
-        same_bytes(&found.1, &expected.1, what);
-        count_buffer(answer.code(), answer.filled(), buffer_length, || {
-            Oracle.ask(request, image, buffer_length + 1).0.code()
+    fn ask(&self, request: &Request, image: &[u8], lent: Lent) -> (Answer, Filled) {
+        let (expected, expected_bytes) = Oracle.ask(request, image, lent);
+        let mut output = LentBuffer::new(lent.output);
+        let mut list = LentBuffer::new(lent.list);
+        let answer = ask(request, image, output.lent(), list.lent());
+        let filled = Filled {
+            output: output.filled(answer.output_length()),
+            list: list.filled(answer.list_length()),
+        };
+        let what = || format!("{} with {lent:?}", shortened(request));
+        assert_eq!(answer, expected, "{}", what());
+        same_bytes(&filled.output, &expected_bytes.output, what);
+        same_bytes(&filled.list, &expected_bytes.list, what);
+        let with = |output, list| Oracle.ask(request, image, Lent { output, list }).0.code();
+        count(Compared::Calls, 1);
+        count_buffer(answer.code(), filled.output.len(), lent.output, || {
+            with(lent.output + 1, lent.list)
         });
-        found
+        count_buffer(answer.code(), filled.list.len(), lent.list, || {
+            with(lent.output, lent.list + 1)
+        });
+        (answer, filled)
     }
 
     fn recover(&self, image: &[u8], list_length: usize) -> (RecoverAnswer, Vec<u8>) {
@@ -147,6 +162,7 @@ impl Subject for Both {
         let what = || format!("recovery with {list_length} bytes lent");
         assert_eq!(found.0, expected.0, "{}", what());
         same_bytes(&found.1, &expected.1, what);
+        count(Compared::Calls, 1);
         count_buffer(answer.code, filled, list_length, || {
             Oracle.recover(image, list_length + 1).0.code
         });
@@ -174,6 +190,7 @@ impl Subject for Both {
         let what = || format!("slice of {budget} with {list_length} bytes lent");
         assert_eq!(found.0, expected.0, "{}", what());
         same_bytes(&found.1, &expected.1, what);
+        count(Compared::Calls, 1);
         count_buffer(answer.code, filled, list_length, || {
             Oracle.recover_slice(image, budget, list_length + 1).0.code
         });
@@ -267,9 +284,8 @@ impl Subject for Both {
     }
 }
 
-/// Counts a call, and whether its output or list was exactly long enough or one byte too short.
+/// Counts whether an output or list was exactly long enough or one byte too short.
 fn count_buffer(given: u64, filled: usize, lent: usize, with_one_byte_more: impl Fn() -> u64) {
-    count(Compared::Calls, 1);
     if filled > 0 && filled == lent {
         count(Compared::ExactBuffers, 1);
     }
@@ -304,24 +320,49 @@ pub fn on_both(test: impl Fn(Edition)) {
     }
 }
 
-/// Puts a call to both with a buffer of this length. Gives the answer and what was filled.
-pub fn alike(request: &Request, image: &[u8], buffer_length: usize) -> (Answer, Vec<u8>) {
-    Both.ask(request, image, buffer_length)
+/// Puts a call to both with buffers of these lengths. Gives the answer and what was filled.
+pub fn alike(request: &Request, image: &[u8], lent: Lent) -> (Answer, Filled) {
+    Both.ask(request, image, lent)
 }
 
-/// Puts a call with a long buffer, an exact one, one that is a byte too short, and none. Gives the
-/// code and the length that was filled.
-pub fn with_each_buffer(request: &Request, image: &[u8]) -> (u64, usize) {
-    let (answer, filled) = alike(request, image, ANY_LIST);
-    alike(request, image, 0);
-    if !filled.is_empty() {
-        let (exact, same) = alike(request, image, filled.len());
-        assert_eq!(exact, answer);
-        assert!(same == filled);
-        let (short, _) = alike(request, image, filled.len() - 1);
-        assert_eq!(short.code(), code::BUFFER_TOO_SHORT);
+/// An output of this length beside a long list.
+pub fn output(length: usize) -> Lent {
+    Lent {
+        output: length,
+        ..ANY
     }
-    (answer.code(), filled.len())
+}
+
+/// A list of this length, and no output.
+pub fn only_list(length: usize) -> Lent {
+    Lent {
+        output: 0,
+        list: length,
+    }
+}
+
+/// Puts a call with long buffers, exact ones, either of them a byte too short, and none. Gives the
+/// code and the lengths that were filled.
+pub fn with_each_buffer(request: &Request, image: &[u8]) -> (u64, Lent) {
+    let (answer, filled) = alike(request, image, ANY);
+    alike(request, image, Lent::NONE);
+    let exact = Lent {
+        output: filled.output.len(),
+        list: filled.list.len(),
+    };
+    if answer.code() == code::DONE {
+        assert!(alike(request, image, exact) == (answer, filled));
+        let short_output = exact
+            .output
+            .checked_sub(1)
+            .map(|output| Lent { output, ..exact });
+        let short_list = exact.list.checked_sub(1).map(|list| Lent { list, ..exact });
+        for short in [short_output, short_list].into_iter().flatten() {
+            let (refused, _) = alike(request, image, short);
+            assert_eq!(refused.code(), code::BUFFER_TOO_SHORT);
+        }
+    }
+    (answer.code(), exact)
 }
 
 /// Calls of every kind on `some_files`; none is refused there.
@@ -331,8 +372,8 @@ pub fn calls() -> Vec<Request> {
         Request::Check,
         find(b"a"),
         find(b"cab"),
-        Request::List { index: 0 },
-        Request::List { index: 5 },
+        list(0),
+        list(5),
         read(b"ab", 65_530, 20),
         read(b"abc", 0, 65_536),
         create(b"new", 77),
@@ -348,7 +389,7 @@ pub fn calls() -> Vec<Request> {
 /// Puts all calls, recovery and repair to an image and gives what check says.
 pub fn calls_alike(image: &[u8]) -> CheckAnswer {
     for request in calls() {
-        alike(&request, image, ANY_LIST);
+        alike(&request, image, ANY);
     }
     Both.recover(image, ANY_LIST);
     Both.repair(image, ANY_LIST);

@@ -7,12 +7,12 @@ use crate::lists::{BARRIER, RECORD};
 use crate::power::{groups, Group, Record};
 use crate::request::Request;
 
-/// Panics if the list of a changing call on this image breaks a rule. The ledgers stand before and
+/// Panics if the list of a call on this image breaks a rule. The ledgers stand before and
 /// after it.
 pub fn audit(request: &Request, before: &Ledger, after: &Ledger, image: &[u8], list: &[u8]) {
     let groups = groups(list);
     let (data, targets) = audit_groups(before.geometry(), image, &groups, list);
-    assert_eq!(targets, expected_targets(before, after));
+    assert_eq!(targets, expected_targets(request, before, after));
     for target in &groups[2] {
         assert_eq!(
             target.contents,
@@ -137,8 +137,18 @@ fn file_named<'l>(ledger: &'l Ledger, name: &[u8]) -> &'l File {
         .expect("the file is there")
 }
 
-/// The sectors in which root, directory or table differ, in rising order.
-fn expected_targets(before: &Ledger, after: &Ledger) -> Vec<u64> {
+/// The sectors in which root, directory or table differ, in rising order. A time that is set is a
+/// target even if it was the same before.
+fn expected_targets(request: &Request, before: &Ledger, after: &Ledger) -> Vec<u64> {
+    match request {
+        Request::List { .. } => return vec![1],
+        Request::Read { name, .. } => {
+            let mut files = before.files();
+            let slot = files.find(|(_, file)| file.name == *name);
+            return vec![2 + slot.expect("the file is there").0 as u64];
+        }
+        _ => {}
+    }
     let geometry = before.geometry();
     let mut sectors = Vec::new();
     if before.root() != after.root() {
@@ -176,9 +186,11 @@ fn expected_target(before: &Ledger, after: &Ledger, image: &[u8], sector: u64) -
     let mut contents = old_sector(image, sector);
     let places = places(before.edition());
     if sector == 1 {
-        put32(&mut contents, 0, before.root().version.wrapping_add(1));
-        let change_time = after.root().change_time;
-        put_time(&mut contents, places.root_change_time, change_time, places);
+        let root = after.root();
+        put32(&mut contents, 0, root.version);
+        put_time(&mut contents, 16, root.access_time, places);
+        let change_time_at = places.root_change_time;
+        put_time(&mut contents, change_time_at, root.change_time, places);
     } else if sector < geometry.journal_at().0 {
         let index = (sector - 2) as usize;
         match (&before.slots()[index], &after.slots()[index]) {
@@ -187,6 +199,7 @@ fn expected_target(before: &Ledger, after: &Ledger, image: &[u8], sector: u64) -
             (Some(old), Some(file)) => {
                 put64(&mut contents, 2, file.bytes.len() as u64);
                 put32(&mut contents, 10, file.version);
+                put_time(&mut contents, 26, file.access_time, places);
                 put_time(&mut contents, places.change_time, file.change_time, places);
                 if old.name != file.name {
                     put_name(&mut contents, &file.name, places);

@@ -8,7 +8,7 @@ use crate::draw::Draw;
 use crate::layout::{get16, get32, superblock, Edition, SECTOR};
 use crate::lists::{BARRIER, CONTENTS, RECORD};
 use crate::power::sector_numbers;
-use crate::request::{Answer, Request};
+use crate::request::{Answer, Lent, Request};
 use crate::FormatRequest;
 
 /// A fresh sample volume, and calls of one subject on it.
@@ -27,9 +27,9 @@ impl Sample<'_> {
 
     /// Makes the call, which must give this code, and gives its list.
     fn call(&mut self, expected: u64, request: &Request) -> Vec<u8> {
-        let (code, list) = self.volume.call(self.subject, request);
+        let (code, filled) = self.volume.call(self.subject, request);
         assert_eq!(code, expected, "{request:?}");
-        list
+        filled.list
     }
 
     /// Owner and offset of the four table entries; only the owner of a free one.
@@ -162,7 +162,7 @@ fn full_directory_of(subject: &dyn Subject, edition: Edition) {
         (303, 303, 254),
     ] {
         sample.call(0, &create(&name(number), id));
-        let (answer, _) = subject.ask(&find(&name(number)), &sample.volume.image, 0);
+        let (answer, _) = subject.ask(&find(&name(number)), &sample.volume.image, Lent::NONE);
         assert!(matches!(answer, Answer::Find(found) if found.index == index && found.id == id));
     }
     sample.call(code::DIRECTORY_FULL, &create(&name(304), 304));

@@ -2,17 +2,17 @@
 //! recovery. Large groups are cut by all prefixes, all singles, all but one, and some random subsets.
 
 use super::audit::audit;
-use super::requests::{create, delete, rename, resize, write};
+use super::requests::{create, delete, list, read, rename, resize, write};
 use super::slices::{differing, expected_slice};
-use super::volumes::{format_list, sample_of, Volume, ANY_LIST};
-use super::{Counts, Oracle, Subject};
+use super::volumes::{format_list, sample_of, Volume, ANY};
+use super::{Counts, Filled, Oracle, Subject};
 use crate::answers::{code, state, Refusal, SliceAnswer, SummaryAnswer};
 use crate::draw::Draw;
 use crate::layout::{superblock, Edition};
 use crate::ledger::Ledger;
 use crate::lists::RECORD;
 use crate::power::{draw_cut, every_cut, groups, Cut, Group};
-use crate::request::{Answer, Request};
+use crate::request::{Answer, Lent, Request};
 use crate::FormatRequest;
 
 /// The sample: "alpha" has two of the three usable extents, "beta" is empty.
@@ -51,6 +51,10 @@ fn calls_with_lists(draw: &mut Draw) -> Vec<Request> {
         rename(b"alpha", b"gamma"),
         rename(b"beta", b"alpha"),
         rename(b"alpha", b"beta"),
+        // These set an access time.
+        read(b"alpha", 65_000, 1_000),
+        read(b"beta", 0, 0),
+        list(1),
     ]
 }
 
@@ -107,10 +111,10 @@ fn cut_call_everywhere(
     draw: &mut Draw,
     counts: &mut Counts,
 ) {
-    let (answer, list) = subject.ask(request, &volume.image, ANY_LIST);
-    assert!(matches!(answer, Answer::Change(change) if change.code == 0 && change.length > 0));
+    let (answer, Filled { list, .. }) = subject.ask(request, &volume.image, ANY);
+    assert!(answer.code() == 0 && !list.is_empty());
     let mut after = volume.ledger.clone();
-    after.call(request, ANY_LIST);
+    after.call(request, ANY);
     audit(request, &volume.ledger, &after, &volume.image, &list);
 
     let call_groups = groups(&list);
@@ -120,7 +124,7 @@ fn cut_call_everywhere(
         let mut ledger = volume.ledger.clone();
         let report = cut.report(&call_groups);
         let told = ledger
-            .cut_call(request, ANY_LIST, &report)
+            .cut_call(request, ANY, &report)
             .expect("a list that is not empty is cut");
         assert_eq!(told.answer, answer);
         if report.start_mark {
@@ -254,14 +258,14 @@ pub fn recovery_length(subject: &dyn Subject, image: &[u8]) -> usize {
 }
 
 fn summary(subject: &dyn Subject, image: &[u8]) -> SummaryAnswer {
-    match subject.ask(&Request::Summary, image, 0).0 {
+    match subject.ask(&Request::Summary, image, Lent::NONE).0 {
         Answer::Summary(summary) => summary,
         other => panic!("{other:?} is no summary"),
     }
 }
 
 fn check(subject: &dyn Subject, image: &[u8]) -> u64 {
-    subject.ask(&Request::Check, image, 0).0.code()
+    subject.ask(&Request::Check, image, Lent::NONE).0.code()
 }
 
 fn finished(subject: &dyn Subject, image: &[u8], ledger: &Ledger, cut: &Cut) {

@@ -18,15 +18,22 @@ pub mod volumes;
 use crate::answers::{
     code, CheckAnswer, FormatRecordAnswer, RecoverAnswer, Refusal, RepairAnswer, SliceAnswer,
 };
-use crate::request::{Answer, Request};
+use crate::request::{Answer, Lent, Request};
 use crate::sorted_check::scratch_length;
 use crate::FormatRequest;
 use buffers::{LentBuffer, LentScratch};
 
-/// What is under test: it makes each call, compares what it can, and gives the answer with the
-/// bytes that the call put at the start of its lent buffer. It panics at a difference.
+/// The bytes that a call put at the start of its lent buffers.
+#[derive(Clone, Debug, Default, PartialEq, Eq)]
+pub struct Filled {
+    pub output: Vec<u8>,
+    pub list: Vec<u8>,
+}
+
+/// What is under test: it makes each call, compares what it can, and gives the answer with what
+/// was filled. It panics at a difference.
 pub trait Subject {
-    fn ask(&self, request: &Request, image: &[u8], buffer_length: usize) -> (Answer, Vec<u8>);
+    fn ask(&self, request: &Request, image: &[u8], lent: Lent) -> (Answer, Filled);
 
     fn recover(&self, image: &[u8], list_length: usize) -> (RecoverAnswer, Vec<u8>);
 
@@ -55,10 +62,15 @@ pub trait Subject {
 pub struct Oracle;
 
 impl Subject for Oracle {
-    fn ask(&self, request: &Request, image: &[u8], buffer_length: usize) -> (Answer, Vec<u8>) {
-        let mut buffer = LentBuffer::new(buffer_length);
-        let answer = request.ask(image, buffer.lent());
-        (answer, buffer.filled(answer.filled()))
+    fn ask(&self, request: &Request, image: &[u8], lent: Lent) -> (Answer, Filled) {
+        let mut output = LentBuffer::new(lent.output);
+        let mut list = LentBuffer::new(lent.list);
+        let answer = request.ask(image, output.lent(), list.lent());
+        let filled = Filled {
+            output: output.filled(answer.output_length()),
+            list: list.filled(answer.list_length()),
+        };
+        (answer, filled)
     }
 
     fn recover(&self, image: &[u8], list_length: usize) -> (RecoverAnswer, Vec<u8>) {
@@ -151,6 +163,9 @@ pub struct Counts {
     pub several_table_sectors: usize,
     /// Changes of files whose names nobody can type.
     pub older_names: usize,
+    /// Lists of read and list, which set an access time, and those that were cut.
+    pub access_times: usize,
+    pub cut_access_times: usize,
     /// Renames with a list, and the files that they replaced.
     pub renames: usize,
     pub replaced_files: usize,

@@ -48,7 +48,12 @@ pub fn read(name: &[u8], offset: u64, count: u64) -> Request {
         name: name.to_vec(),
         offset,
         count,
+        time: 7_000,
     }
+}
+
+pub fn list(index: u64) -> Request {
+    Request::List { index, time: 8_000 }
 }
 
 pub fn find(name: &[u8]) -> Request {
@@ -60,7 +65,9 @@ pub fn find(name: &[u8]) -> Request {
 /// The call at another time.
 pub fn at_time(mut request: Request, new: u64) -> Request {
     match &mut request {
-        Request::Create { time, .. }
+        Request::List { time, .. }
+        | Request::Read { time, .. }
+        | Request::Create { time, .. }
         | Request::Delete { time, .. }
         | Request::Resize { time, .. }
         | Request::Write { time, .. }

@@ -11,15 +11,15 @@ use super::audit::audit;
 use super::cuts::recovery_length;
 use super::requests::{create, resize, shortened};
 use super::slices::expected_slice;
-use super::volumes::{format_list, Volume};
-use super::{checks_alike, Counts, Oracle, Subject};
+use super::volumes::{format_list, Volume, ANY, ANY_LIST};
+use super::{checks_alike, Counts, Filled, Oracle, Subject};
 use crate::answers::{code, Refusal, RepairAnswer};
 use crate::draw::Draw;
 use crate::layout::{put32, superblock, Geometry, LONGEST_SPAN, SECTOR};
 use crate::ledger::{File, Ledger};
 use crate::lists::RECORD;
 use crate::power::{draw_cut, groups, sector_numbers};
-use crate::request::{Answer, Request};
+use crate::request::{Answer, Lent, Request};
 use crate::FormatRequest;
 
 const SEED_VARIABLE: &str = "RUN_SEED";
@@ -70,6 +70,8 @@ impl Counts {
             self.several_extents,
             self.lost_records,
             self.older_names,
+            self.access_times,
+            self.cut_access_times,
             self.renames,
             self.replaced_files,
         ] {
@@ -187,10 +189,10 @@ impl Run<'_> {
     /// A call of the oracle that only brings the volume into a state to begin with.
     fn prepare(&mut self, request: &Request) {
         let Volume { image, ledger } = &mut self.volume;
-        let (answer, list) = Oracle.ask(request, image, 150 * RECORD);
+        let (answer, filled) = Oracle.ask(request, image, ANY);
         assert_eq!(answer.code(), 0, "{}", shortened(request));
-        assert_eq!(ledger.call(request, 150 * RECORD).answer, answer);
-        assert_eq!(Oracle.carry_out(image, &list), 0);
+        assert_eq!(ledger.call(request, ANY).answer, answer);
+        assert_eq!(Oracle.carry_out(image, &filled.list), 0);
     }
 
     /// Two files whose extents reach over both table sectors; one usable extent stays free.
@@ -245,44 +247,42 @@ impl Run<'_> {
             self.volume.disturb(&mut self.draw);
         }
         let request = self.draw_request();
-        let buffer_length = self.draw_buffer_length(&request);
-        self.call(&request, buffer_length);
+        let lent = self.draw_lent(&request);
+        self.call(&request, lent);
     }
 
-    fn ask(&mut self, request: &Request, buffer_length: usize) -> (Answer, Vec<u8>) {
-        let asked = self.subject.ask(request, &self.volume.image, buffer_length);
+    fn ask(&mut self, request: &Request, lent: Lent) -> (Answer, Filled) {
+        let asked = self.subject.ask(request, &self.volume.image, lent);
         self.counts.calls += 1;
         self.counts.codes[asked.0.code() as usize] += 1;
         asked
     }
 
-    fn call(&mut self, request: &Request, buffer_length: usize) {
-        let (answer, filled) = self.ask(request, buffer_length);
-        let Answer::Change(change) = answer else {
-            let told = self.volume.ledger.call(request, buffer_length);
-            assert_eq!(told.answer, answer, "{}", shortened(request));
-            assert!(told.output == filled, "{}", shortened(request));
-            return;
-        };
-        let before = self.volume.ledger.clone();
-        let mut after = before.clone();
-        let told = after.call(request, buffer_length);
+    fn call(&mut self, request: &Request, lent: Lent) {
+        let (answer, Filled { output, list }) = self.ask(request, lent);
+        let mut after = self.volume.ledger.clone();
+        let told = after.call(request, lent);
         assert_eq!(told.answer, answer, "{}", shortened(request));
-        if change.length == 0 {
-            assert!(after == before, "{}", shortened(request));
+        assert!(told.output == output, "{}", shortened(request));
+        if list.is_empty() {
+            assert!(after == self.volume.ledger, "{}", shortened(request));
             return;
         }
-        audit(request, &before, &after, &self.volume.image, &filled);
-        self.count_older_names(request);
-        self.count_targets(&filled);
-        self.count_renames(request, &before, &after);
+        audit(
+            request,
+            &self.volume.ledger,
+            &after,
+            &self.volume.image,
+            &list,
+        );
+        self.count(request, &after, &list);
         if self.draw.one_in(20) {
-            self.drop_a_record(&filled);
+            self.drop_a_record(&list);
         }
         if self.draw.one_in(3) {
-            self.cut(request, buffer_length, &filled);
+            self.cut(request, lent, &list);
         } else {
-            let carried = self.subject.carry_out(&mut self.volume.image, &filled);
+            let carried = self.subject.carry_out(&mut self.volume.image, &list);
             assert_eq!(carried, 0);
             self.volume.ledger = after;
         }
@@ -299,7 +299,7 @@ impl Run<'_> {
     }
 
     /// The power fails while the list is carried out; recoveries follow until one is completed.
-    fn cut(&mut self, request: &Request, buffer_length: usize, list: &[u8]) {
+    fn cut(&mut self, request: &Request, lent: Lent, list: &[u8]) {
         let groups = groups(list);
         let cut = draw_cut(&groups, &mut self.draw).expect("the list is not empty");
         cut.apply(&groups, &mut self.volume.image);
@@ -309,12 +309,15 @@ impl Run<'_> {
         } else {
             self.counts.undone_cuts += 1;
         }
+        if matches!(request, Request::List { .. } | Request::Read { .. }) {
+            self.counts.cut_access_times += 1;
+        }
         self.volume
             .ledger
-            .cut_call(request, buffer_length, &report)
+            .cut_call(request, lent, &report)
             .expect("a cut call");
         while !self.recovery_completed() {}
-        assert_eq!(self.ask(&Request::Check, 0).0.code(), code::DONE);
+        assert_eq!(self.ask(&Request::Check, Lent::NONE).0.code(), code::DONE);
     }
 
     /// Makes one call of either recovery; whether it completed.
@@ -400,7 +403,7 @@ impl Run<'_> {
     /// Until it is recovered, the volume refuses every other call but the summary.
     fn call_of_a_waiting_volume(&mut self) {
         let request = self.draw_request();
-        let (answer, _) = self.ask(&request, 150 * RECORD);
+        let (answer, _) = self.ask(&request, ANY);
         let expected = match request {
             Request::Summary => code::DONE,
             _ => code::WAITING,
@@ -408,33 +411,30 @@ impl Run<'_> {
         assert_eq!(answer.code(), expected, "{}", shortened(&request));
     }
 
-    fn count_targets(&mut self, list: &[u8]) {
-        let table_at = self.volume.ledger.geometry().table_at().0;
+    /// Counts what kind of change this is.
+    fn count(&mut self, request: &Request, after: &Ledger, list: &[u8]) {
+        let before = &self.volume.ledger;
+        let table_at = before.geometry().table_at().0;
         let targets = &groups(list)[2];
         let in_table = targets.iter().filter(|target| target.sector >= table_at);
-        if in_table.count() > 1 {
-            self.counts.several_table_sectors += 1;
-        }
-        if self.files().any(|file| file.extents.len() > 1) {
-            self.counts.several_extents += 1;
-        }
-    }
-
-    fn count_older_names(&mut self, request: &Request) {
+        let replaced = after.files().count() < before.files().count();
+        let extents = self.files().any(|file| file.extents.len() > 1);
+        let counts = &mut *self.counts;
+        counts.several_table_sectors += usize::from(in_table.count() > 1);
+        counts.several_extents += usize::from(extents);
         if request
             .name()
             .is_some_and(|name| OLDER_NAMES.contains(&name))
         {
-            self.counts.older_names += 1;
+            counts.older_names += 1;
         }
-    }
-
-    fn count_renames(&mut self, request: &Request, before: &Ledger, after: &Ledger) {
-        if let Request::Rename { .. } = request {
-            self.counts.renames += 1;
-            if after.files().count() < before.files().count() {
-                self.counts.replaced_files += 1;
+        match request {
+            Request::Rename { .. } => {
+                counts.renames += 1;
+                counts.replaced_files += usize::from(replaced);
             }
+            Request::List { .. } | Request::Read { .. } => counts.access_times += 1,
+            _ => {}
         }
     }
 
@@ -448,19 +448,24 @@ impl Run<'_> {
             .map_or(0, |file| file.bytes.len() as u64)
     }
 
-    /// Often just enough, or a little less or more than the call needs.
-    fn draw_buffer_length(&mut self, request: &Request) -> usize {
-        match self.draw.below(16) {
+    fn draw_lent(&mut self, request: &Request) -> Lent {
+        let unbounded = Lent::both(usize::MAX);
+        let answer = self.volume.ledger.answer(request, unbounded);
+        Lent {
+            output: self.draw_length(answer.output_length()),
+            list: self.draw_length(answer.list_length()),
+        }
+    }
+
+    /// Mostly long enough; else just enough, or a little less or more than the call needs.
+    fn draw_length(&mut self, needed: usize) -> usize {
+        match self.draw.below(24) {
             0 => self.draw.below(700) as usize,
             1 => 0,
-            2..=4 => {
-                let mut ledger = self.volume.ledger.clone();
-                let needed = ledger.call(request, usize::MAX).answer.filled();
-                *self
-                    .draw
-                    .pick(&[needed, needed.saturating_sub(1), needed + 1])
-            }
-            _ => 150 * RECORD,
+            2..=5 => *self
+                .draw
+                .pick(&[needed, needed.saturating_sub(1), needed + 1]),
+            _ => ANY_LIST,
         }
     }
 
@@ -478,7 +483,7 @@ impl Run<'_> {
                 let index = *self
                     .draw
                     .pick(&[near, near, near, files - 1, files, u64::MAX]);
-                Request::List { index }
+                Request::List { index, time }
             }
             4..=6 => {
                 let (offset, count) = self.draw_span(&name);
@@ -486,6 +491,7 @@ impl Run<'_> {
                     name,
                     offset,
                     count,
+                    time,
                 }
             }
             7..=9 => Request::Create {

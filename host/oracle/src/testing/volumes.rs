@@ -2,12 +2,12 @@
 //! the calls that made it.
 
 use super::requests::{create, delete, shortened, write};
-use super::{images, Oracle, Subject};
+use super::{images, Filled, Oracle, Subject};
 use crate::draw::Draw;
 use crate::layout::{put16, sector, Edition, Entry, Extent, FileIndex, SECTOR};
 use crate::ledger::{File, Ledger};
 use crate::lists::RECORD;
-use crate::request::{Answer, Request};
+use crate::request::{Lent, Request};
 use crate::FormatRequest;
 
 /// The sample volume: 1,313 sectors and 255 files.
@@ -28,8 +28,9 @@ pub fn sample_of(edition: Edition) -> FormatRequest {
     }
 }
 
-/// Long enough for every list of a volume with few table sectors.
+/// Long enough for every list of a volume with few table sectors, and for every output.
 pub const ANY_LIST: usize = 200 * RECORD;
+pub const ANY: Lent = Lent::both(ANY_LIST);
 
 /// All records of a format, asked for one at a time.
 pub fn format_list(subject: &dyn Subject, format: &FormatRequest) -> Vec<u8> {
@@ -64,22 +65,19 @@ impl Volume {
     }
 
     /// Puts a call to image and ledger, compares the answers, lands the list and compares again.
-    /// Gives the code and what the buffer was filled with.
-    pub fn call(&mut self, subject: &dyn Subject, request: &Request) -> (u64, Vec<u8>) {
-        let (answer, filled) = subject.ask(request, &self.image, ANY_LIST);
-        let told = self.ledger.call(request, ANY_LIST);
+    /// Gives the code and what was filled.
+    pub fn call(&mut self, subject: &dyn Subject, request: &Request) -> (u64, Filled) {
+        let (answer, filled) = subject.ask(request, &self.image, ANY);
+        let told = self.ledger.call(request, ANY);
         assert_eq!(answer, told.answer, "{}", shortened(request));
-        if let Answer::Change(_) = answer {
-            assert_eq!(subject.carry_out(&mut self.image, &filled), 0);
-        } else {
-            assert!(filled == told.output, "{}", shortened(request));
-        }
+        assert!(filled.output == told.output, "{}", shortened(request));
+        assert_eq!(subject.carry_out(&mut self.image, &filled.list), 0);
         self.compare();
         (answer.code(), filled)
     }
 
     /// A call of the oracle that must not be refused.
-    pub fn done(&mut self, request: &Request) -> Vec<u8> {
+    pub fn done(&mut self, request: &Request) -> Filled {
         let (code, filled) = self.call(&Oracle, request);
         assert_eq!(code, 0, "{}", shortened(request));
         filled

@@ -7,8 +7,8 @@ use crate::request::Request;
 use crate::testing::cuts::{
     cut_each_kind_of_call, cut_over_two_table_sectors, cut_the_format, two_files,
 };
-use crate::testing::requests::{delete, resize, write};
-use crate::testing::volumes::ANY_LIST;
+use crate::testing::requests::{delete, list, read, resize, write};
+use crate::testing::volumes::ANY;
 use crate::testing::{Oracle, Subject};
 
 #[test]
@@ -38,8 +38,9 @@ fn of_the_format() {
 fn reports_of_cuts() {
     let volume = two_files(Edition::First);
     // Three data sectors, two copies, one journal sector.
-    let (_, list) = Oracle.ask(&write(b"beta", 0, vec![1; 1_025]), &volume.image, ANY_LIST);
-    let groups = groups(&list);
+    let request = write(b"beta", 0, vec![1; 1_025]);
+    let (_, filled) = Oracle.ask(&request, &volume.image, ANY);
+    let groups = groups(&filled.list);
     let report = |groups_before, landed: &[usize]| {
         Cut {
             groups_before,
@@ -70,8 +71,8 @@ fn undone_write_leaves_landed_sectors() {
     let mut volume = two_files(Edition::First);
     let old = volume.ledger.slots()[0].clone().expect("alpha");
     let request = write(b"alpha", 69_000, vec![170; 5_000]);
-    let (_, list) = Oracle.ask(&request, &volume.image, ANY_LIST);
-    let groups = groups(&list);
+    let (_, filled) = Oracle.ask(&request, &volume.image, ANY);
+    let groups = groups(&filled.list);
     // The second data sector, the one with the file's end, and one past it.
     let end_sector = 70_000 / SECTOR - 69_000 / SECTOR;
     let cut = Cut {
@@ -81,7 +82,7 @@ fn undone_write_leaves_landed_sectors() {
     cut.apply(&groups, &mut volume.image);
     volume
         .ledger
-        .cut_call(&request, ANY_LIST, &cut.report(&groups))
+        .cut_call(&request, ANY, &cut.report(&groups))
         .expect("a cut call");
     volume.compare();
     let new = volume.ledger.slots()[0].clone().expect("alpha");
@@ -106,9 +107,11 @@ fn calls_without_a_list_are_not_cut() {
         write(b"beta", 0, Vec::new()),
         resize(b"alpha", 70_000),
         delete(b"none"),
+        read(b"none", 0, 1),
+        list(200),
         Request::Check,
     ] {
-        assert_eq!(volume.ledger.cut_call(&request, ANY_LIST, &all), None);
+        assert_eq!(volume.ledger.cut_call(&request, ANY, &all), None);
     }
     assert_eq!(volume.ledger, before);
 }

@@ -4,8 +4,8 @@ use crate::answers::code;
 use crate::layout::{get16, put16, Geometry, SECTOR};
 use crate::lists::RECORD;
 use crate::testing::images::{blank, put_file, table_entry};
-use crate::testing::requests::{create, delete, find, read, write};
-use crate::testing::volumes::{Volume, ANY_LIST, SAMPLE};
+use crate::testing::requests::{create, delete, find, list, read, write};
+use crate::testing::volumes::{Volume, ANY, SAMPLE};
 use crate::testing::{Oracle, Subject};
 use crate::{carry_out, check, summary, Answer, FormatRequest, Request};
 
@@ -51,20 +51,18 @@ fn last_file() {
         );
     }
     let mut call = |request: &Request, expected: u64| {
-        let (answer, filled) = Oracle.ask(request, &image, ANY_LIST);
+        let (answer, filled) = Oracle.ask(request, &image, ANY);
         assert_eq!(answer.code(), expected, "{request:?}");
-        if let Answer::Change(_) = answer {
-            assert_eq!(carry_out(&mut image, &filled), 0);
-        }
-        (answer, filled)
+        assert_eq!(carry_out(&mut image, &filled.list), 0);
+        (answer, filled.output)
     };
-    call(&Request::List { index: 65_534 }, code::NOT_THERE);
-    call(&Request::List { index: 65_535 }, code::BAD_ARGUMENT);
+    call(&list(65_534), code::NOT_THERE);
+    call(&list(65_535), code::BAD_ARGUMENT);
     call(&create(b"last", 1), 0);
     call(&create(b"none", 2), code::DIRECTORY_FULL);
     let (found, _) = call(&find(b"last"), 0);
     assert!(matches!(found, Answer::Find(found) if found.index == 65_534));
-    let (_, name) = call(&Request::List { index: 65_534 }, 0);
+    let (_, name) = call(&list(65_534), 0);
     assert_eq!(name, b"last");
     call(&write(b"last", 0, vec![7; 600]), 0);
     let (_, bytes) = call(&read(b"last", 599, 5), 0);
@@ -78,8 +76,8 @@ fn last_file() {
     let judged = check(&image);
     assert_eq!((judged.code, judged.fault, judged.place), (7, 25, 0));
     put16(&mut image, last_mark, 65_535);
-    let (_, list) = Oracle.ask(&delete(b"last"), &image, ANY_LIST);
-    assert_eq!(carry_out(&mut image, &list), 0);
+    let (_, filled) = Oracle.ask(&delete(b"last"), &image, ANY);
+    assert_eq!(carry_out(&mut image, &filled.list), 0);
     assert_eq!(get16(&image, owner), 65_535);
     assert_eq!(check(&image).code, 0);
 }

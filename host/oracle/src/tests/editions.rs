@@ -3,9 +3,9 @@
 use crate::answers::code;
 use crate::layout::{get16, get32, get64, Edition, SECTOR};
 use crate::lists::{CONTENTS, RECORD};
-use crate::request::Answer;
-use crate::testing::requests::{at_time, create, delete, find, read, rename, resize, write};
-use crate::testing::volumes::{sample_of, some_files_of, Volume, ANY_LIST, SAMPLE};
+use crate::request::{Answer, Lent};
+use crate::testing::requests::{at_time, create, delete, find, list, read, rename, resize, write};
+use crate::testing::volumes::{sample_of, some_files_of, Volume, ANY, SAMPLE};
 use crate::testing::{Oracle, Subject};
 use crate::{check, report, summary, FormatRequest};
 
@@ -38,7 +38,7 @@ fn fields_of_the_second_edition() {
     expected.extend(b"late");
     expected.resize(SECTOR, 0);
     assert_eq!(volume.image[2 * SECTOR..3 * SECTOR], expected);
-    let (found, _) = Oracle.ask(&find(b"late"), &volume.image, 0);
+    let (found, _) = Oracle.ask(&find(b"late"), &volume.image, Lent::NONE);
     let Answer::Find(found) = found else {
         panic!("find's answer")
     };
@@ -109,11 +109,16 @@ fn wide_times() {
         rename(b"ab", b"new"),
         rename(b"ab", b"ab"),
         rename(b"none", b"new"),
+        read(b"ab", 0, 1),
+        read(b"none", 0, 0),
+        read(b"ab", u64::MAX, 0),
+        list(0),
+        list(3),
     ];
     for request in requests {
         for edition in Edition::BOTH {
             let mut volume = some_files_of(edition);
-            let usual = Oracle.ask(&request, &volume.image, ANY_LIST).0.code();
+            let usual = Oracle.ask(&request, &volume.image, ANY).0.code();
             for time in [u64::from(u32::MAX), WIDE, u64::MAX] {
                 let request = at_time(request.clone(), time);
                 let refused = edition == Edition::First && time >= WIDE;
@@ -122,7 +127,7 @@ fn wide_times() {
             }
             volume.image[2 * SECTOR] = 1;
             let wide = at_time(request.clone(), WIDE);
-            assert_eq!(Oracle.ask(&wide, &volume.image, ANY_LIST).0.code(), 7);
+            assert_eq!(Oracle.ask(&wide, &volume.image, ANY).0.code(), 7);
         }
     }
 }

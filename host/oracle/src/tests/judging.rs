@@ -6,9 +6,9 @@ use crate::draw::Draw;
 use crate::layout::{put16, put32, Edition, SECTOR};
 use crate::request::{Answer, Request};
 use crate::testing::damage::{spoil_fields, FAULTS};
-use crate::testing::requests::{create, delete, find, read, rename, resize, write};
-use crate::testing::volumes::{some_files_of, ANY_LIST};
-use crate::testing::{checks_alike, Oracle, Subject};
+use crate::testing::requests::{create, delete, find, list, read, rename, resize, write};
+use crate::testing::volumes::{some_files_of, ANY, ANY_LIST};
+use crate::testing::{checks_alike, Filled, Oracle, Subject};
 use crate::{format_record, recover, summary, FormatRequest};
 
 /// A big-endian number of this many bytes.
@@ -129,7 +129,7 @@ fn judging_calls() -> Vec<Request> {
     vec![
         Request::Check,
         find(b"a"),
-        Request::List { index: 0 },
+        list(0),
         read(b"ab", 0, 10),
         create(b"new", 77),
         delete(b"ab"),
@@ -148,7 +148,7 @@ fn judged_alike(image: &[u8]) -> CheckAnswer {
         let CheckAnswer { code, fault, place } = expected;
         let refusal = Refusal { code, fault, place };
         for request in judging_calls() {
-            let (answer, filled) = Oracle.ask(&request, image, ANY_LIST);
+            let (answer, filled) = Oracle.ask(&request, image, ANY);
             let expected = match answer {
                 Answer::Check(_) => Answer::Check(refusal.into()),
                 Answer::Find(_) => Answer::Find(refusal.into()),
@@ -158,7 +158,7 @@ fn judged_alike(image: &[u8]) -> CheckAnswer {
                 Answer::Summary(_) => unreachable!("the summary doesn't judge"),
             };
             assert_eq!(answer, expected);
-            assert!(filled.is_empty());
+            assert_eq!(filled, Filled::default());
         }
     }
     expected
@@ -174,11 +174,7 @@ fn each_fault_by_hand() {
 fn each_fault_on(sound: &[u8]) {
     assert_eq!(judged_alike(sound).code, 0);
     for request in judging_calls() {
-        assert_eq!(
-            Oracle.ask(&request, sound, ANY_LIST).0.code(),
-            0,
-            "{request:?}"
-        );
+        assert_eq!(Oracle.ask(&request, sound, ANY).0.code(), 0, "{request:?}");
     }
     for (number, (expected, spoil)) in FAULTS.iter().enumerate() {
         let mut image = sound.to_vec();

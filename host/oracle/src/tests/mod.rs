@@ -1,6 +1,7 @@
 //! The crate's own tests: the rules' edges by hand, and slow second readings of the rules. The
 //! random runs and the power cuts stand in `testing`, and are put to the oracle alone here.
 
+mod access_times;
 mod cases;
 mod comparison;
 mod cuts;

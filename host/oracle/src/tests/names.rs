@@ -2,8 +2,9 @@
 
 use crate::answers::code;
 use crate::draw::Draw;
+use crate::request::Lent;
 use crate::testing::requests::{create, delete, find, read, rename, resize, write};
-use crate::testing::volumes::{some_files, ANY_LIST};
+use crate::testing::volumes::{some_files, ANY};
 use crate::testing::{Oracle, Subject};
 
 /// Each byte in a name, alone and between others. The slash is 47.
@@ -26,12 +27,12 @@ fn bytes_of_a_new_name() {
                 (true, true) => code::ALREADY_THERE,
                 (true, false) => code::DONE,
             };
-            let (created, _) = Oracle.ask(&create(name, 77), &volume.image, ANY_LIST);
+            let (created, _) = Oracle.ask(&create(name, 77), &volume.image, ANY);
             assert_eq!(created.code(), expected, "{name:?}");
-            let (renamed, _) = Oracle.ask(&rename(b"ab", name), &volume.image, ANY_LIST);
+            let (renamed, _) = Oracle.ask(&rename(b"ab", name), &volume.image, ANY);
             assert_eq!(renamed.code() == 0, good, "{name:?}");
             // The other calls keep the former rule.
-            let (found, _) = Oracle.ask(&find(name), &volume.image, 0);
+            let (found, _) = Oracle.ask(&find(name), &volume.image, Lent::NONE);
             let expected = match (byte, there) {
                 (0, _) => code::BAD_ARGUMENT,
                 (_, true) => code::DONE,
@@ -50,7 +51,7 @@ fn lengths_of_a_new_name() {
     for (length, code) in [(0, 8), (1, 0), (476, 0), (477, 8)] {
         let name = vec![b'x'; length];
         for request in [create(&name, 77), rename(b"ab", &name)] {
-            let (answer, _) = Oracle.ask(&request, &volume.image, ANY_LIST);
+            let (answer, _) = Oracle.ask(&request, &volume.image, ANY);
             assert_eq!(answer.code(), code, "{length}");
         }
     }
@@ -65,7 +66,7 @@ fn older_files() {
         volume.done(&delete(b"cab"));
         volume.put_file(3, older, 5, &[4]);
         volume.compare();
-        assert_eq!(volume.done(&read(older, 0, 9)).len(), 5);
+        assert_eq!(volume.done(&read(older, 0, 9)).output.len(), 5);
         volume.done(&find(older));
         volume.done(&write(older, 5, Draw::new(1).bytes(700)));
         volume.done(&resize(older, 3));
@@ -82,7 +83,7 @@ fn older_files() {
         let mut deleted = volume.clone();
         deleted.done(&delete(older));
         volume.done(&rename(older, b"typed"));
-        assert_eq!(volume.done(&read(b"typed", 0, 9)).len(), 3);
+        assert_eq!(volume.done(&read(b"typed", 0, 9)).output.len(), 3);
         volume.done(&rename(b"ab", b"typed"));
     }
 }
@@ -100,7 +101,7 @@ fn missing_older_names() {
         (delete(b" "), 9),
         (write(b"/", 0, vec![1]), 9),
     ] {
-        let (answer, _) = Oracle.ask(&request, &volume.image, 0);
+        let (answer, _) = Oracle.ask(&request, &volume.image, Lent::NONE);
         assert_eq!(answer.code(), code, "{request:?}");
     }
 }

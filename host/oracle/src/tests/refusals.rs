@@ -4,18 +4,18 @@ use crate::answers::{code, state, FormatRecordAnswer, SummaryAnswer};
 use crate::draw::Draw;
 use crate::layout::{get32, get64, put16, put32, Geometry, SECTOR};
 use crate::lists::{BARRIER, CONTENTS, NUMBER, POSITION, RECORD};
-use crate::request::Request;
+use crate::request::{Lent, Request};
 use crate::testing::records::{filled_with, list_of};
-use crate::testing::requests::{create, delete, find, read, rename, resize, write};
-use crate::testing::volumes::{Volume, ANY_LIST, SAMPLE};
-use crate::testing::{Oracle, Subject};
+use crate::testing::requests::{create, delete, find, list, read, rename, resize, write};
+use crate::testing::volumes::{Volume, ANY, SAMPLE};
+use crate::testing::{Filled, Oracle, Subject};
 use crate::{carry_out, check, recover, summary, FormatRequest};
 
 fn one_of_each_call() -> Vec<Request> {
     vec![
         Request::Check,
         find(b"a"),
-        Request::List { index: 0 },
+        list(0),
         read(b"a", 0, 1),
         create(b"b", 2),
         delete(b"a"),
@@ -25,8 +25,8 @@ fn one_of_each_call() -> Vec<Request> {
     ]
 }
 
-fn code_of(request: &Request, image: &[u8], buffer_length: usize) -> u64 {
-    Oracle.ask(request, image, buffer_length).0.code()
+fn code_of(request: &Request, image: &[u8], lent: Lent) -> u64 {
+    Oracle.ask(request, image, lent).0.code()
 }
 
 #[test]
@@ -61,7 +61,7 @@ fn images_that_are_no_volume() {
     ];
     for (expected, image) in images {
         for request in one_of_each_call() {
-            assert_eq!(code_of(&request, &image, ANY_LIST), expected);
+            assert_eq!(code_of(&request, &image, ANY), expected);
         }
         assert_eq!(recover(&image, &mut []).code, expected);
         let told = summary(&image);
@@ -103,7 +103,7 @@ fn every_state() {
     for (length, refusal, expected_state, entries) in lengths {
         put16(&mut image, 18, length);
         for request in one_of_each_call() {
-            assert_eq!(code_of(&request, &image, ANY_LIST), refusal);
+            assert_eq!(code_of(&request, &image, ANY), refusal);
         }
         let told = summary(&image);
         assert_eq!(
@@ -149,18 +149,18 @@ fn lowest_number_first() {
         (8, find(b"")),
         (9, find(b"ful")),
         (0, find(b"full")),
-        (8, Request::List { index: 255 }),
-        (8, Request::List { index: u64::MAX }),
-        (9, Request::List { index: 254 }),
-        (14, Request::List { index: 0 }),
+        (8, list(255)),
+        (8, list(u64::MAX)),
+        (9, list(254)),
+        (14, list(0)),
         (8, read(b"none", u64::MAX, 65_537)),
         (8, read(b"\0", 0, 0)),
         (9, read(b"none", u64::MAX, 65_536)),
         (12, read(b"a", 1, 65_536)),
         (12, read(b"full", u64::MAX, 65_536)),
-        (0, read(b"a", 0, 65_536)),
+        (14, read(b"a", 0, 65_536)),
         (14, read(b"full", 0, 1)),
-        (0, read(b"full", 3 * 65_536, 1)),
+        (14, read(b"full", 3 * 65_536, 1)),
         (8, write(b"none", u64::MAX, vec![0; 65_537])),
         (8, write(b"", u64::MAX, Vec::new())),
         (9, write(b"none", u64::MAX, Vec::new())),
@@ -189,10 +189,10 @@ fn lowest_number_first() {
         (14, rename(b"a", b"full")),
     ];
     for (expected, request) in answers {
-        let (answer, filled) = Oracle.ask(&request, &image, 0);
+        let (answer, filled) = Oracle.ask(&request, &image, Lent::NONE);
         assert_eq!(answer.code(), expected, "{request:?}");
-        assert!(filled.is_empty());
-        assert_eq!(volume.ledger.call(&request, 0).answer, answer);
+        assert_eq!(filled, Filled::default());
+        assert_eq!(volume.ledger.answer(&request, Lent::NONE), answer);
     }
 }
 
@@ -226,9 +226,9 @@ fn versions_and_times() {
             2 * SECTOR + 30,
         ),
     ] {
-        let (_, list) = Oracle.ask(&request, &image, ANY_LIST);
+        let (_, filled) = Oracle.ask(&request, &image, ANY);
         assert!(get32(&image, time_at) > 1);
-        assert_eq!(carry_out(&mut image, &list), 0);
+        assert_eq!(carry_out(&mut image, &filled.list), 0);
         assert_eq!((get32(&image, version_at), get32(&image, time_at)), (0, 1));
     }
     assert_eq!(check(&image).code, 0);
@@ -422,7 +422,7 @@ fn odd_volumes() {
     let mut image = Volume::formatted(&Oracle, &FormatRequest { id: 0, ..SAMPLE }).image;
     image.extend([9; SECTOR]);
     assert_eq!(check(&image).code, 0);
-    assert_eq!(code_of(&create(b"a", 1), &image, ANY_LIST), 0);
+    assert_eq!(code_of(&create(b"a", 1), &image, ANY), 0);
     assert_eq!(summary(&image), summary(&Volume::sample().image));
 }
 
@@ -441,7 +441,7 @@ fn extent_edges() {
     assert_eq!(volume.ledger.slots()[0].as_ref().unwrap().extents.len(), 1);
     volume.done(&write(b"a", 65_536, vec![5]));
     assert_eq!(volume.ledger.slots()[0].as_ref().unwrap().extents.len(), 2);
-    assert_eq!(volume.done(&read(b"a", 65_535, 65_536)), [4, 5]);
+    assert_eq!(volume.done(&read(b"a", 65_535, 65_536)).output, [4, 5]);
     volume.done(&resize(b"a", 65_536));
     assert_eq!(volume.ledger.slots()[0].as_ref().unwrap().extents.len(), 1);
 }

@@ -8,9 +8,9 @@ use crate::power::{groups, sector_numbers};
 use crate::testing::damage::{entry_field, table_field};
 use crate::testing::images::{blank, put_file};
 use crate::testing::requests::{find, read, rename};
-use crate::testing::volumes::{some_files, Volume, ANY_LIST, SAMPLE};
-use crate::testing::{Oracle, Subject};
-use crate::{check, FormatRequest};
+use crate::testing::volumes::{some_files, Volume, ANY, ANY_LIST, SAMPLE};
+use crate::testing::{Filled, Oracle, Subject};
+use crate::{check, FormatRequest, Lent};
 
 /// `some_files` with noise in all unused bytes.
 fn noisy_files() -> Volume {
@@ -48,7 +48,7 @@ fn to_a_new_name() {
     for name in [&b"n"[..], b"abcd", &[b'n'; 476]] {
         let mut volume = noisy_files();
         let before = volume.image.clone();
-        let list = volume.done(&rename(b"ab", name));
+        let Filled { list, .. } = volume.done(&rename(b"ab", name));
         // Six extents of 128 sectors from sector 290 on; the last is the reserve.
         let reserve = 290 + 5 * 128;
         let expected = [
@@ -72,7 +72,7 @@ fn to_a_new_name() {
         let metadata = 257 * SECTOR;
         assert!(volume.image[..metadata] == expected[..metadata]);
         assert_eq!(volume.call(&Oracle, &find(b"ab")).0, code::NOT_THERE);
-        assert_eq!(volume.done(&read(name, 131_072, 9)).len(), 1);
+        assert_eq!(volume.done(&read(name, 131_072, 9)).output.len(), 1);
     }
 }
 
@@ -90,7 +90,7 @@ fn onto_an_existing_name() {
         let freed: Vec<u64> = (0..6)
             .filter(|extent| u64::from(get16(&before, table_field(*extent, 0))) == replaced)
             .collect();
-        let list = volume.done(&rename(old, new));
+        let Filled { list, .. } = volume.done(&rename(old, new));
         let table = usize::from(!freed.is_empty());
         assert_eq!(groups(&list)[2].len(), 3 + table);
         let image = &volume.image;
@@ -113,8 +113,9 @@ fn to_itself() {
     let volume = noisy_files();
     for (name, expected) in [(&b"ab"[..], 0), (b"a", 0), (b"b", code::NOT_THERE)] {
         for length in [0, 1, ANY_LIST] {
-            let (answer, list) = Oracle.ask(&rename(name, name), &volume.image, length);
-            assert_eq!((answer.code(), list.len()), (expected, 0));
+            let lent = Lent::both(length);
+            let (answer, filled) = Oracle.ask(&rename(name, name), &volume.image, lent);
+            assert_eq!((answer.code(), filled.list.len()), (expected, 0));
         }
     }
 }
@@ -129,10 +130,12 @@ fn list_lengths() {
         (b"ab", b"abc", 15),
     ] {
         let request = rename(old, new);
-        let (short, _) = Oracle.ask(&request, &volume.image, records * RECORD - 1);
-        assert_eq!(short.code(), code::BUFFER_TOO_SHORT);
-        let (answer, list) = Oracle.ask(&request, &volume.image, records * RECORD);
-        assert_eq!((answer.code(), list.len()), (0, records * RECORD));
+        let exact = Lent::both(records * RECORD);
+        let short = Lent::both(records * RECORD - 1);
+        let (refused, _) = Oracle.ask(&request, &volume.image, short);
+        assert_eq!(refused.code(), code::BUFFER_TOO_SHORT);
+        let (answer, filled) = Oracle.ask(&request, &volume.image, exact);
+        assert_eq!((answer.code(), filled.list.len()), (0, records * RECORD));
     }
 }
 
@@ -141,8 +144,8 @@ fn versions_wrap() {
     let mut volume = noisy_files();
     put32(&mut volume.image, SECTOR, u32::MAX);
     put32(&mut volume.image, entry_field(1, 10), u32::MAX);
-    let (_, list) = Oracle.ask(&rename(b"ab", b"a"), &volume.image, ANY_LIST);
-    assert_eq!(crate::carry_out(&mut volume.image, &list), 0);
+    let (_, filled) = Oracle.ask(&rename(b"ab", b"a"), &volume.image, ANY);
+    assert_eq!(crate::carry_out(&mut volume.image, &filled.list), 0);
     assert_eq!(get32(&volume.image, SECTOR), 0);
     assert_eq!(get32(&volume.image, entry_field(1, 10)), 0);
 }
@@ -158,9 +161,9 @@ fn longest_rename() {
     put_file(&mut image, geometry, 200, b"new", 0, &[]);
     let length = 1_053 * RECORD;
     let request = rename(b"new", b"large");
-    let (short, _) = Oracle.ask(&request, &image, length - 1);
+    let (short, _) = Oracle.ask(&request, &image, Lent::both(length - 1));
     assert_eq!(short.code(), code::BUFFER_TOO_SHORT);
-    let (answer, list) = Oracle.ask(&request, &image, length);
+    let (answer, Filled { list, .. }) = Oracle.ask(&request, &image, Lent::both(length));
     assert_eq!((answer.code(), list.len()), (0, length));
     let sizes: Vec<usize> = groups(&list).iter().map(Vec::len).collect();
     assert_eq!(sizes, [515 + 17, 1, 515, 1]);

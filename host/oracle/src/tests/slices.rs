@@ -9,14 +9,14 @@ use crate::power::{groups, sector_numbers, Cut};
 use crate::testing::damage::{draw_journal, journal_of_all_targets, set_journal, JournalEntry};
 use crate::testing::requests::create;
 use crate::testing::slices::{differing, expected_slice};
-use crate::testing::volumes::{Volume, ANY_LIST};
+use crate::testing::volumes::{Volume, ANY, ANY_LIST};
 use crate::testing::{Oracle, Subject};
 
 /// The sample after its first create, cut once its start mark landed.
 fn cut_create() -> Vec<u8> {
     let mut volume = Volume::sample();
-    let (_, list) = Oracle.ask(&create(b"first", 1), &volume.image, ANY_LIST);
-    let groups = groups(&list);
+    let (_, filled) = Oracle.ask(&create(b"first", 1), &volume.image, ANY);
+    let groups = groups(&filled.list);
     let cut = Cut {
         groups_before: 2,
         landed: Vec::new(),

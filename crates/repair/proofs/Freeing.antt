@@ -17,7 +17,7 @@ use Rattle.model.specs.Catalogue.{catalogueOf}
 use Rattle.model.specs.WriteList.{Record, Plan, sectorWrite, recordSize, recordCount, groupsFor, listLength}
 use Rattle.model.specs.Repair.{isStray, holdsStray, repairedSector, repairPlan, repairPlanned}
 use Rattle.laws.proofs.Count.{length-concatenated, countBelow-anyBelow, countBelow-none}
-use Rattle.commit.proofs.Records.{plan-needs}
+use Rattle.laws.proofs.WriteList.{plan-needs}
 use Rattle.repair.specs.Freeing.{holdsFreed, freedSector, freeingPlan}
 
 -- ---- any test

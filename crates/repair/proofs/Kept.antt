@@ -27,6 +27,7 @@ use Rattle.laws.proofs.Booleans.{and-false, or-none}
 use Rattle.laws.proofs.Search.{countBelow-ext, countBelow-more}
 use Rattle.laws.proofs.Count.{countBelow-le}
 use Rattle.laws.proofs.Catalogue.{among-if, slot-on}
+use Rattle.laws.proofs.Named.{editionOn}
 use Rattle.laws.proofs.Repair.{past-count}
 use Rattle.laws.proofs.Repaired.{countBelow-repaired, exact-repaired}
 use Rattle.allocation.specs.Marks.{sumTo}
@@ -93,8 +94,11 @@ module _ (d : Disk) (g : Geometry) (is : g ≡ geometryIn (d 0)) (wide : 0 < ext
   abbrev q : ℕ → Bool
   q = keeps g d (isStray (catalogueOf d)) i
 
-  has : isOccupied (d (entryAt i)) ≡ true → catalogueOf d .entries i ≡ some (entryIn (d (entryAt i)))
-  has o = slot-on d i (rw is at l) ∙ ap (λ (b : Bool). cond b (some (entryIn (d (entryAt i)))) none) o
+  abbrev said : Entry
+  said = entryIn (editionOn d) (d (entryAt i))
+
+  has : isOccupied (d (entryAt i)) ≡ true → catalogueOf d .entries i ≡ some said
+  has o = slot-on d i (rw is at l) ∙ ap (λ (b : Bool). cond b (some said) none) o
 
   geometry-is : catalogueOf d .geometry ≡ g
   unfolding catalogueOf
@@ -147,29 +151,29 @@ module _ (d : Disk) (g : Geometry) (is : g ≡ geometryIn (d 0)) (wide : 0 < ext
         ∙ by-value q (tableOffset g d) (g .extents) C
         ∙ sumTo-bits (λ n. countBelow (λ e. q e && eqb (tableOffset g d e) n) (g .extents)) P C
         (λ n h. countBelow-ext (λ e. q e && eqb (tableOffset g d e) n) (λ e. isPart i n (repaired (catalogueOf d) .table e)) (g .extents) (part n)
-        ∙ countBelow-repaired (catalogueOf d) i (entryIn (d (entryAt i))) (has o) n (rw geometry-is h) (g .extents))
+        ∙ countBelow-repaired (catalogueOf d) i said (has o) n (rw geometry-is h) (g .extents))
 
-    exactly : exact (repaired (catalogueOf d)) i (extentsFor (catalogueOf d .geometry) (entryIn (d (entryAt i)) .size)) ≡ eqb (countBelow q (g .extents)) C
+    exactly : exact (repaired (catalogueOf d)) i (extentsFor (catalogueOf d .geometry) (said .size)) ≡ eqb (countBelow q (g .extents)) C
     unfolding entryIn
     exactly =
-        exact-repaired (catalogueOf d) i (entryIn (d (entryAt i))) (has o)
-        ∙ ap (λ (x : Geometry). allBelow (λ n. anyBelow (λ e. isPart i n (catalogueOf d .table e)) (x .extents)) (extentsFor x (entryIn (d (entryAt i)) .size))) geometry-is
+        exact-repaired (catalogueOf d) i said (has o)
+        ∙ ap (λ (x : Geometry). allBelow (λ n. anyBelow (λ e. isPart i n (catalogueOf d .table e)) (x .extents)) (extentsFor x (said .size))) geometry-is
         ∙ sym (count-all P C) ∙ ap (λ n. eqb n C) (sym counted)
 
   fault-is : fault26 (repaired (catalogueOf d)) i
-      ≡ (isOccupied (d (entryAt i)) && not (exact (repaired (catalogueOf d)) i (extentsFor (catalogueOf d .geometry) (entryIn (d (entryAt i)) .size))))
+      ≡ (isOccupied (d (entryAt i)) && not (exact (repaired (catalogueOf d)) i (extentsFor (catalogueOf d .geometry) (said .size))))
   unfolding fault26 repaired
   fault-is =
       ap (λ (x : Option Entry). holdsOf x (λ y. not (exact (repaired (catalogueOf d)) i (extentsFor (catalogueOf d .geometry) (y .size))))) (slot-on d i (rw is at l))
-      ∙ among-if (isOccupied (d (entryAt i))) (entryIn (d (entryAt i))) (λ y. not (exact (repaired (catalogueOf d)) i (extentsFor (catalogueOf d .geometry) (y .size))))
+      ∙ among-if (isOccupied (d (entryAt i))) said (λ y. not (exact (repaired (catalogueOf d)) i (extentsFor (catalogueOf d .geometry) (y .size))))
 
   pub lacking-free : isOccupied (d (entryAt i)) ≡ false → false ≡ fault26 (repaired (catalogueOf d)) i
-  lacking-free o = sym (fault-is ∙ ap (λ (b : Bool). b && not (exact (repaired (catalogueOf d)) i (extentsFor (catalogueOf d .geometry) (entryIn (d (entryAt i)) .size)))) o)
+  lacking-free o = sym (fault-is ∙ ap (λ (b : Bool). b && not (exact (repaired (catalogueOf d)) i (extentsFor (catalogueOf d .geometry) (said .size)))) o)
 
   module _ (o : isOccupied (d (entryAt i)) ≡ true) where
     lacking-on : fault26 (repaired (catalogueOf d)) i ≡ not (eqb (countBelow q (g .extents)) (extentsFor g z))
     lacking-on =
-        fault-is ∙ ap (λ (b : Bool). b && not (exact (repaired (catalogueOf d)) i (extentsFor (catalogueOf d .geometry) (entryIn (d (entryAt i)) .size)))) o ∙ ap not (exactly o)
+        fault-is ∙ ap (λ (b : Bool). b && not (exact (repaired (catalogueOf d)) i (extentsFor (catalogueOf d .geometry) (said .size)))) o ∙ ap not (exactly o)
 
     pub lacking-none : countBelow q (g .extents) ≡ extentsFor g z → false ≡ fault26 (repaired (catalogueOf d)) i
     lacking-none h = sym (lacking-on ∙ ap not (eq-eqb (countBelow q (g .extents)) (extentsFor g z) h))

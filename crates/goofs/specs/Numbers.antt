@@ -63,10 +63,11 @@ listNumbers a = record {
   «access_time» = a .fields .«access_time»;
   «change_time» = a .fields .«change_time»;
   «name_length» = a .fields .«name_length»;
+  length = a .length;
 }
 
 abbrev pub readNumbers : BytesRead → ReadResult
-readNumbers a = record { code = a .verdict .number; fault = a .verdict .fault; place = a .verdict .place; count = a .count }
+readNumbers a = record { code = a .verdict .number; fault = a .verdict .fault; place = a .verdict .place; count = a .count; length = a .length }
 
 abbrev pub changeNumbers : Changed → ChangeResult
 changeNumbers a = record { code = a .verdict .number; fault = a .verdict .fault; place = a .verdict .place; length = a .length }

@@ -14,8 +14,8 @@ ghost use Rattle.model.specs.Disk.{view};
 ghost use Rattle.model.specs.Summary.{stateCode, stateEntries, summaryAnswer, checkAnswer};
 ghost use Rattle.model.specs.Scratch.{checkWithAnswer, ScratchAfter};
 ghost use Rattle.model.specs.Find.{findAnswer};
-ghost use Rattle.model.specs.Listing.{listAnswer, listOutput};
-ghost use Rattle.model.specs.Read.{readAnswer, readOutput};
+ghost use Rattle.model.specs.Listing.{listAnswer, listOutput, listingList};
+ghost use Rattle.model.specs.Read.{readAnswer, readOutput, readList};
 ghost use Rattle.model.specs.Create.{createAnswer, createList};
 ghost use Rattle.model.specs.Delete.{deleteAnswer, deleteList};
 ghost use Rattle.model.specs.Resize.{resizeAnswer, resizeList};
@@ -182,6 +182,7 @@ pub struct ListResult {
     pub access_time: u64,
     pub change_time: u64,
     pub name_length: u64,
+    pub length: u64,
 }
 
 fn list_result(a: Listed) -> ListResult
@@ -200,15 +201,24 @@ fn list_result(a: Listed) -> ListResult
         access_time: f.access_time,
         change_time: f.change_time,
         name_length: f.name_length,
+        length: a.length,
     }
 }
 
+// Two buffers are lent: the output for the name, and the write list of the root's access time.
 #[no_mangle]
-pub extern "C" fn goofs_list(img: &[u8], index: u64, out: &mut [u8]) -> ListResult
-    ensures { λ r. ⌜ r ≡ listNumbers (listAnswer (length (now (img .entry))) (view (now (img .entry))) index (length (now (out .entry)))) ⌝ }
-    ensures { λ _. ⌜ now (out .exit) ≡ listOutput (length (now (img .entry))) (view (now (img .entry))) index (now (out .entry)) ⌝ }
+pub extern "C" fn goofs_list(
+    img: &[u8],
+    index: u64,
+    time: u64,
+    out: &mut [u8],
+    list: &mut [u8],
+) -> ListResult
+    ensures { λ r. ⌜ r ≡ listNumbers (listAnswer (length (now (img .entry))) (view (now (img .entry))) index time (length (now (out .entry))) (length (now (list .entry)))) ⌝ }
+    ensures { λ _. ⌜ now (out .exit) ≡ listOutput (length (now (img .entry))) (view (now (img .entry))) index time (now (out .entry)) (length (now (list .entry))) ⌝ }
+    ensures { λ _. ⌜ now (list .exit) ≡ listingList (length (now (img .entry))) (view (now (img .entry))) index time (length (now (out .entry))) (now (list .entry)) ⌝ }
 {
-    let a = queries::list(img, index, out);
+    let a = queries::list(img, index, time, out, list);
     list_result(a)
 }
 
@@ -220,6 +230,7 @@ pub struct ReadResult {
     pub fault: u64,
     pub place: u64,
     pub count: u64,
+    pub length: u64,
 }
 
 fn read_result(a: BytesRead) -> ReadResult
@@ -231,21 +242,26 @@ fn read_result(a: BytesRead) -> ReadResult
         fault: v.fault,
         place: v.place,
         count: a.count,
+        length: a.length,
     }
 }
 
+// Two buffers are lent: the output for the bytes, and the write list of the entry's access time.
 #[no_mangle]
 pub extern "C" fn goofs_read(
     img: &[u8],
     name: &[u8],
     offset: u64,
     count: u64,
+    time: u64,
     out: &mut [u8],
+    list: &mut [u8],
 ) -> ReadResult
-    ensures { λ r. ⌜ r ≡ readNumbers (readAnswer (length (now (img .entry))) (view (now (img .entry))) (now (name .entry)) offset count (length (now (out .entry)))) ⌝ }
-    ensures { λ _. ⌜ now (out .exit) ≡ readOutput (length (now (img .entry))) (view (now (img .entry))) (now (name .entry)) offset count (now (out .entry)) ⌝ }
+    ensures { λ r. ⌜ r ≡ readNumbers (readAnswer (length (now (img .entry))) (view (now (img .entry))) (now (name .entry)) offset count time (length (now (out .entry))) (length (now (list .entry)))) ⌝ }
+    ensures { λ _. ⌜ now (out .exit) ≡ readOutput (length (now (img .entry))) (view (now (img .entry))) (now (name .entry)) offset count time (now (out .entry)) (length (now (list .entry))) ⌝ }
+    ensures { λ _. ⌜ now (list .exit) ≡ readList (length (now (img .entry))) (view (now (img .entry))) (now (name .entry)) offset count time (length (now (out .entry))) (now (list .entry)) ⌝ }
 {
-    let a = queries::read(img, name, offset, count, out);
+    let a = queries::read(img, name, offset, count, time, out, list);
     read_result(a)
 }
 

@@ -1,4 +1,4 @@
--- `goofs::goofs_list` meets its contract. The numbers and the output are those of `queries::list`.
+-- `goofs::goofs_list` meets its contract. The numbers, the output and the list are those of `queries::list`.
 use mathlib.Core.Path.{ap, _∙_}
 use Rattle.goofs.specs.Numbers.{listNumbers}
 use borrow.Author.Needs.{needs}
@@ -14,8 +14,11 @@ list-result-requires c κs = search needs
 same-length : tie.Need-same-length
 same-length c = search needs
 
+same-length-2 : tie.Need-same-length-2
+same-length-2 c = search needs
+
 returns : tie.Need-returns
-returns c = (c .list-result .ensures ∙ ap listNumbers (c .before .before .before .list .ensures .0), c .before .before .before .list .ensures .1)
+returns c = let q = c .before .before .before .before .before .list .ensures in (c .list-result .ensures ∙ ap listNumbers (q .0), q .1)
 
 pub goofs-list-spec : {M : Type 1} → statement M
-goofs-list-spec = tie.close (tie.spec list-requires list-result-requires same-length returns)
+goofs-list-spec = tie.close (tie.spec list-requires list-result-requires same-length same-length-2 returns)

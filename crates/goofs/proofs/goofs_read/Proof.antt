@@ -1,4 +1,4 @@
--- `goofs::goofs_read` meets its contract. The numbers and the output are those of `queries::read`.
+-- `goofs::goofs_read` meets its contract. The numbers, the output and the list are those of `queries::read`.
 use mathlib.Core.Path.{ap, _∙_}
 use Rattle.goofs.specs.Numbers.{readNumbers}
 use borrow.Author.Needs.{needs}
@@ -14,8 +14,11 @@ read-result-requires c κs = search needs
 same-length : tie.Need-same-length
 same-length c = search needs
 
+same-length-2 : tie.Need-same-length-2
+same-length-2 c = search needs
+
 returns : tie.Need-returns
-returns c = (c .read-result .ensures ∙ ap readNumbers (c .before .before .before .read .ensures .0), c .before .before .before .read .ensures .1)
+returns c = let q = c .before .before .before .before .before .read .ensures in (c .read-result .ensures ∙ ap readNumbers (q .0), q .1)
 
 pub goofs-read-spec : {M : Type 1} → statement M
-goofs-read-spec = tie.close (tie.spec read-requires read-result-requires same-length returns)
+goofs-read-spec = tie.close (tie.spec read-requires read-result-requires same-length same-length-2 returns)

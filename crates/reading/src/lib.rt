@@ -213,19 +213,20 @@ fn read_file(
     ensures { λ _. ⌜ now (list .exit) ≡ listAfter (view (now (img .entry))) (fileDecision (view (now (img .entry))) (i .0) offset asked time (length (now (out .entry))) (length (now (list .entry)))) (now (list .entry)) ⌝ }
 {
     let size = directory::size_at(img, i);
-    let verdict = file_verdict(size, offset, asked, out.len(), list.len());
-    if verdict.number == 0 {
+    let v = file_verdict(size, offset, asked, out.len(), list.len());
+    if v.number == 0 {
         let count = fields::least(asked, size - offset);
         spans::read_span(img, g, i, offset, out, 0, count as usize);
         let entry = directory::accessed_entry(img, g.edition, i, time);
-        commit::put_one_target(list, img, g, i.sector(), entry);
+        let target = i.sector();
+        commit::put_one_target(list, img, g, target, entry);
         return BytesRead {
-            verdict,
+            verdict: v,
             count,
             length: commit::ONE_TARGET_SIZE as u64,
         };
     }
-    not_read(verdict)
+    not_read(v)
 }
 
 pub fn read_in(

@@ -59,8 +59,8 @@ returns c =
     let s = v .before .before .before .before .before in
     let a = s .args in
     file-done (a .img .now) (a .out .now) (a .list .now) (a .i .0) (a .offset) (a .asked) (a .time) (a .g) (s .pre .0 .is) (s .pre .1 .0) (s .pre .1 .1) (z .result) (z .ensures)
-    (v .file-verdict .result) (v .file-verdict .ensures) (l .least .result) (c .before .before .before .sector .result .0) (k .if1 .taken) (l .least .ensures)
-    (r .before .before .before .read-span .ensures) (r .accessed-entry .ensures) (c .before .before .before .sector .ensures) (c .before .before .put-one-target .ensures)
+    (v .file-verdict .result) (v .file-verdict .ensures) (l .least .result) (c .before .before .before .before .sector .result .0) (k .if1 .taken) (l .least .ensures)
+    (r .before .before .before .read-span .ensures) (r .accessed-entry .ensures) (c .before .before .before .before .sector .ensures) (c .before .before .put-one-target .ensures)
 
 not-read-requires : tie.Need-not-read-requires
 not-read-requires c κs = search needs

@@ -34,7 +34,7 @@
  *
  *    - let the system forget what it keeps of the medium, where it can (posix_fadvise with POSIX_FADV_DONTNEED), and read the
  *      image;
- *    - if its state is clean or waiting, write sector 0 again as it was read, and put up a barrier: no list may rest on a mark that
+ *    - if its state is clean or waiting, write sector 0 again as it was read, and complete a barrier: no list may rest on a mark that
  *      is not on the medium. (Leave an unfinished or damaged volume alone.)
  *
  * Programs that share a volume agree on a lock: who changes it holds flock(2) with LOCK_EX on the image file or device, from before

@@ -34,7 +34,7 @@ bytes-of c c′ d i off n eg et =
     eg (fun-ext (λ o. fun-ext (λ e. et o e)))
 
 module _ (L : Ledger) (img : List ℕ) (root : Root) (i : ℕ) (f : Option File) (out : List ℕ) where
-  -- what a call owes of the image that it leaves
+  -- what a call has to show of the image that it leaves
   pub record Rewrites : Type 0 where
     pub ready : Ready (L .geometry) out
     pub new-root : rootIn (L .geometry .edition) (view out rootAt) ≡ root

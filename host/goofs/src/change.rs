@@ -339,7 +339,7 @@ impl Image {
 
     /// The first refusal that these changes would meet, one after the other. The image is then as it
     /// was. Whether a change is refused depends on the metadata alone, so only they are changed and
-    /// put back, and many writes take little memory. `progress` hears how many are tried.
+    /// put back, and many writes take little memory. `progress` is given how many are tried.
     pub fn try_out(
         &mut self,
         changes: &[Change],

@@ -1,4 +1,4 @@
-//! What a volume can stand on: a `Device` reads and writes sectors and puts up a barrier. Here are an
+//! What a volume can stand on: a `Device` reads and writes sectors and completes a barrier. Here are an
 //! image in memory and a file or block device.
 
 use std::fs::{File, TryLockError};

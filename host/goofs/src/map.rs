@@ -109,22 +109,22 @@ impl Drop for Map {
     }
 }
 
-/// What is said if a map can't be read.
-static LAST_WORDS: OnceLock<&str> = OnceLock::new();
+/// What is written if a map can't be read.
+static MESSAGE: OnceLock<&str> = OnceLock::new();
 
 /// Only what is allowed in a signal's handler: an atomic load, a write and the end.
 extern "C" fn end(_: c_int) {
-    let words = LAST_WORDS.get().copied().unwrap_or_default();
+    let message = MESSAGE.get().copied().unwrap_or_default();
     unsafe {
-        write(STANDARD_ERROR, words.as_ptr().cast(), words.len());
+        write(STANDARD_ERROR, message.as_ptr().cast(), message.len());
         _exit(1)
     }
 }
 
-/// From now on, if a map can't be read, the program writes these words to the standard error and ends
-/// with status 1. Otherwise it would end by a signal, without a word. They can be set once.
-pub fn end_if_unreadable(last_words: &'static str) {
-    if KNOWN && LAST_WORDS.set(last_words).is_ok() {
+/// From now on, if a map can't be read, the program writes this message to the standard error and ends
+/// with status 1. Otherwise it would end by a signal, without a message. It can be set once.
+pub fn end_if_unreadable(message: &'static str) {
+    if KNOWN && MESSAGE.set(message).is_ok() {
         unsafe { signal(SIGBUS, end as *const () as usize) };
     }
 }

@@ -188,7 +188,7 @@ fn mask(how: c_int) {
 }
 
 /// From now on the signals that ask the program to end come to the other threads, so that one who
-/// works hears of a signal at once. For a thread that only waits for them.
+/// works gets a signal at once. For a thread that only waits for them.
 pub fn leave_signals_to_others() {
     mask(SIG_BLOCK);
 }

@@ -75,7 +75,7 @@ impl<D: Device> Volume<D> {
         self.apply_telling(changes, &mut |_, _| ControlFlow::Continue(()))
     }
 
-    /// As `apply`. `progress` hears how many changes are tried, and how many done, and may stop before
+    /// As `apply`. `progress` is given how many changes are tried, and how many done, and may stop before
     /// the next one.
     pub fn apply_telling(
         &mut self,
@@ -252,7 +252,7 @@ impl<'d, D: Device> Sending<'d, D> {
 }
 
 /// Formats a device. Until the last record has landed, the volume on it is unfinished.
-/// `progress` hears how many records are done.
+/// `progress` is given how many records are done.
 pub fn format(
     device: &mut impl Device,
     format: &Format,

@@ -1,5 +1,5 @@
-//! The ledger: what the calls of a run must answer, told from their arguments alone. It sees no
-//! image and no write list. Of a cut call it hears whether the start mark landed and, if not, which
+//! The ledger: what the calls of a run must answer, expected from their arguments alone. It sees no
+//! image and no write list. Of a cut call it is given whether the start mark landed and, if not, which
 //! data sectors did.
 //!
 //! It shares with the calls only the geometry; answers, list lengths and the choice of entries and
@@ -46,7 +46,7 @@ pub struct CutReport {
 
 /// The ledger's answer, with the bytes that a list or read puts at the start of its output.
 #[derive(Clone, Debug, PartialEq, Eq)]
-pub struct Told {
+pub struct Expected {
     pub answer: Answer,
     pub output: Vec<u8>,
 }
@@ -149,21 +149,21 @@ impl Ledger {
 
     /// What the call would answer.
     pub fn answer(&self, request: &Request, lent: Lent) -> Answer {
-        self.tell(request, lent).0.answer
+        self.expect(request, lent).0.answer
     }
 
     /// The answer of a call whose list, if it has one, lands whole.
-    pub fn call(&mut self, request: &Request, lent: Lent) -> Told {
-        let (told, change) = self.tell(request, lent);
+    pub fn call(&mut self, request: &Request, lent: Lent) -> Expected {
+        let (expected, change) = self.expect(request, lent);
         self.apply(change);
-        told
+        expected
     }
 
     /// The answer of a call that is cut while its list is carried out. A call without a list can't
     /// be cut; then nothing is answered and nothing changes.
-    pub fn cut_call(&mut self, request: &Request, lent: Lent, cut: &CutReport) -> Option<Told> {
-        let (told, change) = self.tell(request, lent);
-        if told.answer.list_length() == 0 {
+    pub fn cut_call(&mut self, request: &Request, lent: Lent, cut: &CutReport) -> Option<Expected> {
+        let (expected, change) = self.expect(request, lent);
+        if expected.answer.list_length() == 0 {
             return None;
         }
         if cut.start_mark {
@@ -171,11 +171,11 @@ impl Ledger {
         } else {
             self.keep_landed_data(change, &cut.data_sectors);
         }
-        Some(told)
+        Some(expected)
     }
 
     /// The answer, and what the call does if it is done.
-    fn tell(&self, request: &Request, lent: Lent) -> (Told, Change) {
+    fn expect(&self, request: &Request, lent: Lent) -> (Expected, Change) {
         let mut output = Vec::new();
         let mut change = Change::Nothing;
         let answer = match request {
@@ -227,7 +227,7 @@ impl Ledger {
                 Err(refusal) => refusal.into(),
             }),
         };
-        (Told { answer, output }, change)
+        (Expected { answer, output }, change)
     }
 
     /// The list length of a changing call and what it does, or its refusal.
@@ -251,7 +251,7 @@ impl Ledger {
                 time,
             } => self.write(name, *offset, data, *time)?,
             Request::Rename { old, new, time } => self.rename(old, new, *time)?,
-            // The reading calls are told elsewhere.
+            // The reading calls are expected elsewhere.
             _ => (0, Change::Nothing),
         };
         if list_length < length {

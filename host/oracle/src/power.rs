@@ -66,7 +66,7 @@ impl Cut {
         }
     }
 
-    /// What the ledger hears of a changing call with this cut. Groups are A, B, C and D.
+    /// What the ledger is given of a changing call with this cut. Groups are A, B, C and D.
     pub fn report(&self, groups: &[Group]) -> CutReport {
         let start_mark =
             self.groups_before > 1 || (self.groups_before == 1 && !self.landed.is_empty());

@@ -189,7 +189,7 @@ goofs_check_result goofs_check(const uint8_t *image, size_t image_length);
 
 /* The same fault and place by way of `scratch`, `numbers` numbers of 32 bits, at least GOOFS_SCRATCH of the volume's files and extents:
  * fewer are refused 14, which is tested after 6 and before soundness. What scratch holds after 0 or 7 is not fixed; with any other
- * code it is untouched. The call has no large array of its own: 360 bytes of stack, measured. Gives 0 to 7 and 14. */
+ * code it is untouched. The call has no large array of its own: 416 bytes of stack, measured. Gives 0 to 7 and 14. */
 goofs_check_result goofs_check_with(const uint8_t *image, size_t image_length, uint32_t *scratch, size_t numbers);
 
 /* The file of that name: its index and fields. It sets no time. Gives 0 to 9. */

@@ -21,7 +21,8 @@ pub literals : Literals
 unfolding beAt beBytes bytesFrom put onesSector zeroSector scan anyBelow allBelow countBelow equalBytes inBounds layoutOf isEdition isVolume geometryIn journalLength stateOf newSuperblock
     rootIn newRootSector updatedRootSector nameIn entryIn isOccupied hasZero badName newEntrySector updatedEntrySector renamedEntrySector tableFile tableOffset takenIn freedIn
     entriesIn journalSector catalogueOf fileNamed entryOf fault21 fault22 fault23 fault24 fault25 exact fault26 firstFault
-    verdictOf isWhole fitsImage imageVerdict soundVerdict judged barrier recordBytes superblockVerdict superblockAnswer sizeNamed readConditions readPlan readDecision readOf readAnswer groupsFor groupsOf groupA copies staging journalOf decided tabulate badTime
+    verdictOf isWhole fitsImage imageVerdict soundVerdict judged barrier recordBytes superblockVerdict superblockAnswer sizeNamed
+    readConditions readPlan readDecision readOf readAnswer groupsFor groupsOf groupA copies staging journalOf decided tabulate badTime
 literals = record {
   unfinished = refl;
   clean = refl;

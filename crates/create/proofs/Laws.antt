@@ -94,7 +94,8 @@ abbrev pub Comes : List ℕ → List ℕ → List ℕ → ℕ → ℕ → ℕ �
 Comes img list name id mode time answer after =
     (answer ≡ createAnswer (length img) (view img) name id mode time (length list)) × (after ≡ createList (length img) (view img) name id mode time list)
 
-module _ (img list name : List ℕ) (id mode time : ℕ) (ok : judged (length img) (view img) .number ≡ 0) (v : Verdict) (own : v ≡ verdictOf (createConditions (catalogueOf (view img)) name id time)) where
+module _ (img list name : List ℕ) (id mode time : ℕ) (ok : judged (length img) (view img) .number ≡ 0)
+    (v : Verdict) (own : v ≡ verdictOf (createConditions (catalogueOf (view img)) name id time)) where
   abbrev cs : Conditions
   cs = createConditions (catalogueOf (view img)) name id time
 

@@ -1,15 +1,13 @@
 -- Targets that are handed over one after the other; the freed table sectors as such. Assumes nothing.
-use Prim.Native.Nat.{ℕ, zero, suc, _+_, _-_, _*_, _≤_, _<_}
+use Prim.Native.Nat.{ℕ, _+_, _-_, _*_, _≤_, _<_}
 use mathlib.Core.Path.{_≡_, refl, sym, ap}
-use mathlib.Core.Logic.{⊎-elim}
-use mathlib.Core.Bool.{Bool, true, false}
+use mathlib.Core.Bool.{true, false}
 use mathlib.Core.List.{List, [], _∷_, _++_, append-assoc, append-nil}
 use mathlib.Core.Option.{some}
-use native.Mathlib.Nat.{eq-or-lt-of-le}
 use native.Mathlib.Omega.{arith}
 use lib.ListN.{length, set}
 use Rattle.model.specs.declared.Geometry.{Geometry}
-use Rattle.model.specs.Search.{countBelow, concatenated}
+use Rattle.model.specs.Search.{concatenated}
 use Rattle.model.specs.Geometry.{superblockAt, rootAt, entryAt, tableAt, tableSectors, reserveAt, extentsFor}
 use Rattle.model.specs.Disk.{Disk}
 use Rattle.model.specs.Superblock.{geometryIn}
@@ -96,10 +94,3 @@ delete-targets d g is i time =
 pub delete-alone : (d : Disk) (i time : ℕ) → deletePlan (catalogueOf d) d i time .dataSectors ≡ []
 unfolding deletePlan
 delete-alone d i time = refl
-
--- ---- a count grows
-pub countBelow-rises : (p : ℕ → Bool) (t n : ℕ) → t ≤ n → countBelow p t ≤ countBelow p n
-unfolding countBelow
-countBelow-rises p t zero h = let e : t ≡ 0 = omega arith in rw e (omega arith)
-countBelow-rises p t (suc n) h =
-    ⊎-elim (λ (q : t ≡ suc n). rw q (omega arith)) (λ (l : t < suc n). let r : countBelow p t ≤ countBelow p n = countBelow-rises p t n (omega arith) in omega arith) (eq-or-lt-of-le h)

@@ -84,7 +84,8 @@ returns-2 c =
     let p = c .before .before .before .before .before .before .before .before .before .pass-in in
     let none = c .before .before .before .before .before .enum-told .given .1 in
     let after = p .last .1 .1 .1 .1 .1 .1 .0 in
-    lacking-at g d (s .pre .0 .is) (omega arith) (sym (p .ensures .0 .found) ∙ none) (p .result .reached) after (drop (g .files + 1) after) (p .ensures .1 none) (p .ensures .0 .marks none) (c .before .i .given .0 .0)
+    lacking-at g d (s .pre .0 .is) (omega arith) (sym (p .ensures .0 .found)
+    ∙ none) (p .result .reached) after (drop (g .files + 1) after) (p .ensures .1 none) (p .ensures .0 .marks none) (c .before .i .given .0 .0)
     (sym (c .before .i .given .1) ∙ c .before .before .before .lowest-unmarked .ensures)
 
 enum-told-2 : tie.Need-enum-told-2

@@ -81,7 +81,8 @@ returns-2 c =
     let o = c .before .before .before .table-offset in (
       c .is-misplaced2 .ensures,
       (
-        past (a .g) d (a .e .0) (a .m) (drop (a .at) (a .s .now)) (s .pre .1 .1 .1) (f .result) (f .ensures .0) (o .result) (o .ensures .0) (a .s .now) (s .pre .1 .1 .0) (c .before .before .before .before .before .if1 .left) (omega arith),
+        past (a .g) d (a .e .0) (a .m) (drop (a .at) (a .s .now)) (s .pre .1 .1 .1) (f .result) (f .ensures .0) (o .result)
+            (o .ensures .0) (a .s .now) (s .pre .1 .1 .0) (c .before .before .before .before .before .if1 .left) (omega arith),
         (s .pre .1 .1 .0, omega arith),
       ),
     )

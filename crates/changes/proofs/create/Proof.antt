@@ -31,7 +31,8 @@ unfolding createAnswer createList createDecision
 returns-2 c =
     let a = c .before .before .before .before .before .before .before .args in
     let d = view (a .img .now) in
-    let h = refused-as-judged (length (a .img .now)) d (createConditions (catalogueOf d) (a .name .now) (a .id) (a .time)) (some (createPlan (catalogueOf d) d (a .name .now) (a .id) (a .mode) (a .time)))
+    let h = refused-as-judged (length (a .img .now)) d (createConditions (catalogueOf d) (a .name .now)
+    (a .id) (a .time)) (some (createPlan (catalogueOf d) d (a .name .now) (a .id) (a .mode) (a .time)))
     (a .list .now) (c .before .before .before .judge .result) (c .before .before .before .judge .ensures) (c .before .if1 .left) in
     (c .refused .ensures ∙ h .0, h .1)
 

@@ -4,6 +4,7 @@ use mathlib.Core.Path.{_≡_, refl}
 use native.Mathlib.Nat.{zero-add}
 use native.Mathlib.Omega.{arith}
 use lib.ListN.{length}
+use Rattle.laws.proofs.Count.{countBelow-mono}
 use Rattle.model.specs.Search.{countBelow, concatenated}
 use Rattle.model.specs.Geometry.{tableSectors}
 use Rattle.model.specs.Disk.{view}
@@ -12,7 +13,7 @@ use Rattle.model.specs.Delete.{freedSector}
 use Rattle.laws.proofs.Search.{concatenated-more, countBelow-more}
 use Rattle.table.proofs.Laws.{sectors-from-is}
 use Rattle.delete.specs.Staging.{Added}
-use Rattle.delete.proofs.Laws.{added-none, added-then, freed-all, countBelow-rises}
+use Rattle.delete.proofs.Laws.{added-none, added-then, freed-all}
 use borrow.Author.Needs.{needs}
 use Rattle.delete.proofs.put_freed.Statement.{statement}
 use Rattle.delete.proofs.put_freed.Tie as tie
@@ -38,7 +39,7 @@ put-freed-sector-requires c κs =
     let s = l .before .before .before .before .before in
     let a = s .args in
     let d = view (a .img .now) in
-    let below = countBelow-rises (holdsFrom (catalogueOf d) (a .i .0) (a .o)) (l .loop .t) (tableSectors (a .g)) (omega arith) in
+    let below = countBelow-mono (holdsFrom (catalogueOf d) (a .i .0) (a .o)) (l .loop .t) (tableSectors (a .g)) (omega arith) in
     let all = sectors-from-is d (a .g) (s .pre .0 .is) (a .i .0) (a .o) in
     (s .pre .0, ((omega arith, omega arith), (omega (arith, below, all), omega arith)))
 

@@ -4,12 +4,13 @@ use mathlib.Core.Path.{_≡_, refl}
 use native.Mathlib.Nat.{zero-add}
 use native.Mathlib.Omega.{arith}
 use lib.ListN.{length}
+use Rattle.laws.proofs.Count.{countBelow-mono}
 use Rattle.model.specs.Search.{countBelow, concatenated}
 use Rattle.model.specs.Geometry.{tableSectors}
 use Rattle.model.specs.Disk.{view}
 use Rattle.laws.proofs.Search.{concatenated-more, countBelow-more}
 use Rattle.delete.specs.Staging.{Added}
-use Rattle.delete.proofs.Laws.{added-none, added-then, countBelow-rises}
+use Rattle.delete.proofs.Laws.{added-none, added-then}
 use Rattle.repair.specs.Strays.{isMarked}
 use Rattle.repair.specs.Freeing.{holdsFreed, freedSector}
 use Rattle.repair.proofs.Freeing.{freeing-targets}
@@ -37,7 +38,7 @@ put-freed-sector-requires c κs =
     let l = c .before .before .before in
     let s = c .before .before .before .before .before .before .before .before .before in
     let a = s .args in
-    let below = countBelow-rises (holdsFreed (isMarked (a .marks .now) (a .g .extents))) (l .loop .t) (tableSectors (a .g)) (omega arith) in
+    let below = countBelow-mono (holdsFreed (isMarked (a .marks .now) (a .g .extents))) (l .loop .t) (tableSectors (a .g)) (omega arith) in
     (s .pre .0, ((s .pre .1 .0, omega arith), (omega (arith, below), omega arith)))
 
 add-t : tie.Need-add-t Inv-loop μ-loop

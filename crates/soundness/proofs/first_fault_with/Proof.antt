@@ -18,7 +18,8 @@ returns : tie.Need-returns
 returns c =
     let s = c .before .before .before .before .before .before in
     rw (in-order (view (s .args .img .now)) (s .args .g) (s .pre .0 .is))
-    (at-21 (view (s .args .img .now)) (s .args .g) (tableFault (s .args .g) (view (s .args .img .now))) (c .before .i .given .0 .0) (sym (c .before .before .before .fault21 .ensures) ∙ c .before .i .given .1))
+    (at-21 (view (s .args .img .now)) (s .args .g) (tableFault (s .args .g) (view (s .args .img .now))) (c .before .i .given .0 .0) (sym (c .before .before .before .fault21 .ensures)
+    ∙ c .before .i .given .1))
 
 enum-told : tie.Need-enum-told
 enum-told c = search needs
@@ -33,14 +34,22 @@ returns-2 : tie.Need-returns-2
 returns-2 c =
     let s = c .before .before .before .before .before .before .before .before .before in
     rw (in-order (view (s .args .img .now)) (s .args .g) (s .pre .0 .is))
-    (at-22 (view (s .args .img .now)) (s .args .g) (tableFault (s .args .g) (view (s .args .img .now))) (sym (c .before .before .before .before .before .before .fault21 .ensures) ∙ c .before .before .before .before .enum-told .given .1)
+    (at-22 (view (s .args .img .now)) (s .args .g) (tableFault (s .args .g) (view (s .args .img .now))) (sym (c .before .before .before .before .before .before .fault21 .ensures)
+    ∙ c .before .before .before .before .enum-told .given .1)
     (c .before .i2 .given .0 .0) (sym (c .before .before .before .fault22 .ensures) ∙ c .before .i2 .given .1))
 
 enum-told-2 : tie.Need-enum-told-2
 enum-told-2 c = search needs
 
 fault23-with-requires : tie.Need-fault23-with-requires
-fault23-with-requires c κs = let s = c .before .before .before .before .before .before .before .before .before in (s .pre .0, (sym (c .before .before .before .fault22 .ensures) ∙ c .before .enum-told2 .given .1, omega (arith, s .pre .1)))
+fault23-with-requires c κs = let s = c .before .before .before .before .before .before .before .before .before in (
+  s .pre .0,
+  (
+    sym (c .before .before .before .fault22 .ensures)
+        ∙ c .before .enum-told2 .given .1,
+    omega (arith, s .pre .1),
+  ),
+)
 
 enum-known-i-3 : tie.Need-enum-known-i-3
 enum-known-i-3 c = search needs
@@ -53,8 +62,10 @@ returns-3 c =
     let s = c .before .before .before .before .before .before .before .before .before .before .before .before .before .before .before in
     rw (in-order (view (s .args .img .now)) (s .args .g) (s .pre .0 .is))
     (at-23 (view (s .args .img .now)) (s .args .g) (tableFault (s .args .g) (view (s .args .img .now)))
-    (sym (c .before .before .before .before .before .before .before .before .before .before .before .before .fault21 .ensures) ∙ c .before .before .before .before .before .before .before .before .before .before .enum-told .given .1)
-    (sym (c .before .before .before .before .before .before .before .before .before .fault22 .ensures) ∙ c .before .before .before .before .before .before .before .enum-told2 .given .1) (c .before .i3 .given .0 .0)
+    (sym (c .before .before .before .before .before .before .before .before .before .before .before .before .fault21 .ensures)
+    ∙ c .before .before .before .before .before .before .before .before .before .before .enum-told .given .1)
+    (sym (c .before .before .before .before .before .before .before .before .before .fault22 .ensures)
+    ∙ c .before .before .before .before .before .before .before .enum-told2 .given .1) (c .before .i3 .given .0 .0)
     (sym (c .before .before .before .before .before .fault23-with .ensures) ∙ c .before .i3 .given .1))
 
 enum-told-3 : tie.Need-enum-told-3
@@ -76,9 +87,12 @@ returns-4 c =
     let s = c .before .before .before .before .before .before .before .before .before .before .before .before .before .before .before .before .before .before .before .before .before in
     rw (in-order (view (s .args .img .now)) (s .args .g) (s .pre .0 .is))
     (at-24 (view (s .args .img .now)) (s .args .g) (tableFault (s .args .g) (view (s .args .img .now)))
-    (sym (c .before .before .before .before .before .before .before .before .before .before .before .before .before .before .before .before .before .before .fault21 .ensures) ∙ c .before .before .before .before .before .before .before .before .before .before .before .before .before .before .before .before .enum-told .given .1)
-    (sym (c .before .before .before .before .before .before .before .before .before .before .before .before .before .before .before .fault22 .ensures) ∙ c .before .before .before .before .before .before .before .before .before .before .before .before .before .enum-told2 .given .1)
-    (sym (c .before .before .before .before .before .before .before .before .before .before .before .fault23-with .ensures) ∙ c .before .before .before .before .before .before .before .enum-told3 .given .1) (c .before .file .given .0 .0)
+    (sym (c .before .before .before .before .before .before .before .before .before .before .before .before .before .before .before .before .before .before .fault21 .ensures)
+    ∙ c .before .before .before .before .before .before .before .before .before .before .before .before .before .before .before .before .enum-told .given .1)
+    (sym (c .before .before .before .before .before .before .before .before .before .before .before .before .before .before .before .fault22 .ensures)
+    ∙ c .before .before .before .before .before .before .before .before .before .before .before .before .before .enum-told2 .given .1)
+    (sym (c .before .before .before .before .before .before .before .before .before .before .before .fault23-with .ensures)
+    ∙ c .before .before .before .before .before .before .before .enum-told3 .given .1) (c .before .file .given .0 .0)
     (sym (c .before .before .before .before .before .fault24-with .ensures) ∙ c .before .file .given .1))
 
 enum-told-4 : tie.Need-enum-told-4
@@ -99,9 +113,12 @@ returns-5 c =
     let s = b .before .before .before .before .before .before .before .before .before .before .before .before in
     rw (in-order (view (s .args .img .now)) (s .args .g) (s .pre .0 .is))
     (c .before .before .faults-by .ensures ∙ from-25 (view (s .args .img .now)) (s .args .g) (tableFault (s .args .g) (view (s .args .img .now)))
-    (sym (c .before .before .before .before .before .before .before .before .before .before .before .before .before .before .before .before .before .before .before .before .before .fault21 .ensures) ∙ c .before .before .before .before .before .before .before .before .before .before .before .before .before .before .before .before .before .before .before .enum-told .given .1)
-    (sym (c .before .before .before .before .before .before .before .before .before .before .before .before .before .before .before .before .before .before .fault22 .ensures) ∙ c .before .before .before .before .before .before .before .before .before .before .before .before .before .before .before .before .enum-told2 .given .1)
-    (sym (c .before .before .before .before .before .before .before .before .before .before .before .before .before .before .fault23-with .ensures) ∙ c .before .before .before .before .before .before .before .before .before .before .enum-told3 .given .1)
+    (sym (c .before .before .before .before .before .before .before .before .before .before .before .before .before .before .before .before .before .before .before .before .before .fault21 .ensures)
+    ∙ c .before .before .before .before .before .before .before .before .before .before .before .before .before .before .before .before .before .before .before .enum-told .given .1)
+    (sym (c .before .before .before .before .before .before .before .before .before .before .before .before .before .before .before .before .before .before .fault22 .ensures)
+    ∙ c .before .before .before .before .before .before .before .before .before .before .before .before .before .before .before .before .enum-told2 .given .1)
+    (sym (c .before .before .before .before .before .before .before .before .before .before .before .before .before .before .fault23-with .ensures)
+    ∙ c .before .before .before .before .before .before .before .before .before .before .enum-told3 .given .1)
     (sym (c .before .before .before .before .before .before .before .before .fault24-with .ensures) ∙ c .before .before .before .before .enum-told4 .given .1))
 
 pub first-fault-with-spec : {M : Type 1} → statement M

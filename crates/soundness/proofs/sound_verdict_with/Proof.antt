@@ -1,14 +1,10 @@
 -- `soundness::sound_verdict_with` meets its contract. The state is refused, or the scratch is too short, or the first fault gives the verdict.
-use mathlib.Core.Path.{_≡_, refl, sym, _∙_}
+use mathlib.Core.Path.{refl, sym, _∙_}
 use mathlib.Core.Bool.{true, false, true≢false}
 use Prim.Native.Nat.{_<_, _≤_}
 use native.Mathlib.Omega.{arith}
-use lib.Dec.{ltb}
 use lib.ListN.{length}
 use borrow.Author.Tests.{eq-eqb, ne-eqb, lt-ltb, le-ltb}
-use Rattle.model.specs.Disk.{view}
-use Rattle.model.specs.Superblock.{geometryIn}
-use Rattle.model.specs.Faults.{firstFault}
 use Rattle.model.specs.Scratch.{scratchNumbers, soundVerdictWith}
 use Rattle.model.specs.Opened.{Opened}
 use Rattle.laws.proofs.Refusals.{image-length, opened}
@@ -52,7 +48,11 @@ returns c =
     )
 
 first-fault-with-requires : tie.Need-first-fault-with-requires
-first-fault-with-requires c κs = (opened _ _ (c .before .before .before .geometry-in .ensures) (omega arith) (c .before .before .before .before .before .before .before .before .before .pre), omega (arith, c .before .before .scratch-numbers .ensures))
+first-fault-with-requires c κs = (
+  opened _ _ (c .before .before .before .geometry-in .ensures) (omega arith)
+      (c .before .before .before .before .before .before .before .before .before .pre),
+  omega (arith, c .before .before .scratch-numbers .ensures),
+)
 
 fault-verdict-requires : tie.Need-fault-verdict-requires
 fault-verdict-requires c κs = search needs

@@ -42,6 +42,7 @@ fn what_is_freed() {
     for (entry, why) in [
         ([0, 9, 0, 0], "of entry 9, which is no file"),
         ([0, 255, 0, 0], "of entry 255, which is no file"),
+        ([234, 96, 0, 0], "of entry 60000, which is no file"),
         ([0, 0, 0, 2], "place 2 of a, past its end"),
         ([0, 1, 0, 0], "place 0 of b, past its end"),
         ([0, 0, 0, 1], "place 1 of a, which a lower extent has"),

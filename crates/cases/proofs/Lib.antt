@@ -5,3 +5,4 @@ pub mod Edges
 pub mod RepairsComputed
 pub mod EditionsComputed
 pub mod AccessesComputed
+pub mod ExchangesComputed

@@ -3,7 +3,7 @@
 use Prim.Native.Nat.{ℕ, _-_, min}
 use mathlib.Core.Path.{_≡_, refl, sym, ap, _∙_, subst}
 use mathlib.Core.Logic.{_≢_, _⊎_, inl, inr}
-use mathlib.Core.Bool.{Bool, true, false, cond, true≢false, false≢true}
+use mathlib.Core.Bool.{Bool, true, false, cond, false≢true}
 use mathlib.Core.List.{List, [], _∷_, _++_}
 use mathlib.Core.Option.{Option, none, some, Option·some-injective, Option·none-ne-some}
 use lib.Dec.{eqb}
@@ -23,20 +23,21 @@ use Rattle.model.specs.Demand3.{Says}
 use Rattle.safety.specs.Described.{SoundRun}
 use Rattle.safety.specs.Naming.{Contents, fileOn, fileIn}
 use Rattle.safety.specs.Accessing.{rootOn, accessedContents, AfterRead, AfterList, Unset, asks, OnlyAsk, butAccess}
-use Rattle.safety.proofs.Searches.{same-refl, same-true}
+use Rattle.safety.specs.Neighbours.{Accepted, AllAccepted}
+use Rattle.safety.proofs.Searches.{same-true, same-differ}
 use Rattle.safety.proofs.OwnWords.{reply-given}
 use Rattle.safety.proofs.Commit.{RecoveredTo}
 use Rattle.safety.proofs.Rep.{catalogue-is}
 use Rattle.safety.proofs.Theorem.{represents, planned-done}
 use Rattle.safety.proofs.Naming.{rooted-other, Found, slotOf, read-found}
-use Rattle.safety.proofs.CallFacts.{facts, Accepted}
+use Rattle.safety.proofs.CallFacts.{facts}
 use Rattle.safety.proofs.FileSaid.{renewed-said, found-said, said}
-use Rattle.safety.proofs.Corollaries.{AllAccepted, accepted, says, was, zero-here, done-here}
+use Rattle.safety.proofs.Corollaries.{accepted, says, was, zero-here, done-here}
 use Rattle.safety.proofs.CutWhole.{told-by, kept-file, kept-catalogue}
 
 -- ---- what the ledger says
 
-root-said : (L : Ledger) (img : List ℕ) → Says L img → rootOn img ≡ L .root
+pub root-said : (L : Ledger) (img : List ℕ) → Says L img → rootOn img ≡ L .root
 unfolding catalogue
 root-said L img s = ap (λ (c : Catalogue). c .root) (catalogue-is L img s)
 
@@ -203,7 +204,7 @@ read-file L m h time n other = go (equalBytes m n) refl
 
     go : (b : Bool) → equalBytes m n ≡ b → butAccess (fileIn X n) ≡ butAccess (fileIn L n)
     go true e = subst (λ (k : List ℕ). butAccess (fileIn X k) ≡ butAccess (fileIn L k)) (same-true m n e) here
-    go false e = ap butAccess (other (λ k. true≢false (sym (same-refl n) ∙ ap (λ (s : List ℕ). equalBytes s n) (sym k) ∙ e)))
+    go false e = ap butAccess (other (same-differ m n e))
 
 done-alike : (c : Call) → asks c ≡ true → (L : Ledger) → numberOf (answer c L) ≡ 0 → Alike (step c L .done) L
 unfolding step accessedRoot

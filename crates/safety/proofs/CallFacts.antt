@@ -11,6 +11,7 @@ use Rattle.model.specs.Ledger.{Ledger, fileOf, Call, summary, check, find, list
 use Rattle.model.specs.Ledger.{rename, accessedEntry, accessedFile, callOf, fed}
 use Rattle.model.specs.Run.{onVolume, volumeAnswer, volumePlan, Fits}
 use Rattle.safety.specs.Naming.{Spares, fileIn}
+use Rattle.safety.specs.Neighbours.{Accepted}
 use Rattle.safety.proofs.Induction.{Effect, nothing}
 use Rattle.safety.proofs.Rep.{Rep, summary-same, check-same, find-same}
 use Rattle.safety.proofs.Read.{read-same}
@@ -95,12 +96,6 @@ facts (rename old new time room) = record {
 }
 
 -- ---- what is said of a file that is not named
-
--- only a call that is done has a list that can be cut
-abbrev pub Accepted : Feed → Ledger → Type 0
-Accepted (whole c) L = Unit {0}
-Accepted (cutMarked c) L = numberOf (answer c L) ≡ 0
-Accepted (cutUnmarked c mask) L = numberOf (answer c L) ≡ 0
 
 -- THE LEDGER KEEPS WHAT IT SAYS OF A FILE THAT IS NOT NAMED
 pub fed-other : (L : Ledger) (n : List ℕ) (f : Feed) → Accepted f L → Spares (callOf f) n → fileIn (fed f L) n ≡ fileIn L n

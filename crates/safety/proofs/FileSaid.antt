@@ -26,13 +26,22 @@ use Rattle.model.specs.Demand3.{Says}
 use Rattle.laws.proofs.Booleans.{and-left}
 use Rattle.laws.proofs.Bytes.{length-bytesFrom, getD-bytesFrom, bytesFrom-all, length-put, getD-put}
 use Rattle.laws.proofs.Search.{length-tabulate, Hit, first-none}
-use Rattle.safety.specs.Naming.{Contents, contentsAt, fileOn, contentsIn, fileIn}
+use Rattle.safety.specs.Naming.{Contents, contentsAt, fileOn, contentsIn, fileIn, OneName}
 use Rattle.safety.proofs.OwnWords.{name-if, named-is, zeros-are}
 use Rattle.safety.proofs.Searches.{place-none, same-no, same-refl, same-true}
 use Rattle.safety.proofs.Rep.{catalogue-is, NoFaults}
 use Rattle.safety.proofs.Replaced.{names-apart}
 use Rattle.safety.proofs.TakenFile.{first-only}
 use Rattle.safety.proofs.Naming.{named-hit, named-by, Found, Fresh, slotOf, filled}
+
+-- no two files of a ledger without faults have one name
+pub one-name : (L : Ledger) → NoFaults (catalogue L) → OneName L
+unfolding catalogue
+one-name L nf m i k li lk ne q = apart (L .slots i) q (names-apart (catalogue L) nf i k li lk ne)
+  where
+    apart : (o : Option File) → holdsName m o ≡ true → holdsOf (entryOfFile o) (λ e. hasName (e .name) (entryOfFile (L .slots k))) ≡ false → holdsName m (L .slots k) ≡ false
+    apart none q r = absurd (false≢true q)
+    apart (some f) q r = name-if m (L .slots k) ∙ ap (λ (x : List ℕ). hasName x (entryOfFile (L .slots k))) (sym (same-true (f .entry .name) m q)) ∙ r
 
 -- ---- what is said of the file that the call names
 
@@ -83,19 +92,10 @@ module _ (L : Ledger) (m : List ℕ) where
       go k l true e q = eqb-true k i e
       go k l false e q = absurd (true≢false (sym q ∙ place-none (λ x. holdsName m (L .slots x)) (L .geometry .files) (h .unused) k l))
 
-  -- where no two files have one name
-  only-one : NoFaults (catalogue L) → (i k : ℕ) → i < L .geometry .files → k < L .geometry .files → k ≢ i → holdsName m (L .slots i) ≡ true → holdsName m (L .slots k) ≡ false
-  unfolding catalogue
-  only-one nf i k li lk ne q = apart (L .slots i) q (names-apart (catalogue L) nf i k li lk ne)
-    where
-      apart : (o : Option File) → holdsName m o ≡ true → holdsOf (entryOfFile o) (λ e. hasName (e .name) (entryOfFile (L .slots k))) ≡ false → holdsName m (L .slots k) ≡ false
-      apart none q r = absurd (false≢true q)
-      apart (some f) q r = name-if m (L .slots k) ∙ ap (λ (x : List ℕ). hasName x (entryOfFile (L .slots k))) (sym (same-true (f .entry .name) m q)) ∙ r
-
-  -- none has the name after a delete
-  pub deleted-said : NoFaults (catalogue L) → Found L m → (time room : ℕ) → fileIn (step (delete m time room) L .done) m ≡ none
+  -- where no two files have one name, none has it after a delete
+  pub deleted-said : OneName L → Found L m → (time room : ℕ) → fileIn (step (delete m time room) L .done) m ≡ none
   unfolding step fileIn slotNamed
-  deleted-said nf h time room =
+  deleted-said one h time room =
       ap (contentsIn (withRootUpdated L time i none))
       (first-none (λ k. holdsName m (cond (eqb k i) none (L .slots k))) (L .geometry .files) (λ k l. go k l (eqb k i) refl))
     where
@@ -104,7 +104,7 @@ module _ (L : Ledger) (m : List ℕ) where
 
       go : (k : ℕ) → k < L .geometry .files → (b : Bool) → eqb k i ≡ b → holdsName m (cond b none (L .slots k)) ≡ false
       go k l true q = refl
-      go k l false q = only-one nf i k (h .within) l (eqb-false k i q) (h .has)
+      go k l false q = one m i k (h .within) l (eqb-false k i q) (h .has)
 
   written-file : Found L m → (offset : ℕ) (bytes : List ℕ) (time : ℕ)
       → fileIn (withFile L (slotOf L m) (written L (slotOf L m) offset bytes time)) m ≡ some (writtenInto (fileOf L m) offset bytes time)
@@ -119,7 +119,7 @@ module _ (L : Ledger) (m : List ℕ) where
       ∙ written-file h offset bytes time
 
 -- after a rename the file has the new name, and none has the old one
-module _ (L : Ledger) (m new : List ℕ) (nf : NoFaults (catalogue L)) (h : Found L m) (other : equalBytes m new ≡ false) (time room : ℕ) where
+module _ (L : Ledger) (m new : List ℕ) (one : OneName L) (h : Found L m) (other : equalBytes m new ≡ false) (time room : ℕ) where
   abbrev at : ℕ
   at = slotOf L m
 
@@ -138,22 +138,22 @@ module _ (L : Ledger) (m new : List ℕ) (nf : NoFaults (catalogue L)) (h : Foun
   holds-here r = ap (λ (b : Bool). cond b (some renamed) (slotsWithout L r at)) (eq-eqb at at refl)
 
   -- no other slot has the new name
-  unused : (r : Lowest) → Hit (λ k. holdsName new (L .slots k)) (L .geometry .files - 0) 0 r → (k : ℕ) → k < L .geometry .files → holdsName new (slotsWithout L r k) ≡ false
+  pub unused : (r : Lowest) → Hit (λ k. holdsName new (L .slots k)) (L .geometry .files - 0) 0 r → (k : ℕ) → k < L .geometry .files → holdsName new (slotsWithout L r k) ≡ false
   unused Nowhere q k l = q k (omega arith) (omega arith)
   unused (At j) q k l = go (eqb k j) refl
     where
       go : (b : Bool) → eqb k j ≡ b → holdsName new (cond b none (L .slots k)) ≡ false
       go true e = refl
-      go false e = only-one L new nf j k (omega (arith, q .1)) l (eqb-false k j e) (q .2)
+      go false e = one new j k (omega (arith, q .1)) l (eqb-false k j e) (q .2)
 
   -- nor has any the old one
   gone : (r : Lowest) (k : ℕ) → k < L .geometry .files → k ≢ at → holdsName m (slotsWithout L r k) ≡ false
-  gone Nowhere k l ne = only-one L m nf at k (h .within) l ne (h .has)
+  gone Nowhere k l ne = one m at k (h .within) l ne (h .has)
   gone (At j) k l ne = go (eqb k j)
     where
       go : (b : Bool) → holdsName m (cond b none (L .slots k)) ≡ false
       go true = refl
-      go false = only-one L m nf at k (h .within) l ne (h .has)
+      go false = one m at k (h .within) l ne (h .has)
 
   pub renamed-said : fileIn (step (rename m new time room) L .done) new ≡ some (record { entry = renamedEntry new time (fileOf L m .entry); bytes = fileOf L m .bytes })
   unfolding slotNamed renamedEntry

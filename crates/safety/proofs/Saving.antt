@@ -22,7 +22,7 @@ use Rattle.safety.specs.Saving.{renamedContents, SameFiles, NewState, On
 use Rattle.safety.proofs.Commit.{RecoveredTo}
 use Rattle.safety.proofs.Naming.{rename-found}
 use Rattle.safety.proofs.FileSaid.{renamed-said, renamed-gone, said}
-use Rattle.safety.proofs.Corollaries.{faultless, was, unnamed-kept}
+use Rattle.safety.proofs.Corollaries.{one-named, was, unnamed-kept}
 use Rattle.safety.proofs.CutWhole.{told-by, zero-number, cut-others, kept-file, kept-catalogue}
 
 rename-kept : (old new : List ℕ) (time room : ℕ) (L : Ledger) (k : List Bool) → step (rename old new time room) L .cut k ≡ L
@@ -73,8 +73,8 @@ module _ {L₀ : Ledger} {img img′ : List ℕ} {fs : List Feed} {rs : List Ans
       let d = two-names img old new time room p planned in
       let s = said (step c L .done) img′ (told-by c p x r fit planned m true e) in
       record {
-        renamed = s new ∙ renamed-said L old new (faultless r) h d time room ∙ ap (λ (o : Contents). some (renamedContents new time o)) (was r old file there h);
-        gone = s old ∙ renamed-gone L old new (faultless r) h d time room;
+        renamed = s new ∙ renamed-said L old new (one-named r) h d time room ∙ ap (λ (o : Contents). some (renamedContents new time o)) (was r old file there h);
+        gone = s old ∙ renamed-gone L old new (one-named r) h d time room;
         others = λ n no nn. cut-others c p x r fit planned m n (no, (nn, tt));
       }
 
@@ -91,7 +91,7 @@ module _ {L₀ : Ledger} {img img′ : List ℕ} {fs : List Feed} {rs : List Ans
 
 -- ---- a save
 
-none-named : (temporary name : List ℕ) (gs : List Feed) → temporary ≢ name → OnlyOf temporary gs → NoneNames name gs
+pub none-named : (temporary name : List ℕ) (gs : List Feed) → temporary ≢ name → OnlyOf temporary gs → NoneNames name gs
 none-named temporary name [] ne h = tt
 none-named temporary name (g ∷ gs) ne h = (subst (NotAmong name) (sym (h .0)) (ne, tt), none-named temporary name gs ne (h .1))
 

@@ -1,7 +1,8 @@
 -- Which files a call names to change them, and what an image, or the ledger, says of the file of a name.
-use Prim.Native.Nat.{ℕ}
+use Prim.Native.Nat.{ℕ, _<_}
+use mathlib.Core.Path.{_≡_}
 use mathlib.Core.Logic.{_≢_}
-use mathlib.Core.Bool.{cond}
+use mathlib.Core.Bool.{true, false, cond}
 use mathlib.Core.List.{List, [], _∷_}
 use mathlib.Core.Option.{Option, none, some}
 use lib.Dec.{eqb}
@@ -12,7 +13,7 @@ use Rattle.model.specs.Geometry.{FileNumber}
 use Rattle.model.specs.Disk.{Disk, view}
 use Rattle.model.specs.Entry.{Entry}
 use Rattle.model.specs.Catalogue.{catalogueOf, fileNamed, freeEntry, entryOf, fileBytes}
-use Rattle.model.specs.Ledger.{Ledger, fileOr, Call, Feed, callOf, newEntry, slotNamed}
+use Rattle.model.specs.Ledger.{Ledger, fileOr, holdsName, Call, Feed, callOf, newEntry, slotNamed}
 use Rattle.model.specs.Run.{arguments}
 
 -- a name that is none of these; a call that is not to change the file of that name: summary, check, find and list change none
@@ -50,6 +51,11 @@ contentsIn L (At i) = let f = fileOr (L .slots i) in some (record { entry = f .e
 -- what the ledger says of it
 unfoldable pub fileIn : Ledger → List ℕ → Option Contents
 fileIn L name = contentsIn L (slotNamed L name)
+
+-- no two of its files have one name
+abbrev pub OneName : Ledger → Type 0
+OneName L =
+    (m : List ℕ) (i k : FileNumber) → i < L .geometry .files → k < L .geometry .files → k ≢ i → holdsName m (L .slots i) ≡ true → holdsName m (L .slots k) ≡ false
 
 -- the directory that an image shows: each slot free, or its entry's fields
 abbrev pub directoryOn : List ℕ → FileNumber → Option Entry

@@ -2,7 +2,11 @@
 # make test   proves every crate from nothing, tries the must-fail edits, runs the programs and the tests of the host side
 # make bench  each call beside plain Rust in one run
 # make mutants   every wrong definition of host/definition-edits, with the statement that it makes false (84 of them took 12 minutes)
-.PHONY: demo test bench mutants
+# make install PREFIX=DIR [DESTDIR=DIR]   installs the command, its manual and completion, the header, the library and a pkg-config
+#             file; make uninstall removes them
+PREFIX ?= /usr/local
+DESTDIR ?=
+.PHONY: demo test bench mutants install uninstall
 
 demo:
 	@tests/demo
@@ -17,3 +21,9 @@ bench:
 
 mutants:
 	@cargo run --manifest-path host/Cargo.toml --offline --release --quiet -p definition-edits
+
+install:
+	@packaging/install "$(PREFIX)" "$(DESTDIR)"
+
+uninstall:
+	@packaging/install --remove "$(PREFIX)" "$(DESTDIR)"

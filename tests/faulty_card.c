@@ -8,7 +8,7 @@
  *     cut      the power goes, and every second sector of it gets there; the file $CARD is then what is on the medium
  *     signal   Ctrl-C is pressed, and it goes on
  *
- * With FORGETS=1 the system forgets what it shows when it is asked to (posix_fadvise). Sectors that have not passed a barrier when
+ * With UNREADABLE a sector of it can't be read, with SLOW reads are slow. With FORGETS=1 the system forgets what it shows when it is asked to (posix_fadvise). Sectors that have not passed a barrier when
  * the program ends are lost. */
 #define _GNU_SOURCE
 #include <dlfcn.h>
@@ -104,6 +104,26 @@ ssize_t pwrite64(int file, const void *bytes, size_t count, off64_t at)
     for (i = 0; i < count / SECTOR; i++)
         unwritten[(size_t)at / SECTOR + i] = 1;
     return real_pwrite(file, bytes, count, at);
+}
+
+/* A read of the card's sector $UNREADABLE fails. Each read of the card takes $SLOW milliseconds. */
+ssize_t pread64(int file, void *bytes, size_t count, off64_t at)
+{
+    static ssize_t (*real)(int, void *, size_t, off64_t);
+    const char *unreadable = getenv("UNREADABLE");
+
+    if (real == NULL)
+        *(void **)&real = dlsym(RTLD_NEXT, "pread64");
+    if (getenv("SLOW") != NULL && is_card(file))
+        usleep((useconds_t)atol(getenv("SLOW")) * 1000);
+    if (unreadable != NULL && is_card(file)) {
+        off64_t start = (off64_t)atol(unreadable) * SECTOR;
+        if (at < start + SECTOR && start < at + (off64_t)count) {
+            errno = EIO;
+            return -1;
+        }
+    }
+    return real(file, bytes, count, at);
 }
 
 /* Tells in the file $SYNCED that a folder was synced. */

@@ -37,6 +37,7 @@ impl Arguments {
             match word.as_bytes() {
                 b"--" => arguments.places.extend(words.by_ref().cloned()),
                 b"-h" => arguments.set("help"),
+                b"-p" if known.flags.contains(&"preserve") => arguments.set("preserve"),
                 [b'-', b'-', option @ ..] => {
                     let split = option.iter().position(|byte| *byte == b'=');
                     let (key, value) = match split {
@@ -108,6 +109,12 @@ impl Arguments {
         }
     }
 
+    /// A size or count, which may be given as `64K` or `4M`.
+    pub fn count(&self, key: &str) -> Result<Option<u64>, Failure> {
+        let count = self.word(key).map(count).transpose();
+        count.map_err(|text| Failure::Usage(format!("--{key}: {text}")))
+    }
+
     /// An option's value as it was given.
     pub fn word(&self, key: &str) -> Option<&OsStr> {
         self.options.get(key).map(OsString::as_os_str)
@@ -156,5 +163,68 @@ pub fn number(word: &OsStr, radix: u32, largest: u64) -> Result<u64, String> {
         _ => Err(format!(
             "{text} is not a whole number from 0 to {largest}, in digits only"
         )),
+    }
+}
+
+/// A size or count in a word: digits, and `K`, `M`, `G` or `T` behind them for 1024 and its powers.
+pub fn count(word: &OsStr) -> Result<u64, String> {
+    let text = text::word(word.as_bytes());
+    let Some((digits, shift)) = word.to_str().and_then(split_unit) else {
+        return Err(format!(
+            "{text} is not a whole number, in digits only or with K, M, G or T behind them, as in 64K"
+        ));
+    };
+    let largest = u64::MAX >> shift;
+    match digits.parse::<u64>() {
+        Ok(count) if count <= largest => Ok(count << shift),
+        _ => Err(format!("{text} is too large; {} is the largest", u64::MAX)),
+    }
+}
+
+/// The digits, and the power of two that the unit behind them stands for.
+fn split_unit(word: &str) -> Option<(&str, u32)> {
+    let digits = word.trim_end_matches(|letter: char| letter.is_ascii_alphabetic());
+    let shift = match &word[digits.len()..] {
+        "" => 0,
+        "K" | "k" => 10,
+        "M" | "m" => 20,
+        "G" | "g" => 30,
+        "T" | "t" => 40,
+        _ => return None,
+    };
+    let is_number = !digits.is_empty() && digits.bytes().all(|byte| byte.is_ascii_digit());
+    is_number.then_some((digits, shift))
+}
+
+#[cfg(test)]
+mod tests {
+    use super::*;
+
+    #[test]
+    fn sizes_and_counts() {
+        for (word, expected) in [
+            ("0", Some(0)),
+            ("65536", Some(65_536)),
+            ("64K", Some(65_536)),
+            ("64k", Some(65_536)),
+            ("4M", Some(4 << 20)),
+            ("2G", Some(2 << 30)),
+            ("3T", Some(3 << 40)),
+            ("0T", Some(0)),
+            ("18446744073709551615", Some(u64::MAX)),
+            ("18446744073709551616", None),
+            ("16777215T", Some(0xff_ffff << 40)),
+            ("16777216T", None),
+            ("K", None),
+            ("-1K", None),
+            ("+1K", None),
+            ("1.5M", None),
+            ("4MB", None),
+            ("4 M", None),
+            ("4P", None),
+            ("", None),
+        ] {
+            assert_eq!(count(OsStr::new(word)).ok(), expected, "{word}");
+        }
     }
 }

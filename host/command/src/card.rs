@@ -58,7 +58,8 @@ pub fn read(card: &OsStr, wait: Duration) -> Result<Image, Failure> {
         File::open(card)
     };
     let disk = locked(card, wait, &open, Disk::shared)?;
-    Image::load(&disk).map_err(of_card(card))
+    let mut progress = loading();
+    Image::load_telling(&disk, &mut |done, all| progress.of(done, all)).map_err(of_card(card))
 }
 
 /// Whether the system says that a block device can't be written to. It may be opened all the same,
@@ -134,7 +135,14 @@ pub fn is_same(one: &Metadata, other: &Metadata) -> bool {
     (one.dev(), one.ino()) == (other.dev(), other.ino())
 }
 
+/// How much of a volume is read when it is opened, from a slow card.
+fn loading() -> Progress {
+    Progress::new("bytes of the volume read", 0)
+}
+
 /// The volume for changes.
 pub fn volume(card: &OsStr, wait: Duration) -> Result<Volume<Disk>, Failure> {
-    Volume::open(exclusive(card, wait)?).map_err(of_card(card))
+    let disk = exclusive(card, wait)?;
+    let mut progress = loading();
+    Volume::open_telling(disk, &mut |done, all| progress.of(done, all)).map_err(of_card(card))
 }

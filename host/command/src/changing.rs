@@ -1,6 +1,6 @@
 //! Commands that change a volume: format, rm, mv and recover, and what they share with put and resize.
 
-use std::ffi::OsStr;
+use std::ffi::{OsStr, OsString};
 use std::fs::{self, File};
 use std::io::ErrorKind;
 use std::ops::ControlFlow;
@@ -19,11 +19,12 @@ use goofs::volume::{self, Stage, Volume};
 use crate::arguments::Arguments;
 use crate::card;
 use crate::failure::{
-    not_beside, of_call, of_card, of_file, of_opening, of_rename, quoted, Detail, Failure,
+    not_beside, of_card, of_file, of_names, of_opening, of_rename, of_several, quoted, Detail,
+    Failure,
 };
 use crate::output::{print, sync_folder};
 use crate::progress::Progress;
-use crate::reading::leftovers;
+use crate::reading::{all_there, leftovers};
 use crate::text;
 
 const LARGEST_32: u64 = u32::MAX as u64;
@@ -90,13 +91,26 @@ fn mode(arguments: &Arguments) -> Result<Option<u32>, Failure> {
     Ok(given.map(|mode| mode as u32))
 }
 
+/// The sectors of a format, if they are given, as such or in bytes.
+fn sectors(arguments: &Arguments) -> Result<Option<u64>, Failure> {
+    let usage = |text: &str| Err(Failure::Usage(text.to_string()));
+    match (arguments.count("sectors")?, arguments.count("size")?) {
+        (Some(_), Some(_)) => usage("--sectors and --size say the same; give one of them"),
+        (None, Some(bytes)) if !bytes.is_multiple_of(SECTOR as u64) => usage(
+            "--size: it is no whole number of sectors of 512 bytes; give it as in 4M, or with --sectors",
+        ),
+        (None, Some(bytes)) => Ok(Some(bytes / SECTOR as u64)),
+        (sectors, None) => Ok(sectors),
+    }
+}
+
 pub fn format(arguments: &Arguments) -> Result<(), Failure> {
     let card = &arguments.places(&["CARD"])?[0];
-    let sectors = arguments.number("sectors", 10, u64::MAX)?;
+    let sectors = sectors(arguments)?;
     let wait = arguments.wait()?;
     let mut request = Format {
         sectors: 0,
-        files: arguments.number("files", 10, u64::MAX)?.unwrap_or(255),
+        files: arguments.count("files")?.unwrap_or(255),
         edition: edition(arguments)?,
         id: arguments.number("id", 10, u64::MAX)?.unwrap_or(1),
         mode: mode(arguments)?.unwrap_or(0o755),
@@ -111,7 +125,7 @@ pub fn format(arguments: &Arguments) -> Result<(), Failure> {
     if is_new {
         request.sectors = sectors.ok_or_else(|| {
             Failure::Usage(format!(
-                "{} is not there; to make an image file, --sectors is needed",
+                "{} is not there; to make an image file, --size or --sectors is needed",
                 quoted(card)
             ))
         })?;
@@ -222,11 +236,13 @@ fn format_disk(
         .ok_or_else(|| of_format(card, request)(Refusal::BadArgument))?;
     let records = request.records().map_err(of_format(card, request))?;
     // Without blocks of its own, an image fails when its disk is full, in the middle of a change.
+    let mut taken = Progress::new("bytes taken for the image file", length);
     match arguments.flag("sparse") {
         true => disk.lengthen(length),
-        false => disk.allocate(length),
+        false => disk.allocate_telling(length, &mut |done| taken.at(done)),
     }
     .map_err(of_file(card))?;
+    drop(taken);
     let _held = Held::new();
     let mut progress = Progress::new("records", records);
     volume::format(disk, request, &mut |done| progress.at(done)).map_err(|error| match error {
@@ -341,12 +357,47 @@ impl NewFile {
 }
 
 pub fn rm(arguments: &Arguments) -> Result<(), Failure> {
-    let places = arguments.places(&["CARD", "NAME"])?;
+    let places = arguments.places_or_more(&["CARD", "NAME"])?;
     let time = time(arguments)?;
-    let (card, name) = (&places[0], places[1].as_bytes());
+    let (card, names) = (&places[0], &places[1..]);
+    for (i, name) in names.iter().enumerate() {
+        if names[..i].contains(name) {
+            let name = text::word(name.as_bytes());
+            return Err(Failure::Usage(format!("{name} is given twice")));
+        }
+    }
     let mut volume = card::volume(card, arguments.wait()?)?;
-    let edition = edition_for(card, volume.image().map_err(of_card(card))?, time)?;
-    apply(&mut volume, &[Change::Delete { name, time }]).map_err(of_call(card, name, edition))
+    let image = volume.image().map_err(of_card(card))?;
+    edition_for(card, image, time)?;
+    all_there(card, image, names)?;
+    let removals = names.iter().map(|name| Change::Delete {
+        name: name.as_bytes(),
+        time,
+    });
+    apply(&mut volume, &Vec::from_iter(removals)).map_err(of_removals(card, names))
+}
+
+/// Makes failures of several removals, which say what became of each file.
+fn of_removals<'r>(card: &'r OsStr, names: &'r [OsString]) -> impl Fn(Error) -> Failure + 'r {
+    move |error| {
+        let others = match &error {
+            Error::Stopped { changes_done } => {
+                of_several(names, *changes_done, "Removed", "Not removed")
+            }
+            // Of the one at which the medium failed, the recovery decides.
+            Error::Interrupted(cut) if names.len() > 1 => {
+                let (done, rest) = names.split_at(cut.changes_done.min(names.len() - 1));
+                let sentences = [
+                    of_names("Removed", done),
+                    of_names("Removed or not, as goofs recover finds it", &rest[..1]),
+                    of_names("Not removed", &rest[1..]),
+                ];
+                Vec::from_iter(sentences.into_iter().flatten()).join("\n")
+            }
+            _ => String::new(),
+        };
+        of_card(card)(error).beside_others(others)
+    }
 }
 
 pub fn mv(arguments: &Arguments) -> Result<(), Failure> {
@@ -382,7 +433,7 @@ pub fn recover(arguments: &Arguments) -> Result<(), Failure> {
     let card = &arguments.places(&["CARD"])?[0];
     let mut volume = card::volume(card, arguments.wait()?)?;
     let _held = Held::new();
-    if let Some(budget) = arguments.number("budget", 10, u64::MAX)? {
+    if let Some(budget) = arguments.count("budget")? {
         let written = volume
             .recover_slice(budget)
             .map_err(of_card::<Error>(card))?;

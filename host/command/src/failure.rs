@@ -10,6 +10,7 @@ use goofs::image::Edition;
 use goofs::names;
 
 use crate::card::is_device_name;
+use crate::output::NOT_KEPT;
 use crate::space::Space;
 use crate::text::word;
 
@@ -45,6 +46,11 @@ pub enum Failure {
     Incomplete { file: OsString, error: io::Error },
     /// The standard output.
     Output(io::Error),
+    /// One of several, and a sentence or more on what became of the others.
+    Partly {
+        failure: Box<Failure>,
+        others: String,
+    },
     /// Anything else, as a sentence.
     Other(String),
 }
@@ -74,7 +80,32 @@ impl Failure {
     pub fn status(&self) -> u8 {
         match self {
             Failure::Usage(_) => 2,
+            Failure::Partly { failure, .. } => failure.status(),
             _ => 1,
+        }
+    }
+
+    /// The failure of a command that has set access times before.
+    pub fn after_touch(self) -> Failure {
+        const NOTHING: &str = "Nothing was changed on the card.";
+        let text = self.to_string();
+        match text.contains(NOTHING) {
+            true => Failure::Other(text.replace(
+                NOTHING,
+                "On the card the access times were set, and nothing else was changed.",
+            )),
+            false => self,
+        }
+    }
+
+    /// The failure of one of several.
+    pub fn beside_others(self, others: String) -> Failure {
+        match others.is_empty() {
+            true => self,
+            false => Failure::Partly {
+                failure: Box::new(self),
+                others,
+            },
         }
     }
 
@@ -276,6 +307,22 @@ pub fn of_file(file: &OsStr) -> impl Fn(io::Error) -> Failure + '_ {
     }
 }
 
+/// A sentence that names these files, if there are any.
+pub fn of_names(what: &str, names: &[OsString]) -> Option<String> {
+    let words: Vec<String> = names.iter().map(|name| word(name.as_bytes())).collect();
+    (!words.is_empty()).then(|| format!("{what}: {}.", words.join(" ")))
+}
+
+/// What became of several files of which so many were done, in sentences that begin with these words.
+pub fn of_several(names: &[OsString], done: usize, did: &str, did_not: &str) -> String {
+    if names.len() < 2 {
+        return String::new();
+    }
+    let (first, rest) = names.split_at(done.min(names.len()));
+    let sentences = [of_names(did, first), of_names(did_not, rest)];
+    Vec::from_iter(sentences.into_iter().flatten()).join("\n")
+}
+
 /// A path as a word for the shell, which no command takes for an option.
 pub fn quoted(path: &OsStr) -> String {
     match path.as_bytes() {
@@ -302,8 +349,9 @@ fn after_refusal(refusal: Refusal, card: &str) -> String {
         Refusal::Unfinished => format!("format again: goofs format {card} --yes"),
         Refusal::Waiting => format!("recover first: goofs recover {card}"),
         Refusal::Damaged => format!(
-            "the files can't be read any more. Keep a copy of the card (dd if={card} of=COPY) if \
-             someone is to look at it; then goofs format {card} --yes, and put the files back"
+            "copy the files that are whole: goofs salvage {card} FOLDER. Keep a copy of the card \
+             (dd if={card} of=COPY) if someone is to look at it; then goofs format {card} --yes, and put \
+             the files back"
         ),
         Refusal::NotSound(fault) => {
             let next = match fault.kind {
@@ -350,8 +398,9 @@ fn older(fault: Fault) -> &'static str {
 /// What a person can do about a fault that a repair leaves.
 pub fn not_mended(fault: Fault, card: &str) -> String {
     format!(
-        "goofs repair does not mend this fault. {}Keep a copy of the card (dd if={card} of=COPY) if \
-         someone is to look at it; then goofs format {card} --yes, and put the files back",
+        "goofs repair does not mend this fault. {}Copy the files that are whole: goofs salvage {card} FOLDER. \
+         Keep a copy of the card (dd if={card} of=COPY) if someone is to look at it; then \
+         goofs format {card} --yes, and put the files back",
         older(fault)
     )
 }
@@ -401,6 +450,13 @@ impl fmt::Display for Failure {
     fn fmt(&self, f: &mut fmt::Formatter) -> fmt::Result {
         match self {
             Failure::Usage(text) | Failure::Other(text) => f.write_str(text),
+            Failure::Partly { failure, others } => {
+                let text = failure.to_string();
+                match text.split_once("\nNext: ") {
+                    Some((what, next)) => write!(f, "{what}\n{others}\nNext: {next}"),
+                    None => write!(f, "{text}\n{others}"),
+                }
+            }
             Failure::Open { card, error } => {
                 let (what, next) = opening(error, card);
                 let card = quoted(card);
@@ -427,7 +483,12 @@ impl fmt::Display for Failure {
                     }
                     ErrorKind::AlreadyExists => "name a file that does not exist yet",
                     ErrorKind::IsADirectory => "name a file, not a folder",
+                    ErrorKind::NotADirectory => "name a folder, or one that is not there yet",
                     ErrorKind::StorageFull => "make room on its disk, or name a file on another one",
+                    ErrorKind::InvalidFilename => {
+                        "its disk does not take this name: name a file with another one (--as FILE)"
+                    }
+                    NOT_KEPT => "leave -p out, or name a file elsewhere",
                     _ => "see that this is the right file, and that its disk takes it",
                 }
             ),

@@ -11,36 +11,41 @@ goofs - files on a volume that survives a cut of the power
 
   goofs info CARD                     geometry, areas, state, free room
   goofs check CARD                    whether the volume is sound
+  goofs map CARD [--svg FILE]         the volume as a picture
   goofs ls CARD                       the files
-  goofs get CARD NAME... [--as FILE]  copy files from the card
+  goofs get CARD NAME... [--as FILE]  copy files from the card; --all FOLDER copies every file
   goofs put CARD FILE... [--as NAME]  copy files to the card
-  goofs rm CARD NAME                  remove a file
+  goofs write CARD NAME OFFSET FILE   write into a file
+  goofs rm CARD NAME...               remove files
   goofs mv CARD OLD NEW               give a file another name
   goofs resize CARD NAME SIZE         give a file another size
   goofs recover CARD [--budget N]     finish a change that was cut
   goofs repair CARD [--yes]           free extents that belong to no file
+  goofs salvage CARD FOLDER           copy the whole files of a volume that is not sound
   goofs format CARD [--sectors N]     make an empty volume
   goofs trial CARD CHANGE ...         try a change with cuts of the power, in memory
 
 CARD is an image file or a block device, such as /dev/sdb; lsblk shows which devices there are.
 To begin, in an image file of 4 MiB:
 
-  goofs format card.img --sectors 8192
+  goofs format card.img --size 4M
   goofs put card.img gain.txt
   goofs ls card.img
   goofs get card.img gain.txt --as copy.txt
 
 After a cut of the power: goofs recover CARD, then goofs check CARD.
 
+A size or count may be given as 64K, 4M, 2G or 1T: K is 1024, M 1024 times as much, and so on.
 `goofs COMMAND --help` shows more, `goofs --version` the version. Names that start with a dash go
 behind `--`.
 The exit status is 0 only on success, 1 if it failed, 2 if the command was not understood.
+Long work shows its progress on the standard error, if that is a terminal.
 An error says what happened and what to do next. A number in it, as in `refused (5)`, is that of the
 rules of the volume. A refused command has changed nothing.
 ";
 
 pub const INFO: &str = "\
-goofs info CARD
+goofs info CARD [--json]
 
 Shows the volume's geometry and edition, where each area starts (in sectors), its state, whether it is
 sound, and how many extents are used and free. Each file takes whole extents. It works on a volume in any state and changes nothing. The states:
@@ -48,24 +53,44 @@ sound, and how many extents are used and free. Each file takes whole extents. It
   waiting      a change was cut: goofs recover CARD finishes it
   damaged      the journal's length is one that no change writes
   unfinished   a format was cut: format again
+
+  --json       print it as a JSON object, for a program; JSON.md (in docs, or share/doc/goofs) has its
+               fields
 ";
 
 pub const CHECK: &str = "\
-goofs check CARD
+goofs check CARD [--json]
 
 Says whether the volume is clean and sound. If not, it says which fault it has and where, and the exit
 status is 1. It changes nothing, and does not read the bytes of the files. A file that a put, cut
 short, has left beside another is no fault; it is told with what to do about it.
+  --json      print a JSON object on the standard output, for a program: whether it is sound, the fault,
+              how many files; JSON.md (in docs, or share/doc/goofs) has its fields
+";
+
+pub const MAP: &str = "\
+goofs map CARD [--svg FILE] [--color WHEN]
+
+Shows the volume as a picture: where its areas are, and for each extent which file has it, with a letter
+for each file and a legend. `.` is free, `?` belongs to no file, `#` to one of the files that have no
+letter of their own. On a large volume a sign stands for several extents. It works on a volume that is
+not sound, too, and changes nothing.
+  --svg FILE    draw it into this file, with a square for each extent, for a browser or a report; a FILE
+                that exists is replaced
+  --color WHEN  colours for the files in the terminal: always, never or auto. Else auto: on a terminal,
+                if the environment variable NO_COLOR is not set
 ";
 
 pub const LS: &str = "\
-goofs ls CARD [--accessed] [--numeric] [--touch [--time T]]
+goofs ls CARD [--accessed] [--numeric | --json] [--touch [--time T]]
 
 Lists the files in the directory's order: size, version, id, mode (octal), time of the last change and
 name. A name is printed as a word for the shell, so that it can be given back as it stands there: in
 quotes where it needs them, and as $'...' where it has bytes that a terminal does not show.
   --accessed  the time of the last access in the place of that of the last change
   --numeric   the times in seconds since 1970; else day and time in UTC
+  --json      print a JSON object, for a program: a name that is no text is there as hexadecimal digits;
+              JSON.md (in docs, or share/doc/goofs) has its fields
   --touch     set the access time of the directory, the root's, which info shows; without a file it
               stays. The card is then opened for writing, and no one else may have it open
   --time T    with --touch, this time, in seconds since 1970, on edition 1 up to 4294967295; else now
@@ -78,14 +103,22 @@ error, too, with what to do about it.
 ";
 
 pub const GET: &str = "\
-goofs get CARD NAME... [--as FILE] [--touch [--time T]]
+goofs get CARD NAME... [--as FILE] [-p] [--touch [--time T]]
+goofs get CARD --all FOLDER [--replace] [-p] [--touch [--time T]]
 
-Copies files from the card: one to the standard output, or several into a folder.
-  --as FILE   to this file; a FILE that exists is replaced. If FILE is a folder, each file goes into it
-              under the name that it has on the card; `-` is the standard output
-  --touch     set the access time of each file, which ls --accessed shows, before the first is copied.
-              The card is then opened for writing, and no one else may have it open
-  --time T    with --touch, this time, in seconds since 1970, on edition 1 up to 4294967295; else now
+Copies files from the card: one to the standard output, or several into a folder. If one of the names
+is not there, nothing is copied; if a copy fails later, it says which files are copied, each whole.
+  --as FILE     to this file; a FILE that exists is replaced. If FILE is a folder, each file goes into it
+                under the name that it has on the card; `-` is the standard output
+  --all FOLDER  every file into this folder, which is made if it is not there. If a file there would be
+                written over, it says so and copies nothing
+  --replace     with --all, replace such files, and say which
+  -p, --preserve
+                the copy keeps the time of the file's last change, that of its last access, and of its
+                mode who may read, write and run it
+  --touch       set the access time of each file, which ls --accessed shows, before the first is copied.
+                The card is then opened for writing, and no one else may have it open
+  --time T      with --touch, this time, in seconds since 1970, on edition 1 up to 4294967295; else now
 
 Without --touch the card is opened for reading only and no access time is set, as on a file system that
 is mounted with noatime.
@@ -93,6 +126,12 @@ is mounted with noatime.
 The bytes are written beside FILE (to .goofs-NUMBER-0, which a kill may leave behind), and take its
 name when all of them are on its disk. Until then a FILE that exists stays as it was. A FILE is named
 by --as only, so that `goofs get CARD *.cal` never writes over one of the files that the shell found.
+
+With --all, a name that a folder can't hold is escaped, and told. Percent-decoding, as for the path of a
+URL, gives it back: a slash, and what a terminal does not show, is % and two hexadecimal digits for each
+byte; so are the names . and .. and, on a disk that does not take them, the signs \"*:<>?\\| and a dot or
+space at the end; % itself is %25 where two such digits or a + follow it. A name that has more than 255
+bytes then is cut: each part but the last has %+ behind it and is a folder for the next.
 ";
 
 pub const PUT: &str = "\
@@ -123,11 +162,29 @@ changed. Then one file after the other is saved. A FILE is read into memory, and
 is room for it on the card.
 ";
 
-pub const RM: &str = "\
-goofs rm CARD NAME [--time T]
+pub const WRITE: &str = "\
+goofs write CARD NAME OFFSET FILE [--time T]
 
-Removes the file. Its extents are free at once.
+Writes the bytes of FILE into the file NAME on the card, from byte OFFSET on, which is at most the
+file's size; `-` as FILE is the standard input. Bytes before and behind them stay, and the file grows
+where they reach past its end. OFFSET may be given as in 64K.
   --time T    the time of the change, in seconds since 1970, on edition 1 up to 4294967295; else now
+
+More than 65536 bytes are several changes, one after the other. All are tried in memory first: if one is
+refused, for want of room too, nothing is changed. After a cut of the power and `goofs recover`, each of
+them is done or not; of one that is not, sectors up to the old size may hold their new bytes. Give the
+command again then: it writes the same bytes. To have the old file or the new one whole: goofs put.
+";
+
+pub const RM: &str = "\
+goofs rm CARD NAME... [--time T]
+
+Removes files. Their extents are free at once.
+  --time T    the time of the change, in seconds since 1970, on edition 1 up to 4294967295; else now
+
+Each file is removed by a change of its own, whole or not at all, in the order of the NAMEs. All are
+tried in memory first: if one of the names is not there, nothing is removed. If the card fails, or
+Ctrl-C is pressed, in the middle, it says which files are removed and which are not.
 ";
 
 pub const MV: &str = "\
@@ -146,7 +203,7 @@ it.
 pub const RESIZE: &str = "\
 goofs resize CARD NAME SIZE [--time T]
 
-Gives the file another size, in bytes. What is added is zero.
+Gives the file another size, in bytes, or as in 64K or 4M. What is added is zero.
   --time T    the time of the change, in seconds since 1970, on edition 1 up to 4294967295; else now
 
 A file grows by at most 65536 bytes at a time, so growing by more is several changes, one after the
@@ -178,13 +235,37 @@ exit status is 1.
   --yes        do not ask
 ";
 
-pub const FORMAT: &str = "\
-goofs format CARD [--sectors N] [--files F] [--edition E] [--id ID] [--mode M] [--time T] [--sparse]
-             [--yes]
+pub const SALVAGE: &str = "\
+goofs salvage CARD FOLDER [--replace] [-p]
 
-Makes an empty volume. A CARD that isn't there is made, as an image file; then --sectors is needed.
+For a volume that is not sound, of which get copies nothing. Copies every file that is whole into
+FOLDER, which is made if it is not there, and lists what is not whole and why. The card is only read. If
+something is not whole, the exit status is 1.
+  --replace       replace files in FOLDER, and say which; else nothing is copied if one is there
+  -p, --preserve  the copies keep the times of the files, and of their modes who may read, write and run
+                  them
+
+A file is whole if none of the faults 21 to 24 and 26 is at its directory entry: the entry is marked as
+occupied; its name has 1 to 476 bytes (468 in edition 2), none of them 0; its size is one that the
+volume's extents hold; no occupied entry of lower index has its name or its id, and the id is neither 0
+nor the root's; the table gives it exactly one extent for each of its places, and no others. Its bytes
+are copied as they stand there: nothing on a volume tells whether they are right. A file that the medium
+does not give is listed, too.
+
+A change that was cut is finished first, in memory. Where the journal is damaged, that can't be done:
+then a change may be half done, which is told. An unfinished volume is refused, as its directory may be
+that of another format. Names are escaped as by goofs get --all.
+";
+
+pub const FORMAT: &str = "\
+goofs format CARD [--sectors N | --size B] [--files F] [--edition E] [--id ID] [--mode M] [--time T]
+             [--sparse] [--yes]
+
+Makes an empty volume. A CARD that isn't there is made, as an image file; then --size or --sectors is
+needed.
   --sectors N  the sectors of 512 bytes, 2048 for each MiB; at least 1057 for 255 files; else all of
-               CARD. An image file that is shorter is made longer.
+               CARD. An image file that is shorter is made longer. 8K is 8192 sectors
+  --size B     the same in bytes, a multiple of 512: 4M is 8192 sectors
   --files F    the most files it can hold, 255 to 65535; else 255
   --edition E  1, whose times end in the year 2106, or 2, whose times have 64 bits and whose names have
                at most 468 bytes; else 1. A goofs of before edition 2 refuses such a card (2), and no

@@ -6,15 +6,24 @@
 mod arguments;
 mod card;
 mod changing;
+mod copying;
+mod escape;
 mod failure;
+mod folder;
 mod help;
+mod json;
+mod map;
 mod output;
+mod picture;
 mod progress;
 mod reading;
 mod repairing;
+mod salvaging;
 mod space;
+mod svg;
 mod text;
 mod trial;
+mod write_at;
 mod writing;
 
 use std::env;
@@ -51,17 +60,24 @@ const fn command(
     }
 }
 
-const COMMANDS: [Command; 12] = [
-    command("info", help::INFO, &[], &[], reading::info),
-    command("check", help::CHECK, &[], &[], reading::check),
+const COMMANDS: [Command; 15] = [
+    command("info", help::INFO, &[], &["json"], reading::info),
+    command("check", help::CHECK, &[], &["json"], reading::check),
+    command("map", help::MAP, &["color", "svg"], &[], map::map),
     command(
         "ls",
         help::LS,
         &["time"],
-        &["accessed", "numeric", "touch"],
+        &["accessed", "json", "numeric", "touch"],
         reading::ls,
     ),
-    command("get", help::GET, &["as", "time"], &["touch"], reading::get),
+    command(
+        "get",
+        help::GET,
+        &["all", "as", "time"],
+        &["preserve", "replace", "touch"],
+        copying::get,
+    ),
     command(
         "put",
         help::PUT,
@@ -69,6 +85,7 @@ const COMMANDS: [Command; 12] = [
         &["in-place"],
         writing::put,
     ),
+    command("write", help::WRITE, &["time"], &[], write_at::write),
     command("rm", help::RM, &["time"], &[], changing::rm),
     command("mv", help::MV, &["time"], &[], changing::mv),
     command("resize", help::RESIZE, &["time"], &[], writing::resize),
@@ -81,9 +98,16 @@ const COMMANDS: [Command; 12] = [
     ),
     command("repair", help::REPAIR, &[], &["yes"], repairing::repair),
     command(
+        "salvage",
+        help::SALVAGE,
+        &[],
+        &["preserve", "replace"],
+        salvaging::salvage,
+    ),
+    command(
         "format",
         help::FORMAT,
-        &["sectors", "files", "edition", "id", "mode", "time"],
+        &["sectors", "size", "files", "edition", "id", "mode", "time"],
         &["sparse", "yes"],
         changing::format,
     ),
@@ -163,4 +187,30 @@ fn run(given: Vec<OsString>) -> Result<(), Failure> {
             false => (command.run)(&arguments),
         })
         .map_err(|failure| failure.with_usage(command.name, command.help))
+}
+
+#[cfg(test)]
+mod tests {
+    use super::*;
+
+    /// Each command is in the overview, and each of its options in its usage or with a line of its own.
+    #[test]
+    fn every_option_has_help() {
+        for Command {
+            name, help, known, ..
+        } in &COMMANDS
+        {
+            assert!(
+                help::OVERVIEW.contains(&format!("\n  goofs {name} CARD")),
+                "{name}"
+            );
+            assert!(help.starts_with(&format!("goofs {name} CARD")), "{name}");
+            for option in known.options.iter().chain(known.flags) {
+                let option = format!("--{option}");
+                assert!(help.contains(&option), "{name} {option}");
+            }
+            let longest = help.lines().map(str::len).max();
+            assert!(longest < Some(150), "{name}");
+        }
+    }
 }

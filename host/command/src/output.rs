@@ -2,13 +2,17 @@
 //! their entry in the folder when the command has ended.
 
 use std::ffi::OsStr;
-use std::fs::{self, File, Metadata, OpenOptions};
+use std::fs::{self, File, FileTimes, Metadata, OpenOptions, Permissions};
 use std::io::{self, ErrorKind, Seek, SeekFrom, Write};
-use std::os::unix::fs::{fchown, MetadataExt};
+use std::os::unix::fs::{fchown, MetadataExt, PermissionsExt};
 use std::path::{Path, PathBuf};
 use std::process;
+use std::time::{Duration, UNIX_EPOCH};
+
+use goofs::image::Entry;
 
 use crate::failure::{of_file, Failure};
+use crate::text::time;
 
 /// As many links in a row as the system follows.
 const LINKS: usize = 40;
@@ -30,19 +34,80 @@ pub fn print_error(text: &str) {
     let _ = io::stderr().write_all(text.as_bytes());
 }
 
+/// What a copy keeps of a file on the card.
+#[derive(Clone, Copy)]
+pub struct Kept {
+    change_time: u64,
+    access_time: u64,
+    mode: u32,
+}
+
+impl Kept {
+    pub fn of(file: &Entry) -> Kept {
+        Kept {
+            change_time: file.change_time,
+            access_time: file.access_time,
+            // Who may read, write and run it; what else a mode may say has no meaning on a card.
+            mode: file.mode & 0o777,
+        }
+    }
+
+    /// Sets it, and makes sure of the time: some disks store another than they are given.
+    fn set(self, file: &File) -> io::Result<()> {
+        file.set_permissions(Permissions::from_mode(self.mode))?;
+        let at = |seconds| UNIX_EPOCH.checked_add(Duration::from_secs(seconds));
+        let set =
+            at(self.change_time)
+                .zip(at(self.access_time))
+                .is_some_and(|(changed, accessed)| {
+                    let times = FileTimes::new()
+                        .set_modified(changed)
+                        .set_accessed(accessed);
+                    let now = file.set_times(times).and_then(|()| file.metadata());
+                    now.and_then(|now| now.modified())
+                        .is_ok_and(|now| now == changed)
+                });
+        match set {
+            true => Ok(()),
+            false => Err(io::Error::new(
+                NOT_KEPT,
+                format!(
+                    "its disk does not store the time {}",
+                    time(self.change_time)
+                ),
+            )),
+        }
+    }
+}
+
+/// A time that can't be kept.
+pub const NOT_KEPT: ErrorKind = ErrorKind::InvalidData;
+
+/// As `save`, but nothing may stand there, and the caller syncs the folder when all files are in it.
+pub fn save_new(path: &OsStr, contents: &[u8], kept: Option<Kept>) -> Result<(), Failure> {
+    replace(Path::new(path), None, contents, kept).map_err(of_file(path))
+}
+
 /// Writes the contents to a file. They are written beside it first and take its name when they are
 /// on the medium: until then, what stood there stays.
-pub fn save(path: &OsStr, contents: &[u8]) -> Result<(), Failure> {
+pub fn save(path: &OsStr, contents: &[u8], kept: Option<Kept>) -> Result<(), Failure> {
     let old = match fs::metadata(path) {
         Err(error) if error.kind() == ErrorKind::NotFound => None,
         old => Some(old.map_err(of_file(path))?),
     };
     if old.as_ref().is_none_or(Metadata::is_file) {
         return linked(path)
-            .and_then(|file| replace(&file, old.as_ref(), contents))
+            .and_then(|file| {
+                replace(&file, old.as_ref(), contents, kept)?;
+                sync_folder(&file)
+            })
             .map_err(of_file(path));
     }
     // A terminal, a pipe or a device.
+    if kept.is_some() {
+        let error = io::Error::new(NOT_KEPT, "it is no file, and keeps no time");
+        return Err(of_file(path)(error));
+    }
     let mut file = OpenOptions::new()
         .write(true)
         .open(path)
@@ -69,7 +134,12 @@ fn linked(path: &OsStr) -> io::Result<PathBuf> {
     Err(io::Error::other("too many links one after the other"))
 }
 
-fn replace(path: &Path, old: Option<&Metadata>, contents: &[u8]) -> io::Result<()> {
+fn replace(
+    path: &Path,
+    old: Option<&Metadata>,
+    contents: &[u8],
+    kept: Option<Kept>,
+) -> io::Result<()> {
     if old.is_some() {
         // A file that may not be written to must not be replaced either.
         OpenOptions::new().write(true).open(path)?;
@@ -78,14 +148,20 @@ fn replace(path: &Path, old: Option<&Metadata>, contents: &[u8]) -> io::Result<(
     let written = file
         .write_all(contents)
         .and_then(|()| old.map_or(Ok(()), |old| like(&file, old)))
+        .and_then(|()| kept.map_or(Ok(()), |kept| kept.set(&file)))
         .and_then(|()| file.sync_all())
-        .and_then(|()| fs::rename(&beside, path));
+        .and_then(
+            |()| match old.is_none() && fs::symlink_metadata(path).is_ok() {
+                // It came there meanwhile, or is the same name for this file system.
+                true => Err(ErrorKind::AlreadyExists.into()),
+                false => fs::rename(&beside, path),
+            },
+        );
     if written.is_err() {
         // Best effort; the failure is reported anyway.
         let _ = fs::remove_file(&beside);
     }
-    written?;
-    sync_folder(path)
+    written
 }
 
 /// A new file in the same folder, so that it can take the other's name.
@@ -150,7 +226,8 @@ pub fn sync_folder(path: &Path) -> io::Result<()> {
     File::open(folder_of(path))?.sync_all()
 }
 
-fn folder_of(path: &Path) -> &Path {
+/// The folder that a file stands in.
+pub fn folder_of(path: &Path) -> &Path {
     match path.parent() {
         Some(folder) if folder != Path::new("") => folder,
         Some(_) => Path::new("."),

@@ -1,32 +1,30 @@
-//! The commands that read: info, check, ls and get. Only ls and get with `--touch` change a card, and
-//! only an access time.
+//! The commands that read: info, check and ls. Only ls with `--touch`, as get, changes a card, and only
+//! an access time.
 
 use std::ffi::{OsStr, OsString};
 use std::fmt::Write as _;
-use std::fs;
-use std::io::ErrorKind;
 use std::os::unix::ffi::OsStrExt;
-use std::path::{Component, Path};
 
-use goofs::change::Change;
-use goofs::device::Disk;
 use goofs::error::{Error, Refusal};
 use goofs::image::{Edition, Entry, Image, State};
 use goofs::names;
 use goofs::system::Held;
-use goofs::volume::Volume;
 
 use crate::arguments::Arguments;
 use crate::card;
-use crate::changing::{apply, edition_for, time};
-use crate::failure::{of_call, of_card, of_file, quoted, Failure};
-use crate::output::{print, print_bytes, print_error, save};
+use crate::changing::{edition_for, time};
+use crate::failure::{of_call, of_card, quoted, Failure};
+use crate::json;
+use crate::output::{print, print_error};
 use crate::space::Space;
 use crate::text;
 
 pub fn info(arguments: &Arguments) -> Result<(), Failure> {
     let card = &arguments.places(&["CARD"])?[0];
     let image = card::read(card, arguments.wait()?)?;
+    if arguments.flag("json") {
+        return print(&format!("{}\n", json::info(&image)));
+    }
     let summary = image.summary();
     let root = image.root();
     let state = match summary.state {
@@ -121,8 +119,15 @@ pub fn info(arguments: &Arguments) -> Result<(), Failure> {
 
 pub fn check(arguments: &Arguments) -> Result<(), Failure> {
     let card = &arguments.places(&["CARD"])?[0];
-    let image = card::read(card, arguments.wait()?)?;
-    let files = image.entries().map_err(of_card(card))?;
+    let image = card::read(card, arguments.wait()?);
+    let files = image.and_then(|image| image.entries().map_err(of_card(card)));
+    if arguments.flag("json") {
+        if let Some(said) = json::check(&files) {
+            print(&format!("{said}\n"))?;
+        }
+        return files.map(drop);
+    }
+    let files = files?;
     let left = leftovers(card, &files);
     print(&format!("sound, {} files\n{left}", files.len()))
 }
@@ -142,7 +147,7 @@ pub fn leftovers(card: &OsStr, files: &[Entry]) -> String {
 }
 
 /// The time to be set as access time, if one is.
-fn touch(arguments: &Arguments) -> Result<Option<u64>, Failure> {
+pub fn touch(arguments: &Arguments) -> Result<Option<u64>, Failure> {
     if arguments.flag("touch") {
         return time(arguments).map(Some);
     }
@@ -166,13 +171,22 @@ fn files(arguments: &Arguments, card: &OsStr) -> Result<Vec<Entry>, Failure> {
 
 pub fn ls(arguments: &Arguments) -> Result<(), Failure> {
     let card = &arguments.places(&["CARD"])?[0];
+    let is_json = arguments.flag("json");
+    if is_json && (arguments.flag("accessed") || arguments.flag("numeric")) {
+        return Err(Failure::Usage(
+            "--json has both times, in seconds; leave --accessed and --numeric out".to_string(),
+        ));
+    }
     let files = files(arguments, card)?;
     let shown = |seconds: u64| match arguments.flag("numeric") {
         true => seconds.to_string(),
         false => text::time(seconds),
     };
     let mut lines = String::new();
-    for entry in &files {
+    if is_json {
+        let _ = writeln!(lines, "{}", json::ls(&files));
+    }
+    for entry in files.iter().filter(|_| !is_json) {
         let (what, time) = match arguments.flag("accessed") {
             true => ("accessed", entry.access_time),
             false => ("changed", entry.change_time),
@@ -194,121 +208,12 @@ pub fn ls(arguments: &Arguments) -> Result<(), Failure> {
     Ok(())
 }
 
-pub fn get(arguments: &Arguments) -> Result<(), Failure> {
-    let places = arguments.places_or_more(&["CARD", "NAME"])?;
-    let (card, names) = (&places[0], &places[1..]);
-    let to = arguments.word("as").filter(|to| *to != "-");
-    let folder = to.filter(|to| Path::new(to).is_dir());
-    if names.len() > 1 && folder.is_none() {
-        return Err(Failure::Usage(match to {
-            Some(to) => format!("several files go into a folder, and {} is none", quoted(to)),
-            None => "several files need --as FOLDER; one file goes to another name with --as FILE"
-                .to_string(),
-        }));
-    }
-    let targets: Vec<Option<OsString>> = names
-        .iter()
-        .map(|name| match folder {
-            Some(folder) => in_folder(folder, name).map(Some),
-            None => Ok(to.map(OsStr::to_owned)),
-        })
-        .collect::<Result<_, _>>()?;
-    for target in targets.iter().flatten() {
-        may_be_written(card, target)?;
-    }
-    let opened = opened(arguments, card, names)?;
-    let contents = |name: &OsStr| {
-        let image = opened.image().map_err(of_card::<Error>(card))?;
-        let failure = of_call(card, name.as_bytes(), image.summary().edition);
-        image.contents(name.as_bytes()).map_err(failure)
-    };
-    if let [name] = names {
-        let contents = contents(name)?;
-        // The lock is given back first: who reads the output may take any time.
-        drop(opened);
-        return match &targets[0] {
-            Some(file) => save(file, &contents),
-            None => print_bytes(&contents),
-        };
-    }
-    for (name, target) in names.iter().zip(targets.iter().flatten()) {
-        save(target, &contents(name)?)?;
-    }
-    Ok(())
-}
-
-/// What files are read from.
-enum Opened {
-    Image(Image),
-    Volume(Volume<Disk>),
-}
-
-impl Opened {
-    fn image(&self) -> Result<&Image, Error> {
-        match self {
-            Opened::Image(image) => Ok(image),
-            Opened::Volume(volume) => volume.image(),
-        }
-    }
-}
-
-/// Opens the card with these files, and with `--touch` sets their access times. A name that isn't there
-/// is found out first.
-fn opened(arguments: &Arguments, card: &OsStr, names: &[OsString]) -> Result<Opened, Failure> {
-    let wait = arguments.wait()?;
-    let Some(time) = touch(arguments)? else {
-        let image = card::read(card, wait)?;
-        all_there(card, &image, names)?;
-        return Ok(Opened::Image(image));
-    };
-    let mut volume = card::volume(card, wait)?;
-    let image = volume.image().map_err(of_card(card))?;
-    edition_for(card, image, time)?;
-    all_there(card, image, names)?;
-    let names = names.iter().map(|name| name.as_bytes());
-    let touches: Vec<Change> = names.map(|name| Change::Touch { name, time }).collect();
-    apply(&mut volume, &touches).map_err(of_card::<Error>(card))?;
-    Ok(Opened::Volume(volume))
-}
-
-fn all_there(card: &OsStr, image: &Image, names: &[OsString]) -> Result<(), Failure> {
+/// Finds out the first name that no file has.
+pub fn all_there(card: &OsStr, image: &Image, names: &[OsString]) -> Result<(), Failure> {
     let edition = image.summary().edition;
     for name in names {
         let name = name.as_bytes();
         image.find(name).map_err(of_call(card, name, edition))?;
     }
     Ok(())
-}
-
-/// The file in the folder with the name that it has on the card.
-fn in_folder(folder: &OsStr, name: &OsStr) -> Result<OsString, Failure> {
-    // A name on the card may have slashes, or be `..`: it could lead out of the folder.
-    let mut parts = Path::new(name).components();
-    let first = parts.next();
-    if first != Some(Component::Normal(name)) || parts.next().is_some() {
-        return Err(Failure::Usage(format!(
-            "{} can't be the name of a file in a folder; give it alone, with --as FILE",
-            text::word(name.as_bytes())
-        )));
-    }
-    Ok(Path::new(folder).join(name).into())
-}
-
-fn may_be_written(card: &OsStr, file: &OsStr) -> Result<(), Failure> {
-    let found = fs::metadata(file);
-    if let (Ok(one), Ok(other)) = (fs::metadata(card), &found) {
-        if card::is_same(&one, other) {
-            return Err(Failure::Other(format!(
-                "{} is the card itself. Nothing was changed.\nNext: name another file to write to.",
-                quoted(file)
-            )));
-        }
-    }
-    match found {
-        Ok(metadata) if metadata.is_dir() => Err(of_file(file)(ErrorKind::IsADirectory.into())),
-        Err(_) if file.is_empty() || file.as_bytes().ends_with(b"/") => {
-            Err(of_file(file)(ErrorKind::NotFound.into()))
-        }
-        _ => Ok(()),
-    }
 }

@@ -18,7 +18,7 @@ fn is_plain(letter: char) -> bool {
 }
 
 /// Not control characters, nor those that change the direction of the text or take no room.
-fn is_shown(letter: char) -> bool {
+pub fn is_shown(letter: char) -> bool {
     "'\"\\".contains(letter) || letter.escape_debug().len() == 1
 }
 

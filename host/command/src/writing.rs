@@ -18,12 +18,13 @@ use crate::failure::{
     in_place_instead, no_room, no_room_for_both, not_beside, of_call, of_card, of_file, of_new,
     quoted, Failure,
 };
+use crate::progress::Progress;
 use crate::space::Space;
 use crate::text;
 
 /// A size, offset or the like among the places.
 pub fn size(word: &OsStr) -> Result<u64, Failure> {
-    arguments::number(word, 10, u64::MAX).map_err(Failure::Usage)
+    arguments::count(word).map_err(Failure::Usage)
 }
 
 /// A file beside the card and the name that it gets there.
@@ -81,23 +82,38 @@ impl Source<'_> {
 }
 
 /// A file's bytes, but no more than these; none if it has more. `-` is the standard input.
-fn contents(file: &OsStr, most: u64) -> io::Result<Option<Vec<u8>>> {
-    let mut bytes = Vec::new();
-    let longest = most.saturating_add(1);
+pub fn contents(file: &OsStr, most: u64) -> io::Result<Option<Vec<u8>>> {
     if file == "-" {
-        io::stdin().lock().take(longest).read_to_end(&mut bytes)?;
-    } else {
-        let file = File::open(file)?;
-        // Only a regular file has a length; it need not be read to know that it is too long.
-        if file.metadata()?.len() > most {
-            return Ok(None);
-        }
-        file.take(longest).read_to_end(&mut bytes)?;
+        return read(io::stdin().lock(), 0, most);
     }
-    Ok((bytes.len() as u64 <= most).then_some(bytes))
+    let file = File::open(file)?;
+    // Only a regular file has a length; it need not be read to know that it is too long.
+    let length = file.metadata()?.len();
+    if length > most {
+        return Ok(None);
+    }
+    read(file, length, most)
 }
 
-fn of_source(file: &OsStr) -> impl Fn(io::Error) -> Failure + '_ {
+/// All bytes of a file of this length, which is 0 if it is not known, unless there are more than these.
+fn read(source: impl Read, length: u64, most: u64) -> io::Result<Option<Vec<u8>>> {
+    let mut progress = Progress::new("bytes read", length);
+    let mut source = source.take(most.saturating_add(1));
+    let mut piece = vec![0; 1 << 18];
+    let mut bytes = Vec::new();
+    loop {
+        // As much as there is at the time: a pipe may be slow.
+        match source.read(&mut piece) {
+            Err(error) if error.kind() == ErrorKind::Interrupted => (),
+            Err(error) => return Err(error),
+            Ok(0) => return Ok((bytes.len() as u64 <= most).then_some(bytes)),
+            Ok(count) => bytes.extend(&piece[..count]),
+        }
+        progress.at(bytes.len() as u64);
+    }
+}
+
+pub fn of_source(file: &OsStr) -> impl Fn(io::Error) -> Failure + '_ {
     of_file(match file == "-" {
         true => OsStr::new("standard input"),
         false => file,

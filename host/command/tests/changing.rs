@@ -66,6 +66,40 @@ fn format_makes_an_empty_volume() {
     );
 }
 
+/// A size in bytes, and counts with a unit.
+#[test]
+fn format_by_size() {
+    let folder = Folder::new("format-size");
+    let by_sectors = folder.file("by-sectors");
+    good(
+        "format",
+        &by_sectors,
+        &["--sectors=8192", "--files=1024", "--time=5"],
+    );
+    for (name, options) in [
+        ("by-size", ["--size=4M", "--files=1K", "--time=5"]),
+        ("by-count", ["--sectors=8K", "--files=1k", "--time=5"]),
+    ] {
+        let card = folder.file(name);
+        good("format", &card, &options);
+        assert!(fs::read(&card).unwrap() == fs::read(&by_sectors).unwrap());
+    }
+    let new = folder.file("new");
+    for (options, what) in [
+        (&["--size=4M", "--sectors=8192"][..], "give one of them"),
+        (&["--size=1000001"], "no whole number of sectors"),
+        (&[], "--size or --sectors is needed"),
+        (&["--size=4X"], "--size: 4X is not a whole number"),
+    ] {
+        let err = bad("format", &new, options, 2);
+        assert!(err.contains(what), "{err}");
+    }
+    assert!(!new.exists());
+    // No file is made, and a slice of a recovery takes a count, too.
+    assert!(bad("format", &new, &["--size=512"], 1).contains("too few"));
+    good("recover", &by_sectors, &["--budget=1K"]);
+}
+
 #[test]
 fn format_takes_care_of_what_is_there() {
     let folder = Folder::new("care");
@@ -107,7 +141,7 @@ fn files_are_removed() {
     create(&card, b"g", 3);
     assert!(bad("rm", &card, &["h"], 1).contains("refused (9)"));
     bad("rm", &card, &["f", "--time", "18446744073709551616"], 2);
-    bad("rm", &card, &["f", "g"], 2);
+    bad("rm", &card, &["f", "f"], 2);
     good("rm", &card, &["f", "--time", "11"]);
     let ls = good("ls", &card, &[]);
     assert!(ls.ends_with("  g\n") && ls.lines().count() == 1, "{ls}");

@@ -504,7 +504,8 @@ fn help_for_each_command() {
     let overview = goofs(&["--help"]);
     assert_eq!(overview.status, 0);
     for command in [
-        "info", "check", "ls", "get", "put", "rm", "mv", "resize", "recover", "format", "trial",
+        "info", "check", "map", "ls", "get", "put", "write", "rm", "mv", "resize", "recover",
+        "repair", "salvage", "format", "trial",
     ] {
         let said = goofs(&[command, "--help"]);
         assert_eq!(said.status, 0);

@@ -37,6 +37,13 @@ fn the_session_is_real() {
             .expect("a command stands before its output");
         let end = rest.iter().position(|line| line.starts_with("$ "));
         let (expected, next) = rest.split_at(end.unwrap_or(rest.len()));
+        // The first line installs the command; tests/install runs it.
+        if commands == 0 {
+            assert!(words.starts_with("make install "), "{words}");
+            lines = next;
+            commands += 1;
+            continue;
+        }
         let said = run(Command::new("sh")
             .args(["-c", &format!("{words} 2>&1")])
             .env("PATH", &path)
@@ -60,7 +67,7 @@ fn the_table_is_complete() {
         .filter(|line| line.contains(" CARD"))
         .map(|line| line.split("  ").next().unwrap())
         .collect();
-    assert_eq!(usages.len(), 12);
+    assert_eq!(usages.len(), 15);
     for usage in usages {
         let line = format!("| `goofs {usage}` |");
         assert!(section().contains(&line), "{line}");

@@ -209,10 +209,19 @@ fn sizes_change() {
     good("resize", &card, &["f", "10"]);
     assert_eq!(get(&card, "f"), pattern(10, 1));
     good("resize", &card, &["f", "10"]);
-    for size in ["196609", "18446744073709551615"] {
+    for size in ["196609", "18446744073709551615", "1M"] {
         assert!(bad("resize", &card, &["f", size], 1).contains("refused (13)"));
     }
-    bad("resize", &card, &["f", "ten"], 2);
+    good("resize", &card, &["f", "64K"]);
+    assert_eq!(get(&card, "f").len(), 65_536);
+    for (size, what) in [
+        ("ten", "ten is not a whole number"),
+        ("4X", "with K, M, G or T behind them"),
+        ("16777216T", "is too large"),
+    ] {
+        let err = bad("resize", &card, &["f", size], 2);
+        assert!(err.contains(what), "{err}");
+    }
     bad("resize", &card, &["f", "-1"], 2);
 }
 

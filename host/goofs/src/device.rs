@@ -153,13 +153,23 @@ impl Disk {
     /// for want of room; a shorter file becomes so long. If there is no room, the file has its old
     /// length. A block device stays as it is.
     pub fn allocate(&mut self, length: u64) -> io::Result<()> {
+        self.allocate_telling(length, &mut |_| ())
+    }
+
+    /// As `allocate`. Where the file system can't be asked for blocks, zeros are written, and `progress` is
+    /// given where that has come to.
+    pub fn allocate_telling(
+        &mut self,
+        length: u64,
+        progress: &mut dyn FnMut(u64),
+    ) -> io::Result<()> {
         if !self.file.metadata()?.is_file() {
             return Ok(());
         }
         let before = self.length;
         let allocated = system::allocate(&self.file, length).and_then(|asked| match asked {
             true => Ok(()),
-            false => self.fill(before, length),
+            false => self.fill(before, length, progress),
         });
         if let Err(error) = allocated {
             // Best effort; the failure is told anyway.
@@ -171,7 +181,7 @@ impl Disk {
     }
 
     /// Writes zeros there. What a file has before them keeps its holes.
-    fn fill(&self, start: u64, end: u64) -> io::Result<()> {
+    fn fill(&self, start: u64, end: u64, progress: &mut dyn FnMut(u64)) -> io::Result<()> {
         const PIECE: usize = 1 << 20;
         let zeros = vec![0; PIECE];
         let mut at = start;
@@ -179,6 +189,7 @@ impl Disk {
             let count = (end - at).min(PIECE as u64) as usize;
             self.file.write_all_at(&zeros[..count], at)?;
             at += count as u64;
+            progress(at);
         }
         Ok(())
     }

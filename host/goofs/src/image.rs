@@ -15,14 +15,14 @@ pub const LONGEST_TRANSFER: usize = 65_536;
 
 pub(crate) const JOURNAL_SECTORS: u64 = 32;
 pub(crate) const ENTRIES_IN_TABLE_SECTOR: u64 = 128;
-const DIRECTORY_AT: usize = 2;
+pub(crate) const DIRECTORY_AT: usize = 2;
 /// Where the two times start in the root and in a directory entry.
 const ROOT_TIMES: usize = 16;
 const ENTRY_TIMES: usize = 26;
-const NO_FILE: [u8; 2] = [255, 255];
+pub(crate) const NO_FILE: [u8; 2] = [255, 255];
 /// The mark of an occupied entry.
 pub(crate) const OCCUPIED: [u8; 2] = [255, 255];
-const FREE: [u8; 2] = [0, 0];
+pub(crate) const FREE: [u8; 2] = [0, 0];
 
 /// It can't be cloned, as a volume may be far longer than the memory.
 #[derive(Debug)]
@@ -205,14 +205,15 @@ pub struct Entry {
 }
 
 impl Entry {
-    /// What a directory sector of a sound volume says.
-    fn of(index: u64, sector: &[u8], edition: Edition) -> Entry {
+    /// What a directory sector says. A name that is longer than can be, in a volume that is not sound, ends
+    /// with the sector.
+    pub(crate) fn of(index: u64, sector: &[u8], edition: Edition) -> Entry {
         let (length, name) = sector.split_at(edition.name_at());
         let name_length = number(&length[length.len() - 2..]) as usize;
         let (access_time, change_time) = edition.times(sector, ENTRY_TIMES);
         Entry {
             index,
-            name: name[..name_length].to_vec(),
+            name: name[..name_length.min(name.len())].to_vec(),
             size: number(&sector[2..10]),
             version: number(&sector[10..14]) as u32,
             id: number(&sector[14..22]),
@@ -251,10 +252,22 @@ fn zeros(length: u64) -> Result<Vec<u8>, Error> {
     Ok(bytes)
 }
 
-/// The first bytes of a device, read into memory.
-fn first_bytes(device: &dyn Device, length: u64) -> Result<Vec<u8>, Error> {
+/// The first bytes of a device, read into memory. `progress` is given how many are read, and all.
+fn first_bytes(
+    device: &dyn Device,
+    length: u64,
+    progress: &mut dyn FnMut(u64, u64),
+) -> Result<Vec<u8>, Error> {
+    const PIECE: usize = 1 << 20;
     let mut bytes = zeros(length)?;
-    device.read(0, &mut bytes).map_err(Error::Unreadable)?;
+    let mut done = 0;
+    for piece in bytes.chunks_mut(PIECE) {
+        device
+            .read(done / SECTOR as u64, piece)
+            .map_err(Error::Unreadable)?;
+        done += piece.len() as u64;
+        progress(done, length);
+    }
     Ok(bytes)
 }
 
@@ -272,11 +285,19 @@ impl Image {
     /// The volume, and no more than it, from a device. If the device has a map, only the metadata
     /// are read at once, and of the rest what a call looks at.
     pub fn load(device: &dyn Device) -> Result<Image, Error> {
+        Image::load_telling(device, &mut |_, _| ())
+    }
+
+    /// As `load`. `progress` is given how many bytes are read, and how many are to be.
+    pub fn load_telling(
+        device: &dyn Device,
+        progress: &mut dyn FnMut(u64, u64),
+    ) -> Result<Image, Error> {
         let length = device.length();
         if length == 0 || !length.is_multiple_of(SECTOR as u64) {
             return Err(Refusal::NotWholeSectors.into());
         }
-        let superblock = first_bytes(device, SECTOR as u64)?;
+        let superblock = first_bytes(device, SECTOR as u64, &mut |_, _| ())?;
         let claimed = claimed(&superblock);
         let bytes = claimed.sectors() * SECTOR as u64;
         // A first sector that is no volume's, or whose volume is longer than the device, is refused
@@ -286,13 +307,13 @@ impl Image {
         }
         // Read the ordinary way, so that a card that can't be read gives an ordinary error. The
         // map's soundness needs this copy, too.
-        let metadata = first_bytes(device, claimed.data_at() * SECTOR as u64)?;
+        let metadata = first_bytes(device, claimed.data_at() * SECTOR as u64, progress)?;
         let bytes = match device.map(bytes) {
             Some(mut map) => {
                 map[..metadata.len()].copy_from_slice(&metadata);
                 Bytes::Mapped(map)
             }
-            None => Bytes::Read(first_bytes(device, bytes)?),
+            None => Bytes::Read(first_bytes(device, bytes, progress)?),
         };
         Ok(Image::judged(bytes)?)
     }
@@ -413,9 +434,20 @@ impl Image {
 
     /// The whole file. Its access time stays.
     pub fn contents(&self, name: &[u8]) -> Result<Vec<u8>, Error> {
-        let mut contents = zeros(self.find(name)?.size)?;
+        self.contents_of(&self.find(name)?, &mut |_| ())
+    }
+
+    /// The bytes of a file whose entry was found on this image. `progress` is given the length of each piece
+    /// that is read.
+    pub fn contents_of(
+        &self,
+        entry: &Entry,
+        progress: &mut dyn FnMut(u64),
+    ) -> Result<Vec<u8>, Error> {
+        let mut contents = zeros(entry.size)?;
         for (i, part) in contents.chunks_mut(LONGEST_TRANSFER).enumerate() {
-            self.read(name, (i * LONGEST_TRANSFER) as u64, part)?;
+            let count = self.read(&entry.name, (i * LONGEST_TRANSFER) as u64, part)?;
+            progress(count as u64);
         }
         Ok(contents)
     }

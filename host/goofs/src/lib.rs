@@ -32,7 +32,9 @@ pub mod image;
 #[allow(unsafe_code)]
 pub mod map;
 pub mod names;
+pub mod salvage;
 pub mod save;
+pub mod survey;
 #[allow(unsafe_code)]
 pub mod system;
 pub mod volume;

@@ -37,9 +37,17 @@ impl<D: Device> Volume<D> {
     /// before it was sent the first time.
     ///
     /// An unfinished or damaged volume is left alone: no change can be made to it.
-    pub fn open(mut device: D) -> Result<Volume<D>, Error> {
+    pub fn open(device: D) -> Result<Volume<D>, Error> {
+        Volume::open_telling(device, &mut |_, _| ())
+    }
+
+    /// As `open`. `progress` is given how many bytes are read, and how many are to be.
+    pub fn open_telling(
+        mut device: D,
+        progress: &mut dyn FnMut(u64, u64),
+    ) -> Result<Volume<D>, Error> {
         device.forget();
-        let image = Image::load(&device)?;
+        let image = Image::load_telling(&device, progress)?;
         if let State::Clean | State::Waiting(_) = image.summary().state {
             device
                 .write(0, &image.bytes()[..SECTOR])

@@ -3,6 +3,7 @@
 // Each test program uses a part of it.
 #![allow(dead_code)]
 
+use std::env;
 use std::ffi::OsStr;
 use std::fs;
 use std::path::{Path, PathBuf};
@@ -79,6 +80,66 @@ pub fn with_limit(limit: &str, command: &str, card: &Path, rest: &[&str]) -> Sai
         .args(rest))
 }
 
+/// What comes between the command and a card that fails (see tests/faulty_card.c).
+pub fn shim(folder: &Folder) -> PathBuf {
+    preloaded(folder, "faulty_card")
+}
+
+/// A shared object of this source in the repository's tests.
+pub fn preloaded(folder: &Folder, name: &str) -> PathBuf {
+    let shared = folder.file(&format!("{name}.so"));
+    if !shared.exists() {
+        let source = format!("{}/../../tests/{name}.c", env!("CARGO_MANIFEST_DIR"));
+        let cc = env::var("CC").unwrap_or("cc".to_string());
+        let made = run(Command::new(cc)
+            .args([
+                "-O1", "-Wall", "-Wextra", "-Werror", "-shared", "-fPIC", "-o",
+            ])
+            .arg(&shared)
+            .args([&source, "-ldl"]));
+        assert_eq!(made.status, 0, "{}", made.err);
+    }
+    shared
+}
+
+/// Runs the command on a copy of the card, `faulty-card`, that does what `fault` says at one of its
+/// writes and barriers (see tests/faulty_card.c).
+pub fn faulty(
+    folder: &Folder,
+    base: &Path,
+    fault: &str,
+    at: usize,
+    command: &str,
+    rest: &[&str],
+) -> Said {
+    let shim = shim(folder);
+    let (card, medium) = (folder.file("faulty-card"), folder.file("medium"));
+    fs::copy(base, &card).unwrap();
+    fs::copy(base, &medium).unwrap();
+    let output = start(
+        Command::new(env!("CARGO_BIN_EXE_goofs"))
+            .arg(command)
+            .arg(&card)
+            .args(rest)
+            .env("CARD", &card)
+            .env("MEDIUM", medium)
+            .env("FAULT", fault)
+            .env("AT", at.to_string())
+            .env("LD_PRELOAD", shim)
+            .stdin(Stdio::null())
+            .stdout(Stdio::piped())
+            .stderr(Stdio::piped()),
+    )
+    .wait_with_output()
+    .expect("the command runs");
+    Said {
+        // By a signal, as the shell says it.
+        status: output.status.code().unwrap_or(130),
+        out: output.stdout,
+        err: String::from_utf8_lossy(&output.stderr).into_owned(),
+    }
+}
+
 pub fn run(command: &mut Command) -> Said {
     let command = command
         .stdin(Stdio::null())
@@ -86,6 +147,30 @@ pub fn run(command: &mut Command) -> Said {
         .stderr(Stdio::piped());
     let output = start(command).wait_with_output();
     Said::of(output.expect("the command runs"))
+}
+
+/// What the command writes to a terminal, with these settings in its environment. None, with a message,
+/// where there is no python to make one.
+pub fn on_terminal(words: &[&str], settings: &[(&str, &str)]) -> Option<String> {
+    let words = [&[env!("CARGO_BIN_EXE_goofs")], words].concat();
+    program_on_terminal(&words, settings)
+}
+
+/// The same for any program.
+pub fn program_on_terminal(words: &[&str], settings: &[(&str, &str)]) -> Option<String> {
+    if Command::new("python3").arg("--version").output().is_err() {
+        eprintln!("python3 is not there: the command is not tried on a terminal");
+        return None;
+    }
+    let script = "import pty, sys; sys.exit(pty.spawn(sys.argv[1:]) >> 8)";
+    let said = run(Command::new("python3")
+        .args(["-c", script])
+        .args(words)
+        .env_remove("NO_COLOR")
+        .env("TERM", "xterm")
+        .envs(settings.iter().copied()));
+    assert_eq!(said.status, 0, "{words:?}: {}", said.text());
+    Some(said.text())
 }
 
 /// Starts one process at a time: until it runs its own program, it has the files of all tests, and

@@ -58,7 +58,7 @@ static const char *const refusals[] = {
     "the name or the id is taken",
     "no free directory entry",
     "the offset is greater than the size",
-    "no free extent",
+    "too few free extents",
     "the list or output buffer is too short",
 };
 
@@ -267,8 +267,9 @@ static void boot(struct card *card)
 }
 
 /* What a detector does first when it is switched on: make sure of what it reads, finish a change that was cut, see whether the volume
- * is sound, and remove a file beside that a save did not come to rename. */
-static void start(struct card *card)
+ * is sound, and remove a file beside that a save did not come to rename. Gives GOOFS_NO_ROOM where that can't be removed, as another
+ * program has filled the card and no change can be made to it any more; what is on it can still be read. */
+static uint64_t start(struct card *card)
 {
     goofs_summary_result summary;
     goofs_check_result check;
@@ -298,10 +299,13 @@ static void start(struct card *card)
     done("check", check.code);
     answer = goofs_delete(card->image, card->length, beside, BESIDE_LENGTH, (uint64_t)time(NULL), list.removal, sizeof list.removal);
     if (answer.code == GOOFS_NOT_THERE)
-        return;
+        return GOOFS_DONE;
+    if (answer.code == GOOFS_NO_ROOM)
+        return answer.code;
     done("delete", answer.code);
     carry_out(card, list.removal, answer.length);
     fputs("detector: removed what a save that was cut had left\n", stderr);
+    return GOOFS_DONE;
 }
 
 /* The calibration's entry. Without one the code is GOOFS_NOT_THERE and the size, like all other numbers of a refusal, 0. */
@@ -393,8 +397,10 @@ int main(int argc, char **argv)
     if (is_boot) {
         boot(&card);
     } else {
-        start(&card);
+        uint64_t code = start(&card);
+
         if (argc == 3) {
+            done("delete", code); /* a save needs the name beside */
             save(&card, argv[2]);
             load(&card); /* so that what is printed is what stands in the file */
         }

@@ -22,11 +22,12 @@
  * (goofs_carry_out does that to an image in memory). Its first write of the superblock is the start mark: a change that is cut
  * before it is not done, one that is cut after it is finished by recovery.
  *
- * goofs_read and goofs_list give, besides what is asked for, such a list of GOOFS_ACCESS_LIST bytes: carried out, it sets the file's or
- * the root's access time, and nothing else. A place for it must be lent, but a program need not carry it out: one that leaves access
- * times alone, or has the card open for reading only, drops it, and the next call is given the image as it was. Such a program may pass
- * any time that the edition stores, as 0. One that carries it out holds the lock of a program that changes the volume. What the call
- * gave in its output stays true if the list is cut: the time is then set exactly if the start mark landed.
+ * goofs_read and goofs_list give, besides what is asked for, such a list of GOOFS_ACCESS_LIST bytes, or of none on a frozen volume (see
+ * below): carried out, it sets the file's or the root's access time, and nothing else. A place for it must be lent, but a program need not
+ * carry it out: one that leaves access times alone, or has the card open for reading only, drops it, and the next call is given the image
+ * as it was. Such a program may pass any time that the edition stores, as 0. One that carries it out holds the lock of a program that
+ * changes the volume. What the call gave in its output stays true if the list is cut: the time is then set exactly if the start mark
+ * landed.
  *
  * If a write or barrier fails, write nothing more, and start over. What a system that holds writes back shows then need not be on
  * the medium, and may never get there: on Linux a failed fdatasync leaves pages marked as written, and the next one succeeds
@@ -40,6 +41,14 @@
  * Programs that share a volume agree on a lock: who changes it holds flock(2) with LOCK_EX on the image file or device, from before
  * the image is read until the last list has landed; who only reads it holds LOCK_SH. The command goofs and examples/detector.c do
  * so. A program without it would finish, or build on, a change that another has under way, and the volume would be lost.
+ *
+ * A change needs room for its copies: at least K extents of a volume must stay free, anywhere, K = (T + 3) / S rounded up, with T =
+ * (extents + 127) / 128 sectors of the allocation table and S sectors in an extent (GOOFS_RESERVE). The copies go to the K highest extents
+ * that are free before the call, and a file gets the lowest free one as long as K others stay free; so on a volume that only these
+ * calls have filled the copies stand in the last K extents, and files hold at most extents - K. Volumes of other writers may have a file
+ * in any extent, and fewer than K free. Such a volume is sound and frozen: goofs_check gives 0, find, read and list answer, with an
+ * empty write list, so that access times stay; and every call that has something to change gives 13, goofs_delete and a goofs_resize
+ * that shrinks too, as what a call frees doesn't count before it is done. Copy its files to another, larger volume.
  *
  * A volume is of one of two editions, which the summary tells. In edition 1 the two times of an entry and of the root have 4 bytes, in
  * edition 2 they have 8, and so a name of edition 2 has at most 468 bytes instead of 476. All else is the same, and every call takes
@@ -82,7 +91,7 @@ extern "C" {
 /* The longest list that each call can give, in bytes. Targets are the root, the entry, that of a file which a rename replaces, and
  * at most 512 sectors of the allocation table; a write touches at most 129 data sectors and one of the table; a journal has at most
  * 1,024 entries. */
-#define GOOFS_ACCESS_LIST (GOOFS_RECORDS(0, 1) * GOOFS_RECORD) /* of goofs_read and goofs_list, always this long */
+#define GOOFS_ACCESS_LIST (GOOFS_RECORDS(0, 1) * GOOFS_RECORD) /* of goofs_read and goofs_list: this long or empty */
 #define GOOFS_CREATE_LIST (GOOFS_RECORDS(0, 2) * GOOFS_RECORD)
 #define GOOFS_DELETE_LIST (GOOFS_RECORDS(0, 2 + 512) * GOOFS_RECORD)
 #define GOOFS_RENAME_LIST (GOOFS_RECORDS(0, 3 + 512) * GOOFS_RECORD)
@@ -91,6 +100,9 @@ extern "C" {
 #define GOOFS_RECOVER_LIST (GOOFS_RECOVERY_RECORDS(1024) * GOOFS_RECORD)
 #define GOOFS_REPAIR_LIST (GOOFS_RECORDS(0, 512) * GOOFS_RECORD)
 #define GOOFS_SLICE_LIST(budget) (((budget) + 1) * GOOFS_RECORD)
+
+/* The extents that must stay free of a volume with so many extents of so many sectors. */
+#define GOOFS_RESERVE(extents, extent_sectors) ((((extents) + 127) / 128 + 3 + (extent_sectors) - 1) / (extent_sectors))
 
 /* The numbers of scratch that goofs_check_with needs. */
 #define GOOFS_SCRATCH(files, extents) (4 * (files) + (extents))
@@ -113,17 +125,18 @@ enum goofs_code {
     GOOFS_ALREADY_THERE = 10,    /* create: name already there, or id an occupied entry's or the root's */
     GOOFS_DIRECTORY_FULL = 11,   /* create: no free entry */
     GOOFS_PAST_THE_END = 12,     /* offset greater than size */
-    GOOFS_NO_ROOM = 13,          /* one more extent is needed and none is free */
+    GOOFS_NO_ROOM = 13,          /* one more extent is needed and fewer than K + 1 are free; or something is to be changed and fewer
+                                  * than K are free: the volume is frozen */
     GOOFS_BUFFER_TOO_SHORT = 14  /* list or output too short for the answer, in read and list either of them, or scratch for the
                                   * check */
 };
 
 enum goofs_fault {
     GOOFS_FAULT_MARK = 21,         /* an entry is marked neither free nor occupied */
-    GOOFS_FAULT_NAME_OR_SIZE = 22, /* its name is bad, or its size is one that no file can have */
+    GOOFS_FAULT_NAME_OR_SIZE = 22, /* its name is bad, or its size exceeds that of all extents together */
     GOOFS_FAULT_SAME_NAME = 23,    /* it has the name of an earlier one */
     GOOFS_FAULT_ID = 24,           /* its id is 0, the root's or that of an earlier one */
-    GOOFS_FAULT_TABLE = 25,        /* an extent is given to no file that is there, or belongs to the reserve */
+    GOOFS_FAULT_TABLE = 25,        /* an extent is given to no file that is there */
     GOOFS_FAULT_EXTENTS = 26       /* a file has too few, too many or doubled extents */
 };
 
@@ -166,7 +179,7 @@ typedef struct {
 
 typedef struct {
     uint64_t code;
-    uint64_t fault, place; /* with 7 the reason; with 0 the first fault that remains, both 0 if none does */
+    uint64_t fault, place; /* with 0 the first fault that remains, both 0 if none does; else both 0 */
     uint64_t length;
     uint64_t freed; /* table entries */
 } goofs_repair_result;
@@ -197,48 +210,51 @@ goofs_find_result goofs_find(const uint8_t *image, size_t image_length, const ui
 
 /* Entry `index`: its name is copied to `out` (at most GOOFS_LONGEST_NAME bytes), its fields are given, as they are before the call. The
  * list sets the root's access time to `time`, whatever the index; root and entry keep their versions. 14 if `out` or `list` is too
- * short, and then neither changes. Gives 0 to 9 and 14. List: GOOFS_ACCESS_LIST. */
+ * short, and then neither changes. On a frozen volume `length` is 0, the time stays, and `list` may be of any length. Gives 0 to 9 and 14.
+ * List: GOOFS_ACCESS_LIST. */
 goofs_list_result goofs_list(const uint8_t *image, size_t image_length, uint64_t index, uint64_t time, uint8_t *out, size_t out_length,
                              uint8_t *list, size_t list_length);
 
 /* The lesser of `count` and size - `offset` bytes of the file, to `out` (at most 65,536). The list sets the file's access time to `time`,
- * also where no byte is given; its version and its change time stay. 14 if `out` or `list` is too short, and then neither changes.
- * Gives 0 to 9, 12 and 14. List: GOOFS_ACCESS_LIST. */
+ * also where no byte is given; its version and its change time stay. 14 if `out` or `list` is too short, and then neither changes. On a
+ * frozen volume `length` is 0, the time stays, and `list` may be of any length. Gives 0 to 9, 12 and 14. List: GOOFS_ACCESS_LIST. */
 goofs_read_result goofs_read(const uint8_t *image, size_t image_length, const uint8_t *name, size_t name_length, uint64_t offset,
                              uint64_t count, uint64_t time, uint8_t *out, size_t out_length, uint8_t *list, size_t list_length);
 
-/* A new, empty file in the lowest free entry. Gives 0 to 8, 10, 11 and 14. List: at most GOOFS_CREATE_LIST. The name has bytes 33
+/* A new, empty file in the lowest free entry. Gives 0 to 8, 10, 11, 13 and 14. List: at most GOOFS_CREATE_LIST. The name has bytes 33
  * to 126 without the slash, else 8 is given, also where a file of that name is there: a volume of before this rule may hold one. No
  * call gives the root's id; where the name is not there, 10 says that the id is taken, so a free one can be found by trying. */
 goofs_change_result goofs_create(const uint8_t *image, size_t image_length, const uint8_t *name, size_t name_length, uint64_t id,
                                  uint32_t mode, uint64_t time, uint8_t *list, size_t list_length);
 
-/* The file's entry and its extents are freed. Gives 0 to 9 and 14. List: at most GOOFS_DELETE_LIST. */
+/* The file's entry and its extents are freed. Gives 0 to 9, 13 (a frozen volume) and 14. List: at most GOOFS_DELETE_LIST. */
 goofs_change_result goofs_delete(const uint8_t *image, size_t image_length, const uint8_t *name, size_t name_length, uint64_t time,
                                  uint8_t *list, size_t list_length);
 
 /* The file of the old name gets the new one, at once: after a cut the name is the old or the new one. A file that had the new name is
  * deleted in the same change, so a file saved under another name is swapped in, and after any cut the new name stands for one of
  * the two, whole. The entry keeps its index, size, id, mode and access time. The new name follows the rule of create, the old one is
- * any that can be on a volume. Gives 0 to 9 and 14. List: at most GOOFS_RENAME_LIST. The same name twice gives an empty list. */
+ * any that can be on a volume. Gives 0 to 9, 13 (a frozen volume) and 14. List: at most GOOFS_RENAME_LIST. The same name twice gives an
+ * empty list, on a frozen volume too. */
 goofs_change_result goofs_rename(const uint8_t *image, size_t image_length, const uint8_t *old_name, size_t old_length,
                                  const uint8_t *new_name, size_t new_length, uint64_t time, uint8_t *list, size_t list_length);
 
 /* Another size: extents behind it are freed, or zeros are written at the end, at most 65,536. Gives 0 to 9, 13 and 14. List: at
- * most GOOFS_RESIZE_LIST. The same size gives an empty list. */
+ * most GOOFS_RESIZE_LIST. The same size gives an empty list, on a frozen volume too. */
 goofs_change_result goofs_resize(const uint8_t *image, size_t image_length, const uint8_t *name, size_t name_length, uint64_t size,
                                  uint64_t time, uint8_t *list, size_t list_length);
 
-/* `data` written at `offset`, which is at most the size. Gives 0 to 9, 12, 13 and 14. List: at most GOOFS_WRITE_LIST. No data
- * gives an empty list. Data sectors land before the start mark: after a write that was cut before it the size is the old one, but
- * each sector up to it has its old bytes or the new ones. */
+/* `data` written at `offset`, which is at most the size. Gives 0 to 9, 12, 13 and 14. List: at most GOOFS_WRITE_LIST. No data gives
+ * an empty list, on a frozen volume too. Data sectors land before the start mark: after a write that was cut before it the size is the
+ * old one, but each sector up to it has its old bytes or the new ones. */
 goofs_change_result goofs_write(const uint8_t *image, size_t image_length, const uint8_t *name, size_t name_length, uint64_t offset,
                                 const uint8_t *data, size_t data_length, uint64_t time, uint8_t *list, size_t list_length);
 
 /* Frees, at once, each extent that the table gives to no file that is there, that lies at or past the end of its file, or whose place in
  * its file a lower extent already has. Nothing else changes: no entry, no byte of a file, not the root. Runs on clean volumes with any
- * fault, but gives 7 with GOOFS_FAULT_TABLE and the lowest extent where one of the reserve isn't free, whatever goofs_check says. `freed`
- * is how many; with 0 none, and an empty list. Gives 0 to 7 and 14. List: at most GOOFS_REPAIR_LIST.
+ * fault. `freed` is how many; with 0 none, and an empty list. Where there are such extents and fewer than K are free, 13 is given, and no
+ * call can mend the volume: its copies would need those that are still to be freed. Gives 0 to 6, 13 and 14. List: at most
+ * GOOFS_REPAIR_LIST.
  *
  * With 0, `fault` and `place` are what goofs_check gives with 7 once the list has landed: extents that a file lacks are told, never
  * invented. The volume is sound then exactly if it had none of the faults 21 to 24 and no file lacked an extent.

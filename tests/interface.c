@@ -4,7 +4,9 @@
  *
  * The sample volume, F = 255 on 1,313 sectors, has N = 4 extents of S = 128 sectors (65,536 bytes) and T = 1, K = 1:
  *
- *     superblock 0, root 1, directory 2 to 256, journal 257 to 288, table 289, extents at 290, 418 and 546, the reserve 674 to 801
+ *     superblock 0, root 1, directory 2 to 256, journal 257 to 288, table 289, extents at 290, 418, 546 and 674, up to 801
+ *
+ * One extent stays free, and copies are staged in the highest free one: by these calls alone it is the last.
  *
  * The sectors 802 to 1,312 of the medium are no part of the volume.
  */
@@ -145,8 +147,12 @@ static void list_is(int line, const uint8_t *expected, size_t length) { buffer_i
 /* -------------------- the sectors as document 01 has them */
 
 static struct {
-    uint64_t edition, files, extents, extent_sectors, journal_at, reserve_at;
+    uint64_t edition, files, extents, extent_sectors, journal_at;
+    uint64_t staging[5]; /* the first sectors of the K highest free extents, in rising order */
 } volume;
+
+/* Where the copy of target k goes. */
+static uint64_t stage(size_t k) { return volume.staging[k / volume.extent_sectors] + k % volume.extent_sectors; }
 
 /* On edition 2 each time is later by a number that has more than 32 bits. */
 static uint64_t late(uint64_t time) { return volume.edition == 2 ? time + UINT64_C(0x8182838400000000) : time; }
@@ -253,11 +259,11 @@ static void want_commit(size_t count, const uint64_t *targets, uint8_t (*content
     size_t k, first;
 
     for (k = 0; k < count; k++)
-        want(volume.reserve_at + k, contents[k]);
+        want(stage(k), contents[k]);
     for (first = 0; first < count; first += 32) {
         memset(sector, 0, 512);
         for (k = first; k < count && k < first + 32; k++) {
-            put(sector + 16 * (k - first), 8, volume.reserve_at + k);
+            put(sector + 16 * (k - first), 8, stage(k));
             put(sector + 16 * (k - first) + 8, 8, targets[k]);
         }
         want(volume.journal_at + first / 32, sector);
@@ -637,7 +643,7 @@ static void sample(void)
     volume.extents = 4;
     volume.extent_sectors = 128;
     volume.journal_at = 257;
-    volume.reserve_at = 674;
+    volume.staging[0] = 674;
     blank_medium();
     for (position = 0; position < 262; position++)
         NUMBER(sample_record(position, list + position * 528, 528).code, 0);
@@ -725,6 +731,11 @@ static void macros(void)
     NUMBER(GOOFS_WRITE_LIST, 73920);    /* 129 data sectors, 2 copies, journal, 2 marks, 2 targets, 4 barriers: 140 */
     NUMBER(GOOFS_REPAIR_LIST, 552288);  /* 512 copies, 16 journal sectors, 2 marks, 512 targets, 4 barriers: 1,046 */
     NUMBER(GOOFS_RECOVER_LIST, 542256); /* 1,024 targets, end mark, 2 barriers: 1,027 */
+    NUMBER(GOOFS_RESERVE(4, 128), 1);
+    NUMBER(GOOFS_RESERVE(125 * 128, 128), 1);
+    NUMBER(GOOFS_RESERVE(125 * 128 + 1, 128), 2);
+    NUMBER(GOOFS_RESERVE(65535, 128), 5);
+    NUMBER(GOOFS_RESERVE(65535, 256), 3);
 }
 
 static void format_position_by_position(void)
@@ -997,7 +1008,7 @@ static void no_free_extent(void)
         MADE(CREATE, names[k], .id = 10 + k, .time = 1001);
         MADE(WRITE, names[k], .at = 0, .data = data, .data_length = 65536, .time = 1002);
     }
-    REFUSED(13, WRITE, "gain", .at = 65536, .data = data, .data_length = 1); /* P8: the fourth extent is the reserve */
+    REFUSED(13, WRITE, "gain", .at = 65536, .data = data, .data_length = 1); /* P8: one extent must stay free */
     REFUSED(13, RESIZE, "gain", .at = 65537);
     MADE(WRITE, "gain", .at = 65535, .data = data, .data_length = 1); /* needs no extent */
     MADE(DELETE, "beam", .time = 1003);
@@ -1377,13 +1388,15 @@ static void faults(void)
         {length, 2, 0, 22, 0},                            /* name length of "beam" */
         {length, 2, longest_name() + 1, 22, 0},           /* the same */
         {name + 1, 1, 0, 22, 0},                          /* a 0 in its name */
-        {3 * 512 + 2, 8, 196609, 22, 1},                  /* size of "gain" above 3 x 65,536 */
+        {3 * 512 + 2, 8, 262145, 22, 1},                  /* size of "gain" above 4 x 65,536 */
+        {3 * 512 + 2, 8, 262144, 26, 1},                  /* one that all extents together would hold */
         {name + 512, 4, UINT64_C(0x6265616D), 23, 1},     /* "gain" named "beam" */
         {3 * 512 + 14, 8, 0, 24, 1},                      /* id of "gain": 0, */
         {3 * 512 + 14, 8, ROOT_ID, 24, 1},                /* the root's */
         {3 * 512 + 14, 8, BEAM_ID, 24, 1},                /* that of "beam" */
         {289 * 512 + 8, 4, UINT64_C(0x00090000), 25, 2},  /* extent 2 names file 9, which is free */
-        {289 * 512 + 12, 4, UINT64_C(0x00000001), 25, 3}, /* extent 3 is the reserve */
+        {289 * 512 + 12, 4, UINT64_C(0x00090000), 25, 3}, /* the last extent is judged as any other: */
+        {289 * 512 + 12, 4, UINT64_C(0x00000001), 26, 0}, /* "beam" has no use for offset 1 */
         {289 * 512, 4, FREE, 26, 0},                      /* "beam" without its extent */
         {289 * 512 + 4, 4, 0, 26, 0},                     /* offset 0 of "beam" twice */
         {3 * 512 + 2, 8, 1, 26, 1},                       /* "gain" has one byte and no extent */
@@ -1469,17 +1482,124 @@ static void repaired(void)
         }
         REPAIRS(cases[k].freed, cases[k].fault, cases[k].fault_place);
     }
-    two_files(); /* a sound volume, and one whose reserve isn't free: 7, also where check gives a lower fault */
+    two_files(); /* a sound volume has nothing to free */
     wanted.length = 0;
     REPAIRS(0, 0, 0);
-    put(medium.bytes + 289 * 512 + 12, 4, 0);
-    put(medium.bytes + 9 * 512, 2, 1);
-    IS(goofs_check_result, goofs_check(medium.bytes, IMAGE), .code = 7, .fault = 21, .place = 7);
+    two_files(); /* the last extent is freed as any other; the copy stands in extent 2, the highest that was free before */
+    put(medium.bytes + 289 * 512 + 12, 4, UINT64_C(0x00090000));
+    table(contents[0], 0, FREE, FREE, FREE);
+    volume.staging[0] = 546;
+    wanted.length = 0;
+    want_commit(1, (const uint64_t[]){289}, contents);
+    REPAIRS(1, 0, 0);
+    two_files(); /* leaks that leave none free: 13, and no list is looked at */
+    for (k = 1; k < 4; k++)
+        put(medium.bytes + 289 * 512 + 4 * k, 4, UINT64_C(0x00090000));
+    IS(goofs_check_result, goofs_check(medium.bytes, IMAGE), .code = 7, .fault = 25, .place = 1);
     hold();
     lend();
-    IS(goofs_repair_result, goofs_repair(medium.bytes, IMAGE, lent.bytes, sizeof lent.bytes), .code = 7, .fault = 25, .place = 3);
-    IS(goofs_repair_result, goofs_repair(medium.bytes, IMAGE, NULL, 0), .code = 7, .fault = 25, .place = 3);
+    IS(goofs_repair_result, goofs_repair(medium.bytes, IMAGE, lent.bytes, sizeof lent.bytes), .code = 13);
+    IS(goofs_repair_result, goofs_repair(medium.bytes, IMAGE, NULL, 0), .code = 13);
     lent_is(__LINE__, NULL, 0);
+    held_is(__LINE__);
+}
+
+/* T-12: other writers give any extent to a file. "beam" has extent 0, "gain" the last: 1 and 2 are free. A file gets the lowest, copies
+ * stand in the highest that is free before the call. */
+static void other_writers(void)
+{
+    uint8_t contents[2][512], sector[512];
+
+    two_files();
+    put(medium.bytes + 3 * 512 + 2, 8, 5);
+    put(medium.bytes + 289 * 512 + 12, 4, UINT64_C(0x00010000));
+    volume.staging[0] = 546;
+    ENTRY_IS(1, .size = 5, .id = GAIN_ID, .mode = GAIN_MODE, .access_time = 1003, .change_time = 1003, .name = "gain");
+    READS("gain", 5, 1, NULL, 0);
+
+    wanted.length = 0;
+    root(contents[0], 3, 1004);
+    entry(contents[1], (struct entry){.id = 7, .mode = 8, .access_time = 1004, .change_time = 1004, .name = "clock"});
+    want_commit(2, (const uint64_t[]){1, 4}, contents);
+    GIVES(CREATE, "clock", .id = 7, .mode = 8, .time = 1004);
+
+    /* "clock" takes extent 1, at 418. */
+    wanted.length = 0;
+    memset(sector, MEDIUM, sizeof sector);
+    sector[0] = data[0];
+    want(418, sector);
+    entry(contents[0], (struct entry){.size = 1, .version = 1, .id = 7, .mode = 8, .access_time = 1004, .change_time = 1005,
+                                      .name = "clock"});
+    table(contents[1], 0, UINT64_C(0x00020000), FREE, UINT64_C(0x00010000));
+    want_commit(2, (const uint64_t[]){4, 289}, contents);
+    GIVES(WRITE, "clock", .at = 0, .data = data, .data_length = 1, .time = 1005);
+
+    /* Extent 2 must stay free. */
+    REFUSED(13, WRITE, "clock", .at = 1, .data = data, .data_length = 65536);
+    REFUSED(13, RESIZE, "beam", .at = 65537);
+
+    /* The last extent is freed, and not staged in before that is done. */
+    wanted.length = 0;
+    entry(contents[0], (struct entry){.version = 1, .id = GAIN_ID, .mode = GAIN_MODE, .access_time = 1003, .change_time = 1006,
+                                      .name = "gain"});
+    table(contents[1], 0, UINT64_C(0x00020000), FREE, FREE);
+    want_commit(2, (const uint64_t[]){3, 289}, contents);
+    GIVES(RESIZE, "gain", .at = 0, .time = 1006);
+    volume.staging[0] = 674;
+    READS("gain", 0, 1, NULL, 0);
+}
+
+/* T-12: no extent is free, as "gain" has 1, 2 and 3. The volume is sound; what has a target gives 13, between 12 and 14, also what would
+ * free extents; read and list give an empty list, and the time stays. */
+static void no_extent_free(void)
+{
+    const struct lending exact = {4, 0}, short_by_one = {3, 0};
+    static uint8_t expected[4];
+    uint64_t k;
+
+    two_files();
+    put(medium.bytes + 3 * 512 + 2, 8, 196608);
+    for (k = 0; k < 3; k++)
+        put(medium.bytes + 289 * 512 + 4 + 4 * k, 4, UINT64_C(0x00010000) + k);
+    IS(goofs_check_result, goofs_check(medium.bytes, IMAGE), .code = 0);
+    checked_with(medium.bytes, IMAGE, 0, 0, 0);
+    REFUSED(13, CREATE, "clock", .id = 7);
+    REFUSED(10, CREATE, "gain", .id = 7);
+    REFUSED(8, CREATE, "clock", .id = 0);
+    REFUSED(13, DELETE, "gain", .id = 0);
+    REFUSED(9, DELETE, "clock", .id = 0);
+    REFUSED(13, RENAME, "beam", .new_name = "gain");
+    REFUSED(13, RENAME, "gain", .new_name = "clock");
+    REFUSED(13, RESIZE, "gain", .at = 0);
+    REFUSED(13, RESIZE, "gain", .at = 196607);
+    REFUSED(13, RESIZE, "beam", .at = 3001);
+    REFUSED(13, RESIZE, "gain", .at = 196609);
+    REFUSED(13, WRITE, "beam", .at = 0, .data = data, .data_length = 1);
+    REFUSED(13, WRITE, "gain", .at = 196608, .data = data, .data_length = 1);
+    REFUSED(12, WRITE, "gain", .at = 196609, .data = data, .data_length = 1);
+    wanted.length = 0; /* without a target they are done */
+    GIVES(WRITE, "beam", .at = 0, .data = data, .data_length = 0);
+    GIVES(RESIZE, "gain", .at = 196608);
+    GIVES(RENAME, "gain", .new_name = "gain");
+    REPAIRS(0, 0, 0);
+
+    hold();
+    lend();
+    IS(goofs_list_result, list_call(1, exact), .code = 0, .size = 196608, .id = GAIN_ID, .mode = GAIN_MODE, .access_time = late(1003),
+       .change_time = late(1003), .name_length = 4);
+    lent_is(__LINE__, (const uint8_t *)"gain", 4);
+    lend();
+    memcpy(expected, data + 2996, 4);
+    IS(goofs_read_result, read_call("beam", 2996, 9, exact), .code = 0, .count = 4);
+    lent_is(__LINE__, expected, 4);
+    lend();
+    IS(goofs_read_result, read_call("beam", 3000, 9, much), .code = 0);
+    IS(goofs_read_result, read_call("beam", 3000, 9, nothing), .code = 0);
+    IS(goofs_list_result, list_call(1, short_by_one), .code = 14);
+    IS(goofs_read_result, read_call("beam", 0, 4, short_by_one), .code = 14);
+    IS(goofs_read_result, read_call("beam", 3001, 1, much), .code = 12);
+    lent_is(__LINE__, NULL, 0);
+    list_is(__LINE__, NULL, 0);
     held_is(__LINE__);
 }
 
@@ -1772,7 +1892,7 @@ static int longest_lists(void)
     static uint8_t contents[515][512];
     static uint64_t targets[515];
     uint8_t *image;
-    size_t k;
+    size_t k, offset;
 
     if (SIZE_MAX < UINT64_C(8389281) * 512)
         return 0;
@@ -1783,7 +1903,8 @@ static int longest_lists(void)
     volume.extents = 65535;
     volume.extent_sectors = 128;
     volume.journal_at = 257;
-    volume.reserve_at = 8388641;
+    for (k = 0; k < 5; k++)
+        volume.staging[k] = 8388641 + 128 * k;
     superblock(image, 0);
     root(image + 512, 41, 1000);
     entry(image + 2 * 512, (struct entry){.size = UINT64_C(4294574080), .version = UINT32_MAX, .id = 9, .name = "beam"});
@@ -1852,16 +1973,43 @@ static int longest_lists(void)
     NUMBER(goofs_carry_out(image, length, lent.bytes, 553872), 0);
     IS(goofs_find_result, goofs_find(image, length, (const uint8_t *)"beam", 4), .code = 0, .id = 9,
        .access_time = late(0), .change_time = late(1001), .name_length = 4);
+
+    /* Another writer left free the extents 9, 700, 702, 30,000 and the last: the 515 copies stand in these, 128 in each. */
+    entry(image + 2 * 512, (struct entry){.size = UINT64_C(4294574080), .version = UINT32_MAX, .id = 9, .name = "beam"});
+    for (k = 0, offset = 0; k < 65535; k++)
+        put(image + 289 * 512 + 4 * k, 4, k == 9 || k == 700 || k == 702 || k == 30000 || k == 65534 ? FREE : offset++);
+    IS(goofs_check_result, goofs_check(image, length), .code = 0);
+    volume.staging[0] = 801 + 9 * 128;
+    volume.staging[1] = 801 + 700 * 128;
+    volume.staging[2] = 801 + 702 * 128;
+    volume.staging[3] = 801 + 30000 * 128;
+    volume.staging[4] = 801 + 65534 * 128;
+    memset(contents, 0, sizeof contents);
+    root(contents[0], 42, 1001);
+    targets[2] = 256;
+    entry(contents[2], (struct entry){.version = 8, .id = 8, .change_time = 1001, .name = "beam"});
+    for (k = 0; k < 512; k++) {
+        targets[3 + k] = 289 + k;
+        memset(contents[3 + k], 255, 512);
+    }
+    wanted.length = 0;
+    want_commit(515, targets, contents);
+    lend();
+    IS(goofs_change_result,
+       goofs_rename(image, length, (const uint8_t *)"gain", 4, (const uint8_t *)"beam", 4, late(1001), lent.bytes, GOOFS_RENAME_LIST),
+       .code = 0, .length = 555984);
+    lent_is(__LINE__, wanted.bytes, 555984);
     munmap(image, length);
     return 1;
 }
 
-/* T-01: N = 16,128 and S = 128 have T = 126, so K = 129 / 128 rounded up is 2; it was 1. Data 415, 2,064,799 sectors. A file that
- * holds extent 16,126 is at fault: 22 if its size exceeds 16,126 x 65,536 = 1,056,833,536, else 25. */
+/* N = 16,128 and S = 128 have T = 126, so that K = 129 / 128 rounded up is 2; before T-01 it was 1. Data 415, 2,064,799 sectors. "beam" has
+ * all extents but the last, as an older build could fill it: the volume is sound, and can't be changed. With one extent less it can. */
 static int older_volume(void)
 {
     const size_t length = (size_t)2064799 * 512;
     uint8_t *image = mmap(NULL, length, PROT_READ | PROT_WRITE, MAP_PRIVATE | MAP_ANONYMOUS | MAP_NORESERVE, -1, 0);
+    const uint8_t *beam = (const uint8_t *)"beam";
     size_t k;
 
     if (image == MAP_FAILED)
@@ -1872,22 +2020,24 @@ static int older_volume(void)
     superblock(image, 0);
     root(image + 512, 41, 1000);
     memset(image + 289 * 512, 255, 126 * 512); /* all free */
-    entry(image + 2 * 512, (struct entry){.size = 1, .id = 9, .name = "beam"});
-    put(image + 289 * 512 + 4 * 16125, 4, 0); /* the last usable extent */
+    entry(image + 2 * 512, (struct entry){.size = UINT64_C(16127) * 65536, .id = 9, .name = "beam"});
+    for (k = 0; k < 16127; k++)
+        put(image + 289 * 512 + 4 * k, 4, k);
     from = __LINE__;
     IS(goofs_check_result, goofs_check(image, length), .code = 0);
-    put(image + 289 * 512 + 4 * 16125, 4, FREE);
-    put(image + 289 * 512 + 4 * 16126, 4, 0);
-    ALL_REFUSE(NOT_THESE, image, length, 7, 25, 16126);
-    for (k = 0; k <= 16126; k++)
-        put(image + 289 * 512 + 4 * k, 4, k);
-    put(image + 2 * 512 + 2, 8, UINT64_C(1056833537));
+    IS(goofs_change_result, goofs_delete(image, length, beam, 4, 7, lent.bytes, sizeof lent.bytes), .code = 13);
+    IS(goofs_change_result, goofs_resize(image, length, beam, 4, 0, 7, lent.bytes, sizeof lent.bytes), .code = 13);
+    IS(goofs_read_result, goofs_read(image, length, beam, 4, 65535, 2, 7, lent.bytes, 2, NULL, 0), .code = 0, .count = 2);
+    put(image + 2 * 512 + 2, 8, UINT64_C(16126) * 65536);
+    put(image + 289 * 512 + 4 * 16126, 4, FREE);
+    IS(goofs_check_result, goofs_check(image, length), .code = 0);
+    /* Root, entry and 126 table sectors: 2 x 128 copies and targets, 4 journal sectors, 6. */
+    IS(goofs_change_result, goofs_delete(image, length, beam, 4, 7, lent.bytes, sizeof lent.bytes), .code = 0, .length = 266 * 528);
+    /* The size that all extents together have, and one byte more. */
+    put(image + 2 * 512 + 2, 8, UINT64_C(16128) * 65536);
+    ALL_REFUSE(NOT_THESE, image, length, 7, 26, 0);
+    put(image + 2 * 512 + 2, 8, UINT64_C(16128) * 65536 + 1);
     ALL_REFUSE(NOT_THESE, image, length, 7, 22, 0);
-    put(image + 2 * 512 + 2, 8, UINT64_C(1056833536));
-    put(image + 289 * 512, 4, FREE); /* all extents but the first, which fit the size */
-    for (k = 1; k <= 16126; k++)
-        put(image + 289 * 512 + 4 * k, 4, k - 1);
-    ALL_REFUSE(NOT_THESE, image, length, 7, 25, 16126);
     munmap(image, length);
     return 1;
 }
@@ -1917,6 +2067,8 @@ static const struct test tests[] = {
     {"images refused", images_refused},
     {"faults", faults},
     {"repaired", repaired},
+    {"other writers", other_writers},
+    {"no extent free", no_extent_free},
     {"names", names},
     {"new names", new_names},
     {"times of calls", times_of_calls},

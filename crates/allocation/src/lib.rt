@@ -10,7 +10,6 @@ ghost use Prim.Native.Nat.{ℕ, _+_, _-_, _≤_, _<_};
 ghost use lib.Dec.{eqb};
 ghost use lib.ListN.{length, getD, drop};
 ghost use Rattle.model.specs.Search.{first, anyBelow};
-ghost use Rattle.model.specs.Geometry.{usable};
 ghost use Rattle.model.specs.Disk.{view};
 ghost use Rattle.model.specs.Opened.{Opened};
 ghost use Rattle.model.specs.Catalogue.{catalogueOf};
@@ -53,22 +52,19 @@ fn fill_starts(img: &[u8], g: Geometry, starts: &mut [u16]) -> usize
     f
 }
 
-// Extent e's entry names no occupied file and isn't free, or is the reserve's and isn't free; u extents are usable.
-fn is_misplaced(img: &[u8], g: Geometry, u: u64, e: Extent) -> bool
+// Extent e's entry names no occupied file and isn't free.
+fn is_misplaced(img: &[u8], g: Geometry, e: Extent) -> bool
     requires { ⌜ Opened (now img) g ⌝ }
-    requires { ⌜ (u ≡ usable g) × (e .0 < g .extents) ⌝ }
+    requires { ⌜ e .0 < g .extents ⌝ }
     ensures { λ r. ⌜ r ≡ fault25 (catalogueOf (view (now (img .entry)))) (e .0) ⌝ }
 {
     let f = table::table_file(img, g, e);
     if f == 65535 {
         return false;
     }
-    if e.0 < u {
-        if f < g.files {
-            if directory::is_occupied(img, FileIndex(f)) {
-                return false;
-            }
-            return true;
+    if f < g.files {
+        if directory::is_occupied(img, FileIndex(f)) {
+            return false;
         }
         return true;
     }
@@ -85,17 +81,9 @@ struct Marked {
 
 // Extent e is judged, and marked unless its file is m or later. Where its offset is too large or was met before, its file is the
 // next m. A file that has a byte for the offset needs extents, so it is occupied and the directory isn't read.
-fn mark(
-    img: &[u8],
-    g: Geometry,
-    u: u64,
-    e: Extent,
-    starts: &[u16],
-    m: usize,
-    seen: &mut [u8],
-) -> Marked
+fn mark(img: &[u8], g: Geometry, e: Extent, starts: &[u16], m: usize, seen: &mut [u8]) -> Marked
     requires { ⌜ Opened (now img) g ⌝ }
-    requires { ⌜ (u ≡ usable g) × (e .0 < g .extents) ⌝ }
+    requires { ⌜ e .0 < g .extents ⌝ }
     requires { ⌜ Starts g (view (now img)) m (now starts) ⌝ }
     requires { ⌜ Marks g (view (now img)) (e .0) m (now seen) ⌝ }
     ensures { λ r. ⌜ r .misplaced ≡ fault25 (catalogueOf (view (now (img .entry)))) (e .0) ⌝ }
@@ -105,26 +93,26 @@ fn mark(
     let f = table::table_file(img, g, e) as usize;
     if m <= f {
         return Marked {
-            misplaced: is_misplaced(img, g, u, e),
+            misplaced: is_misplaced(img, g, e),
             reached: m,
         };
     }
     let p = starts[f] as usize + table::table_offset(img, g, e) as usize;
     if starts[f + 1] as usize <= p {
         return Marked {
-            misplaced: is_misplaced(img, g, u, e),
+            misplaced: is_misplaced(img, g, e),
             reached: f,
         };
     }
     if seen[p] == 1 {
         return Marked {
-            misplaced: u <= e.0,
+            misplaced: false,
             reached: f,
         };
     }
     seen[p] = 1;
     Marked {
-        misplaced: u <= e.0,
+        misplaced: false,
         reached: m,
     }
 }
@@ -153,11 +141,10 @@ fn pass_part(
     requires { ⌜ Marks g (view (now img)) from f (now seen) ⌝ }
     ensures { λ r. ⌜ Passed g (view (now (img .entry))) from to f (r .misplaced) (r .reached) (now (seen .exit)) ⌝ }
 {
-    let u = g.usable();
     let mut m = f;
     let mut e = from;
     while e < to {
-        let next = mark(img, g, u, Extent(e), starts, m, seen);
+        let next = mark(img, g, Extent(e), starts, m, seen);
         if next.misplaced {
             return Pass {
                 misplaced: Lowest::At(e as usize),
@@ -357,9 +344,9 @@ fn put_starts(img: &[u8], g: Geometry, s: &mut [u32]) -> usize
 }
 
 // As `mark`.
-fn mark_in(img: &[u8], g: Geometry, u: u64, e: Extent, at: usize, m: usize, s: &mut [u32]) -> Marked
+fn mark_in(img: &[u8], g: Geometry, e: Extent, at: usize, m: usize, s: &mut [u32]) -> Marked
     requires { ⌜ Opened (now img) g ⌝ }
-    requires { ⌜ (u ≡ usable g) × (e .0 < g .extents) × (at ≡ g .files + 1) ⌝ }
+    requires { ⌜ (e .0 < g .extents) × (at ≡ g .files + 1) ⌝ }
     requires { ⌜ Starts g (view (now img)) m (now s) ⌝ }
     requires { ⌜ Marks g (view (now img)) (e .0) m (drop at (now s)) ⌝ }
     ensures { λ r. ⌜ r .misplaced ≡ fault25 (catalogueOf (view (now (img .entry)))) (e .0) ⌝ }
@@ -370,26 +357,26 @@ fn mark_in(img: &[u8], g: Geometry, u: u64, e: Extent, at: usize, m: usize, s: &
     let f = table::table_file(img, g, e) as usize;
     if m <= f {
         return Marked {
-            misplaced: is_misplaced(img, g, u, e),
+            misplaced: is_misplaced(img, g, e),
             reached: m,
         };
     }
     let p = s[f] as usize + table::table_offset(img, g, e) as usize;
     if s[f + 1] as usize <= p {
         return Marked {
-            misplaced: is_misplaced(img, g, u, e),
+            misplaced: is_misplaced(img, g, e),
             reached: f,
         };
     }
     if s[at + p] == 1 {
         return Marked {
-            misplaced: u <= e.0,
+            misplaced: false,
             reached: f,
         };
     }
     s[at + p] = 1;
     Marked {
-        misplaced: u <= e.0,
+        misplaced: false,
         reached: m,
     }
 }
@@ -403,11 +390,10 @@ fn pass_in(img: &[u8], g: Geometry, from: u64, to: u64, at: usize, f: usize, s: 
     ensures { λ r. ⌜ Passed g (view (now (img .entry))) from to f (r .misplaced) (r .reached) (drop at (now (s .exit))) ⌝ }
     ensures { λ r. ⌜ (r .misplaced ≡ Lowest.Nowhere → Starts g (view (now (img .entry))) (r .reached) (now (s .exit))) ⌝ }
 {
-    let u = g.usable();
     let mut m = f;
     let mut e = from;
     while e < to {
-        let next = mark_in(img, g, u, Extent(e), at, m, s);
+        let next = mark_in(img, g, Extent(e), at, m, s);
         if next.misplaced {
             return Pass {
                 misplaced: Lowest::At(e as usize),

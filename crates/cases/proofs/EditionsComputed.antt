@@ -13,8 +13,8 @@ use Rattle.model.specs.Faults.{fault21, fault22, fault23, fault24, fault25, exa
 use Rattle.model.specs.Refusals.{verdictOf, isWhole, fitsImage, imageVerdict, soundVerdict, judged}
 use Rattle.model.specs.Summary.{superblockVerdict, superblockAnswer, checkAnswer}
 use Rattle.model.specs.Format.{doubled, geometryFor, canFormat, formatVerdict, formatAnswer}
-use Rattle.model.specs.Ledger.{catalogue, firstLedger, writtenRecords, freedRecords, renamedRecords, ledgerFrom, holderOf, positionAmong, slotNamed, freeSlot, unheldExtent, fileOf}
-use Rattle.model.specs.Ledger.{newEntry, updatedRoot, step, lowest, unfitTime, unfitName, unfitNewName}
+use Rattle.model.specs.Ledger.{catalogue, firstLedger, writtenRecords, freedRecords, renamedRecords, ledgerFrom, holderOf, positionAmong, slotNamed, freeSlot, unheldExtent, unheldExtents}
+use Rattle.model.specs.Ledger.{isFrozen, fileOf, newEntry, updatedRoot, step, lowest, unfitTime, unfitName, unfitNewName}
 use Rattle.cases.specs.Editions.{Editions}
 
 pub editions : Editions
@@ -22,8 +22,8 @@ unfolding beAt beBytes bytesFrom put onesSector zeroSector scan anyBelow allBelo
     journalLength stateOf newSuperblock rootIn newRootSector updatedRootSector nameIn entryIn isOccupied hasZero badName newEntrySector updatedEntrySector renamedEntrySector
     tableFile tableOffset catalogueOf sectorsFrom holdsFrom fault21 fault22 fault23 fault24 fault25 exact fault26 firstFault
     verdictOf isWhole fitsImage imageVerdict soundVerdict judged superblockVerdict superblockAnswer checkAnswer doubled geometryFor canFormat formatVerdict formatAnswer
-    catalogue firstLedger writtenRecords freedRecords renamedRecords ledgerFrom holderOf positionAmong slotNamed freeSlot unheldExtent fileOf newEntry updatedRoot
-    step lowest unfitTime unfitName unfitNewName
+    catalogue firstLedger writtenRecords freedRecords renamedRecords ledgerFrom holderOf positionAmong slotNamed freeSlot unheldExtent unheldExtents isFrozen
+    fileOf newEntry updatedRoot step lowest unfitTime unfitName unfitNewName
 editions = record {
   superblock = refl;
   read-back = refl;

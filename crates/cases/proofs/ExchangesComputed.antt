@@ -4,13 +4,13 @@ use Rattle.model.specs.Bytes.{bytesFrom, put}
 use Rattle.model.specs.Search.{tabulate, scan, anyBelow, allBelow, countBelow, equalBytes}
 use Rattle.model.specs.Catalogue.{sectorsFrom, holdsFrom}
 use Rattle.model.specs.Format.{doubled, geometryFor}
-use Rattle.model.specs.Ledger.{catalogue, firstLedger, writtenRecords, freedRecords, ledgerFrom, holderOf, positionAmong, slotNamed, freeSlot, unheldExtent, fileOf, afterWrite, written}
+use Rattle.model.specs.Ledger.{catalogue, firstLedger, writtenRecords, freedRecords, ledgerFrom, holderOf, positionAmong, slotNamed, freeSlot, unheldExtent, unheldExtents, isFrozen, fileOf, afterWrite, written}
 use Rattle.model.specs.Ledger.{newEntry, updatedEntry, updatedRoot, accessedRoot, step, lowest, unfitTime, unfitName, unfitNewName}
 use Rattle.cases.specs.Exchanges.{Exchanges}
 
 pub exchanges : Exchanges
 unfolding bytesFrom put tabulate scan anyBelow allBelow countBelow equalBytes sectorsFrom holdsFrom doubled geometryFor catalogue firstLedger writtenRecords freedRecords
-    ledgerFrom holderOf positionAmong slotNamed freeSlot unheldExtent fileOf afterWrite written newEntry updatedEntry updatedRoot accessedRoot step lowest unfitTime unfitName
+    ledgerFrom holderOf positionAmong slotNamed freeSlot unheldExtent unheldExtents isFrozen fileOf afterWrite written newEntry updatedEntry updatedRoot accessedRoot step lowest unfitTime unfitName
     unfitNewName
 exchanges = record {
   slots-differ = refl;

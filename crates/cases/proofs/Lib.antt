@@ -5,4 +5,5 @@ pub mod Edges
 pub mod RepairsComputed
 pub mod EditionsComputed
 pub mod AccessesComputed
+pub mod ReservesComputed
 pub mod ExchangesComputed

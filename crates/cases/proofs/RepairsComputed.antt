@@ -4,12 +4,12 @@ use Rattle.model.specs.Search.{tabulate, concatenated, scan, anyBelow, allBelow
 use Rattle.model.specs.Edition.{layoutOf}
 use Rattle.model.specs.Entry.{badName, hasZero}
 use Rattle.model.specs.Faults.{fault22, fault23, fault24, fault25, fault26, exact}
-use Rattle.model.specs.Repair.{isStray, strays, holdsStray, repaired, takenReserve, repairedSector, repairPlan}
+use Rattle.model.specs.Repair.{isStray, strays, holdsStray, repaired, repairedSector, repairPlan}
 use Rattle.cases.specs.Repairs.{Repairs}
 
 pub repairs : Repairs
 unfolding tabulate concatenated scan anyBelow allBelow countBelow equalBytes layoutOf badName hasZero fault22 fault23 fault24 fault25 fault26 exact
-    isStray strays holdsStray repaired takenReserve repairedSector repairPlan
+    isStray strays holdsStray repaired repairedSector repairPlan
 repairs = record {
   leaky-strays = refl;
   leaky-count = refl;
@@ -21,6 +21,6 @@ repairs = record {
   missing-count = refl;
   missing-rest = refl;
   missing-targets = λ d. refl;
-  taken-refused = refl;
-  leaky-reserve = refl;
+  taken-strays = refl;
+  taken-rest = refl;
 }

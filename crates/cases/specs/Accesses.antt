@@ -64,8 +64,8 @@ pub record Accesses : Type 0 where
   pub root-accessed-2 : accessedRootSector 2 72623859790382856 onesSector
       ≡ replicate 16 255 ++ (1 ∷ 2 ∷ 3 ∷ 4 ∷ 5 ∷ 6 ∷ 7 ∷ 8 ∷ []) ++ replicate 488 255
   -- "one target": 9 records, 4,752 bytes; of a read the entry, of a list the root
-  pub read-order : (d : Disk) → order (groups d (readPlan (known two) d 1 0)) ≡ (674 ∷ 257 ∷ behind (3 ∷ []))
-  pub list-order : (d : Disk) → order (groups d (listPlan (known two) d 0)) ≡ (674 ∷ 257 ∷ behind (1 ∷ []))
+  pub read-order : (d : Disk) → order (groups two d (readPlan (known two) d 1 0)) ≡ (674 ∷ 257 ∷ behind (3 ∷ []))
+  pub list-order : (d : Disk) → order (groups two d (listPlan (known two) d 0)) ≡ (674 ∷ 257 ∷ behind (1 ∷ []))
   -- a read of its byte; of 0 bytes, and at its end; 14 for either buffer, also of 0 bytes; 12 before 14; 8 before 12, for more than 65,536
   -- bytes and for a wide time
   pub reads-give : (reads 0 1 0 1 4752 ∷ reads 0 0 0 0 4752 ∷ reads 1 5 0 0 4752 ∷ []) ≡ (gave 1 ∷ gave 0 ∷ gave 0 ∷ [])

@@ -4,7 +4,7 @@ use Prim.Native.Nat.{ℕ, _*_}
 use mathlib.Core.Path.{_≡_}
 use mathlib.Core.List.{List, [], _∷_, _++_}
 use mathlib.Core.Option.{Option, none, some}
-use lib.ListN.{replicate}
+use lib.ListN.{length, replicate}
 use Rattle.model.specs.declared.Geometry.{Geometry}
 use Rattle.model.specs.declared.Lowest.the-variants.{At, Nowhere}
 use Rattle.model.specs.Search.{tabulate}
@@ -12,7 +12,7 @@ use Rattle.model.specs.Geometry.{tableSectors, reserveExtents, journalAt, table
 use Rattle.model.specs.Disk.{Disk}
 use Rattle.model.specs.Catalogue.{Owner, Catalogue}
 use Rattle.model.specs.Refusals.{done}
-use Rattle.model.specs.WriteList.{Plan, Group, groupsOf, closed, listLength, recordCount, sectorsOf}
+use Rattle.model.specs.WriteList.{Plan, Group, staging, groupsOf, closed, listLength, recordCount, sectorsOf}
 use Rattle.model.specs.Format.{Format, geometryFor, formatAnswer}
 use Rattle.model.specs.Create.{createPlan}
 use Rattle.model.specs.Write.{writePlan}
@@ -79,9 +79,9 @@ known fs = catalogue (after fs)
 
 -- ---- what is said of them
 
--- the list of a plan, and its order: its sector numbers, barriers among them
-abbrev pub groups : Disk → Plan → List Group
-groups d p = groupsOf (shape 4 128) d p
+-- the list of a plan that is made after these calls, and its order: its sector numbers, barriers among them
+abbrev pub groups : List Feed → Disk → Plan → List Group
+groups fs d p = groupsOf (shape 4 128) (staging (known fs) (length (p .targets))) d p
 
 abbrev pub order : List Group → List ℕ
 order gs = sectorsOf (closed gs)
@@ -113,11 +113,11 @@ pub record Cases : Type 0 where
   pub P5 : geometryFor 8389409 255 1 ≡ shape 32768 256
   pub P5-accepted : Accepted 8389409
   -- P6 first create in the sample writes sectors 674, 675, 257, barrier, 0, barrier, 1, 2, barrier, 0, barrier: 11 records, 5,720 bytes
-  pub P6 : (d : Disk) → order (groups d (createPlan (known []) d (called 97) 97 0 0)) ≡ (674 ∷ 675 ∷ 257 ∷ behind (1 ∷ 2 ∷ []))
-  pub P6-length : (d : Disk) → listLength (groups d (createPlan (known []) d (called 97) 97 0 0)) ≡ 5808
+  pub P6 : (d : Disk) → order (groups [] d (createPlan (known []) d (called 97) 97 0 0)) ≡ (674 ∷ 675 ∷ 257 ∷ behind (1 ∷ 2 ∷ []))
+  pub P6-length : (d : Disk) → listLength (groups [] d (createPlan (known []) d (called 97) 97 0 0)) ≡ 5808
   pub P6-answer : answer (create (called 97) 97 0 0 5808) (after []) ≡ changed (record { verdict = done; length = 11 * 528 })
   -- P7 65,536 bytes into that empty file: 139 records; 65,537 is refused 8
-  pub P7 : (d : Disk) → order (groups d (writePlan (known (makes 97 ∷ [])) 0 d 0 extentful 0))
+  pub P7 : (d : Disk) → order (groups (makes 97 ∷ []) d (writePlan (known (makes 97 ∷ [])) 0 d 0 extentful 0))
       ≡ (tabulate (λ k. k) 290 128 ++ (674 ∷ 675 ∷ 257 ∷ behind (2 ∷ 289 ∷ [])))
   pub P7-length : answer (write (called 97) 0 extentful 0 73392) (after (makes 97 ∷ [])) ≡ changed (record { verdict = done; length = 139 * 528 })
   pub P7-table : table (fills 97 ∷ makes 97 ∷ []) ≡ (owned 0 0 ∷ none ∷ none ∷ none ∷ [])
@@ -129,17 +129,17 @@ pub record Cases : Type 0 where
   pub P9 : numberOf (answer oneMore (after deleted)) ≡ 0
   pub P9-table : table deleted ≡ (owned 0 0 ∷ none ∷ owned 2 0 ∷ none ∷ [])
   pub P9-after : table (whole oneMore ∷ deleted) ≡ (owned 0 0 ∷ owned 0 1 ∷ owned 2 0 ∷ none ∷ [])
-  pub P9-order : (d : Disk) → order (groups d (writePlan (known deleted) 0 d 65536 (1 ∷ []) 0)) ≡ (418 ∷ 674 ∷ 675 ∷ 257 ∷ behind (2 ∷ 289 ∷ []))
+  pub P9-order : (d : Disk) → order (groups deleted d (writePlan (known deleted) 0 d 65536 (1 ∷ []) 0)) ≡ (418 ∷ 674 ∷ 675 ∷ 257 ∷ behind (2 ∷ 289 ∷ []))
   -- P10 name of 476 bytes taken, of 477 refused 8
   pub P10 : numberOf (answer (create (replicate 476 97) 97 0 0 5808) (after [])) ≡ 0
   pub P10-refused : numberOf (answer (create (replicate 477 97) 97 0 0 5808) (after [])) ≡ 8
   -- longest delete: 514 targets, 17 journal sectors, 1,051 records
   pub longest : recordCount 0 514 ≡ 1051
   -- T-01: "a" full and "b", then "a" to "b": root, "a" renamed, "b" zeroed; "b" to "a": the same entries, and the table sector of "a"
-  pub rename-order : (d : Disk) → order (groups d (renamePlan (known pair) d 0 (At 1) (called 98) 0)) ≡ (674 ∷ 675 ∷ 676 ∷ 257 ∷ behind (1 ∷ 2 ∷ 3 ∷ []))
-  pub replace-order : (d : Disk) → order (groups d (renamePlan (known pair) d 1 (At 0) (called 97) 0))
+  pub rename-order : (d : Disk) → order (groups pair d (renamePlan (known pair) d 0 (At 1) (called 98) 0)) ≡ (674 ∷ 675 ∷ 676 ∷ 257 ∷ behind (1 ∷ 2 ∷ 3 ∷ []))
+  pub replace-order : (d : Disk) → order (groups pair d (renamePlan (known pair) d 1 (At 0) (called 97) 0))
       ≡ (674 ∷ 675 ∷ 676 ∷ 677 ∷ 257 ∷ behind (1 ∷ 2 ∷ 3 ∷ 289 ∷ []))
-  pub rename-new : (d : Disk) → order (groups d (renamePlan (known pair) d 1 Nowhere (called 99) 0)) ≡ (674 ∷ 675 ∷ 257 ∷ behind (1 ∷ 3 ∷ []))
+  pub rename-new : (d : Disk) → order (groups pair d (renamePlan (known pair) d 1 Nowhere (called 99) 0)) ≡ (674 ∷ 675 ∷ 257 ∷ behind (1 ∷ 3 ∷ []))
   pub rename-answer : answer (rename (called 98) (called 97) 0 7920) (after pair) ≡ changed (record { verdict = done; length = 15 * 528 })
   pub rename-itself : answer (rename (called 98) (called 98) 0 0) (after pair) ≡ changed (record { verdict = done; length = 0 })
   pub rename-refused : (numberOf (answer (rename [] (called 97) 0 7920) (after pair)) ∷ numberOf (answer (rename (called 97) [] 0 7920) (after pair))

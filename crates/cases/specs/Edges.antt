@@ -136,21 +136,23 @@ pub record Edges : Type 0 where
   pub lowest : listAnswer sampleBytes (diskOf zeroSector zeroSector onesSector) 255 0 0 0 .verdict ≡ refusal 8
   -- "bytes not named here stay"
   pub tail-stays : getD (updatedEntrySector 1 1 0 onesSector) 511 0 ≡ 255
-  -- two files without a fault; 21 mark 1; 22 no name, 65,536 x 3 + 1 bytes; 23 the same name; 24 id 0, the root's, the same id
+  -- two files without a fault; 21 mark 1; 22 no name, 65,536 x 4 + 1 bytes, but not one less, which lacks its extents (26); 23 the same name; 24 id 0, the root's, the same id
   pub entries : (checks (empty 97 5) (empty 98 6) onesSector ∷ checks (empty 97 5) (padded (0 ∷ 1 ∷ [])) onesSector
-      ∷ checks (empty 97 5) (newEntrySector 1 [] 6 0 0) onesSector ∷ checks (sized 196609) (empty 98 6) onesSector
+      ∷ checks (empty 97 5) (newEntrySector 1 [] 6 0 0) onesSector ∷ checks (sized 262145) (empty 98 6) onesSector
+      ∷ checks (sized 262144) (empty 98 6) onesSector
       ∷ checks (empty 97 5) (empty 97 6) onesSector ∷ checks (empty 97 5) (empty 98 0) onesSector ∷ checks (empty 97 5) (empty 98 1) onesSector
       ∷ checks (empty 97 5) (empty 98 5) onesSector ∷ [])
-      ≡ (done ∷ fault 21 3 ∷ fault 22 3 ∷ fault 22 0 ∷ fault 23 3 ∷ fault 24 3 ∷ fault 24 3 ∷ fault 24 3 ∷ [])
+      ≡ (done ∷ fault 21 3 ∷ fault 22 3 ∷ fault 22 0 ∷ fault 26 0 ∷ fault 23 3 ∷ fault 24 3 ∷ fault 24 3 ∷ fault 24 3 ∷ [])
   -- T-10: scratch on both sides of 4 x F + N, 1,024 numbers here; 14 before 7, and 5 before 14
   pub scratch : (lends 0 (empty 98 6) ∷ lends 1023 (empty 98 6) ∷ lends 1024 (empty 98 6) ∷ lends 1023 (empty 98 5) ∷ lends 1024 (empty 98 5)
       ∷ checkWithAnswer sampleBytes (waits 674 1 675 2) 0 .verdict ∷ [])
       ≡ (refusal 14 ∷ refusal 14 ∷ done ∷ refusal 14 ∷ fault 24 3 ∷ refusal 5 ∷ [])
-  -- 25 an extent of no file, one of the reserve; 26 none of two extents, one twice, one too many; and both where they belong
+  -- 25 an extent of no file, and none for a file's in the last extent (T-12); 26 none of two extents, one twice, one too many; and both where
+  -- they belong
   pub table : (checks (empty 97 5) (empty 98 6) (takenIn 2 9 0 onesSector) ∷ checks (sized 1) (empty 98 6) (takenIn 3 0 0 onesSector)
       ∷ checks (sized 65537) (empty 98 6) (takenIn 1 0 0 onesSector) ∷ checks (sized 1) (empty 98 6) (takenIn 1 0 0 (takenIn 2 0 0 onesSector))
       ∷ checks (sized 65536) (empty 98 6) (takenIn 1 0 0 (takenIn 2 0 1 onesSector)) ∷ checks (sized 65537) (empty 98 6) (takenIn 1 0 1 (takenIn 2 0 0 onesSector)) ∷ [])
-      ≡ (fault 25 2 ∷ fault 25 3 ∷ fault 26 0 ∷ fault 26 0 ∷ fault 26 0 ∷ done ∷ [])
+      ≡ (fault 25 2 ∷ done ∷ fault 26 0 ∷ fault 26 0 ∷ fault 26 0 ∷ done ∷ [])
   -- recovery: root and the last table sector from any data sectors; 6 a source before or behind the data area, a target that is superblock,
   -- journal or data, a target twice
   pub journals : (recovers (waits 290 1 801 289) ∷ recovers (waits 674 2 674 256) ∷ recovers (waits 289 1 675 2) ∷ recovers (waits 674 1 802 2)

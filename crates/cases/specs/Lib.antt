@@ -1,9 +1,10 @@
--- The table of the cases P1 to P10, a second one of literal bytes, a third of edges; cases of a repair, of the second edition, of access times and of
--- exchanged calls.
+-- The table of the cases P1 to P10, a second one of literal bytes, a third of edges; cases of a repair, of the second edition, of access times, of the
+-- reserve and of exchanged calls.
 pub mod Cases
 pub mod Literals
 pub mod Edges
 pub mod Repairs
 pub mod Editions
 pub mod Accesses
+pub mod Reserves
 pub mod Exchanges

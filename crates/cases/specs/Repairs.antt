@@ -1,4 +1,4 @@
--- Cases of a repair, about the definitions: F 255, N 10, S 128, so T 1, K 1 and extent 9 is the reserve.
+-- Cases of a repair, about the definitions: F 255, N 10, S 128, so T 1 and K 1.
 use Prim.Native.Nat.{ℕ, _-_, _^_}
 use mathlib.Core.Path.{_≡_}
 use mathlib.Core.Bool.{Bool, true, false, cond}
@@ -6,7 +6,6 @@ use mathlib.Core.List.{List, [], _∷_}
 use mathlib.Core.Option.{Option, none, some}
 use lib.Dec.{eqb}
 use lib.ListN.{getD}
-use Rattle.model.specs.declared.Lowest.the-variants.{At, Nowhere}
 use Rattle.model.specs.declared.Soundness.the-variants.{Sound, Faulty}
 use Rattle.model.specs.Search.{tabulate}
 use Rattle.model.specs.Entry.{Entry}
@@ -14,7 +13,7 @@ use Rattle.model.specs.Catalogue.{Owner, Catalogue}
 use Rattle.model.specs.Faults.{faultsIn}
 use Rattle.model.specs.WriteList.{sectorsOf}
 use Rattle.model.specs.Disk.{Disk}
-use Rattle.model.specs.Repair.{isStray, strays, repaired, takenReserve, repairPlan}
+use Rattle.model.specs.Repair.{isStray, strays, repaired, repairPlan}
 
 abbrev pub fileOfSize : ℕ → ℕ → Option Entry
 fileOfSize letter size = some (record { size = size; version = 0; id = letter; mode = 0; accessTime = 0; changeTime = 0; name = letter ∷ [] })
@@ -42,12 +41,12 @@ leaky =
 abbrev pub mendable : Catalogue
 mendable = volume 65537 0 (none ∷ part 0 1 ∷ part 0 0 ∷ part 0 1 ∷ none ∷ none ∷ none ∷ none ∷ part 1 0 ∷ none ∷ [])
 
--- an offset without an extent; a reserve entry that isn't free
+-- an offset without an extent; the last extent that of a file of this size
 abbrev pub missing : Catalogue
 missing = volume 65537 0 (part 0 0 ∷ none ∷ none ∷ none ∷ none ∷ none ∷ none ∷ none ∷ none ∷ none ∷ [])
 
-abbrev pub taken : Catalogue
-taken = volume 0 0 (none ∷ none ∷ none ∷ none ∷ none ∷ none ∷ none ∷ none ∷ none ∷ part 0 0 ∷ [])
+abbrev pub taken : ℕ → Catalogue
+taken size = volume size 0 (none ∷ none ∷ none ∷ none ∷ none ∷ none ∷ none ∷ none ∷ none ∷ part 0 0 ∷ [])
 
 abbrev pub noMark : ℕ → Bool
 noMark i = false
@@ -63,5 +62,6 @@ pub record Repairs : Type 0 where
   pub missing-count : strays missing ≡ 0
   pub missing-rest : faultsIn noMark (repaired missing) ≡ Faulty 26 0
   pub missing-targets : (d : Disk) → sectorsOf (repairPlan missing d .targets) ≡ []
-  pub taken-refused : takenReserve taken ≡ At 9
-  pub leaky-reserve : takenReserve leaky ≡ Nowhere
+  -- T-12: the last extent is as any other: freed where it is past its file's count, else left, and no fault
+  pub taken-strays : (strays (taken 0) ∷ strays (taken 1) ∷ []) ≡ (1 ∷ 0 ∷ [])
+  pub taken-rest : (faultsIn noMark (repaired (taken 0)) ∷ faultsIn noMark (repaired (taken 1)) ∷ []) ≡ (Sound ∷ Sound ∷ [])

@@ -1,8 +1,8 @@
--- What a changing call answers and leaves in the list, by its tests: refused as the image is, refused for its own reasons, list too
--- short, done. Each law gives the two clauses of the call's promise. Assumes nothing.
+-- What a changing call answers and leaves in the list, by its tests: refused as the image is, refused for its own reasons, fewer
+-- than K extents free, list too short, done. Each law gives the two clauses of the call's promise. Assumes nothing.
 use Prim.Native.Nat.{ℕ, _≤_, _<_}
 use mathlib.Core.Path.{_≡_, refl, sym}
-use mathlib.Core.Bool.{Bool, true, false, cond, _||_}
+use mathlib.Core.Bool.{Bool, true, false, cond, _&&_, _||_}
 use mathlib.Core.List.{List}
 use mathlib.Core.Option.{Option, none}
 use native.Mathlib.Omega.{arith}
@@ -17,9 +17,9 @@ use Rattle.model.specs.Disk.{Disk, view}
 use Rattle.model.specs.Superblock.{geometryIn}
 use Rattle.model.specs.Edition.{layoutOf, badTime}
 use Rattle.model.specs.Entry.{badName}
-use Rattle.model.specs.Catalogue.{catalogueOf}
-use Rattle.model.specs.Refusals.{Conditions, verdictOf, refusal, done, isDone, judged}
-use Rattle.model.specs.WriteList.{Plan, Emitted, groupsFor, closed, listLength, Decision, ownVerdict, decided, answerOf, listAfter}
+use Rattle.model.specs.Catalogue.{catalogueOf, lacksReserve}
+use Rattle.model.specs.Refusals.{Conditions, verdictOf, andThen, refusal, done, isDone, judged}
+use Rattle.model.specs.WriteList.{Plan, Emitted, groupsFor, closed, listLength, Decision, isPlanned, planConditions, decided, answerOf, listAfter}
 use Rattle.laws.proofs.Booleans.{or-none}
 use Rattle.laws.proofs.Named.{short-name}
 use Rattle.laws.proofs.WriteList.{emit-nil, emitted-none}
@@ -59,7 +59,7 @@ module _ (len : ℕ) (d : Disk) (cs : Conditions) (plan : Option Plan) (space : 
       let a : eqb (judged len d .number) 0 ≡ false = rw (← e) (ne-eqb (v .number) 0 h) in
       rw (a, a, e)
 
-  pub decided-own : judged len d .number ≡ 0 → (v : Verdict) → v ≡ ownVerdict cs space (listLength (groupsFor d plan))
+  pub decided-own : judged len d .number ≡ 0 → (v : Verdict) → v ≡ andThen (verdictOf cs) (verdictOf (planConditions d plan space))
       → decided len d cs plan space ≡ record { verdict = v; plan = cond (isDone v) plan none }
   unfolding decided
   decided-own ok v e = rw (eq-eqb _ _ ok, e)
@@ -78,23 +78,32 @@ module _ (len : ℕ) (d : Disk) (cs : Conditions) (plan : Option Plan) (list : L
         let a : eqb (verdictOf cs .number) 0 ≡ false = rw (← own) (ne-eqb (v .number) 0 h) in
         comes-refused d (decided len d cs plan (length list)) list v (rw (eq-eqb _ _ ok, a, a, own))
 
-    -- 14
-    pub refused-as-short : v .number ≡ 0 → length list < listLength (groupsFor d plan)
-        → ComesTo d (decided len d cs plan (length list)) list (record { verdict = refusal 14; length = 0 }) list
-    unfolding decided verdictOf
-    refused-as-short z h =
+    -- 13, by the plan
+    pub refused-as-full : v .number ≡ 0 → (isPlanned plan && lacksReserve (catalogueOf d)) ≡ true
+        → ComesTo d (decided len d cs plan (length list)) list (record { verdict = refusal 13; length = 0 }) list
+    unfolding decided verdictOf planConditions
+    refused-as-full z f =
         let a : eqb (verdictOf cs .number) 0 ≡ true = rw (← own) (eq-eqb (v .number) 0 z) in
-        comes-refused d (decided len d cs plan (length list)) list (refusal 14) (rw (eq-eqb _ _ ok, a, lt-ltb _ _ h))
+        comes-refused d (decided len d cs plan (length list)) list (refusal 13) (rw (eq-eqb _ _ ok, a, f))
 
-    done-by : v .number ≡ 0 → listLength (groupsFor d plan) ≤ length list → decided len d cs plan (length list) ≡ record { verdict = done; plan = plan }
-    unfolding decided verdictOf
-    done-by z h =
-        let a : eqb (verdictOf cs .number) 0 ≡ true = rw (← own) (eq-eqb (v .number) 0 z) in
-        rw (eq-eqb _ _ ok, a, le-ltb _ _ h)
+    module _ (there : (isPlanned plan && lacksReserve (catalogueOf d)) ≡ false) where
+      -- 14
+      pub refused-as-short : v .number ≡ 0 → length list < listLength (groupsFor d plan)
+          → ComesTo d (decided len d cs plan (length list)) list (record { verdict = refusal 14; length = 0 }) list
+      unfolding decided verdictOf planConditions
+      refused-as-short z h =
+          let a : eqb (verdictOf cs .number) 0 ≡ true = rw (← own) (eq-eqb (v .number) 0 z) in
+          comes-refused d (decided len d cs plan (length list)) list (refusal 14) (rw (eq-eqb _ _ ok, a, there, lt-ltb _ _ h))
 
-    pub done-as-planned : {m : List ℕ} {j : ℕ} → v .number ≡ 0 → listLength (groupsFor d plan) ≤ length list → Emitted list 0 (closed (groupsFor d plan)) m j
-        → ComesTo d (decided len d cs plan (length list)) list (record { verdict = done; length = listLength (groupsFor d plan) }) m
-    done-as-planned z h e = rw (done-by z h) (refl, e .holds)
+      done-by : v .number ≡ 0 → listLength (groupsFor d plan) ≤ length list → decided len d cs plan (length list) ≡ record { verdict = done; plan = plan }
+      unfolding decided verdictOf planConditions
+      done-by z h =
+          let a : eqb (verdictOf cs .number) 0 ≡ true = rw (← own) (eq-eqb (v .number) 0 z) in
+          rw (eq-eqb _ _ ok, a, there, le-ltb _ _ h)
+
+      pub done-as-planned : {m : List ℕ} {j : ℕ} → v .number ≡ 0 → listLength (groupsFor d plan) ≤ length list → Emitted list 0 (closed (groupsFor d plan)) m j
+          → ComesTo d (decided len d cs plan (length list)) list (record { verdict = done; length = listLength (groupsFor d plan) }) m
+      done-as-planned z h e = rw (done-by z h) (refl, e .holds)
 
 -- a call that is done with an empty list
 pub done-with-nothing : (len : ℕ) (d : Disk) (cs : Conditions) (list : List ℕ) → judged len d .number ≡ 0 → (v : Verdict) → v ≡ verdictOf cs → v .number ≡ 0
@@ -102,4 +111,4 @@ pub done-with-nothing : (len : ℕ) (d : Disk) (cs : Conditions) (list : List �
 unfolding groupsFor
 done-with-nothing len d cs list ok v own z =
     let few : listLength (groupsFor d none) ≤ length list = omega arith in
-    done-as-planned len d cs none list ok v own {j = 0} z few (emitted-none list 0)
+    done-as-planned len d cs none list ok v own refl {j = 0} z few (emitted-none list 0)

@@ -1,6 +1,6 @@
 -- What a changing call goes by: its data sectors, then the copies one by one, then the commit, are the groups of its plan.
 -- Assumes nothing.
-use Prim.Native.Nat.{ℕ, _+_, _-_, _*_, _≤_, _<_}
+use Prim.Native.Nat.{ℕ, _+_, _-_, _*_, _/_, _%_, _≤_, _<_}
 use mathlib.Core.Path.{_≡_, refl, sym, ap, ap₂, _∙_}
 use mathlib.Core.List.{List, [], _∷_, _++_, append-assoc, append-nil}
 use mathlib.Core.Option.{some}
@@ -11,15 +11,16 @@ use lib.Seq.{getD-append-add, getD-set-same, getD-set-other}
 use Rattle.model.specs.declared.Geometry.{Geometry}
 use Rattle.model.specs.Bytes.{bytesFrom}
 use Rattle.model.specs.Search.{tabulate}
-use Rattle.model.specs.Geometry.{superblockAt, reserveAt}
+use Rattle.model.specs.Geometry.{superblockAt, extentSectors, extentAt}
 use Rattle.model.specs.Disk.{Disk}
 use Rattle.model.specs.Superblock.{geometryIn}
+use Rattle.model.specs.Catalogue.{catalogueOf, stagingExtents}
 use Rattle.model.specs.WriteList.{Record, Group, Plan, sectorWrite, barrier, recordSize, contentsStart, recordBytes, listBytes, Emitted}
-use Rattle.model.specs.WriteList.{staging, copies, sectorsOf, journalOf, groupA, superblockGroup, groupsOf, groupsFor, closedAfter, closed}
+use Rattle.model.specs.WriteList.{stageIn, stagesIn, staging, copies, sectorsOf, journalOf, groupA, superblockGroup, groupsOf, groupsFor, closedAfter, closed}
 use Rattle.laws.proofs.Bytes.{bytesFrom-more, bytesFrom-ext, getD-bytesFrom}
-use Rattle.laws.proofs.Search.{length-tabulate}
+use Rattle.laws.proofs.Search.{length-tabulate, tabulate-ext}
 use Rattle.laws.proofs.WriteList.{listBytes-append, emitted-then}
-use Rattle.commit.specs.Commit.{stagedTargets, commitGroups, Staged}
+use Rattle.commit.specs.Commit.{StagesOf, stagedTargets, commitGroups, Staged}
 use Rattle.laws.proofs.WriteList.{sector-at, length-copies}
 use Rattle.commit.proofs.Records.{contents-emitted, written, bytes-tabulate, emitted-same, tabulate-list, sectors-more, copy-at, copies-more, closed-front}
 
@@ -32,21 +33,21 @@ bytesFrom-set numbers j s h =
     (bytesFrom-ext (set numbers j s) numbers 0 0 j (λ i k. getD-set-other numbers j (0 + i) s 0 (λ e. omega arith)))
     (ap (λ i. getD (set numbers j s) i 0) (zero-add j) ∙ getD-set-same numbers j s 0 h)
 
-module _ {g : Geometry} {l : List ℕ} {ds : Group} where
+module _ {g : Geometry} {es l : List ℕ} {ds : Group} where
   -- after the data sectors, before the first target
-  pub staged-none : {numbers m : List ℕ} {k : ℕ} → Emitted l 0 ds m k → Staged g l ds [] numbers m k
+  pub staged-none : {numbers m : List ℕ} {k : ℕ} → Emitted l 0 ds m k → Staged g es l ds [] numbers m k
   unfolding copies tabulate bytesFrom
   staged-none e = record { emitted = rw append-nil e; numbered = refl }
 
   -- `put_copy` of one target more
-  pub staged-more : {ts : Group} {numbers numbers′ m m′ : List ℕ} {k k′ j : ℕ} {c : List ℕ} (s : ℕ) → Staged g l ds ts numbers m k → j ≡ length ts → j < length numbers
-      → Emitted m k (sectorWrite (reserveAt g + j) c ∷ []) m′ k′ → numbers′ ≡ set numbers j s
-      → Staged g l ds (ts ++ (sectorWrite s c ∷ [])) numbers′ m′ k′
+  pub staged-more : {ts : Group} {numbers numbers′ m m′ : List ℕ} {k k′ j : ℕ} {c : List ℕ} (s : ℕ) → Staged g es l ds ts numbers m k → j ≡ length ts → j < length numbers
+      → Emitted m k (sectorWrite (stageIn g es j) c ∷ []) m′ k′ → numbers′ ≡ set numbers j s
+      → Staged g es l ds (ts ++ (sectorWrite s c ∷ [])) numbers′ m′ k′
   staged-more {ts} {numbers} {numbers′} {m} {m′} {k} {k′} {j} {c} s st e h p q =
-      let all : Emitted l 0 (ds ++ copies (staging g (length ts)) ts ++ (sectorWrite (reserveAt g + length ts) c ∷ [])) m′ k′ = emitted-then (st .emitted) (rw e at p) in
+      let all : Emitted l 0 (ds ++ copies (stagesIn g es (length ts)) ts ++ (sectorWrite (stageIn g es (length ts)) c ∷ [])) m′ k′ = emitted-then (st .emitted) (rw e at p) in
       record {
         emitted =
-            rw (ap (λ (x : Group). ds ++ x) (copies-more g ts (sectorWrite s c)) ∙ sym (append-assoc ds (copies (staging g (length ts)) ts) (sectorWrite (reserveAt g + length ts) c ∷ []))) all;
+            rw (ap (λ (x : Group). ds ++ x) (copies-more g es ts (sectorWrite s c)) ∙ sym (append-assoc ds (copies (stagesIn g es (length ts)) ts) (sectorWrite (stageIn g es (length ts)) c ∷ []))) all;
         numbered =
             ap₂ (λ (x : List ℕ) (n : ℕ). bytesFrom x 0 n) q (length-append ts (sectorWrite s c ∷ []) ∙ ap (λ x. x + 1) (sym e))
             ∙ bytesFrom-set numbers j s h
@@ -55,14 +56,14 @@ module _ {g : Geometry} {l : List ℕ} {ds : Group} where
       }
 
   -- the next position
-  pub staged-count : {ts : Group} {numbers m : List ℕ} {k : ℕ} → Staged g l ds ts numbers m k → k ≡ length ds + length ts
+  pub staged-count : {ts : Group} {numbers m : List ℕ} {k : ℕ} → Staged g es l ds ts numbers m k → k ≡ length ds + length ts
   staged-count {ts} {numbers} {m} {k} st =
-      let n : k ≡ 0 + length (ds ++ copies (staging g (length ts)) ts) = st .emitted .next in
-      omega (arith, length-append ds (copies (staging g (length ts)) ts), length-copies (staging g (length ts)) ts)
+      let n : k ≡ 0 + length (ds ++ copies (stagesIn g es (length ts)) ts) = st .emitted .next in
+      omega (arith, length-append ds (copies (stagesIn g es (length ts)) ts), length-copies (stagesIn g es (length ts)) ts)
 
 -- ---- what the commit finds in the list are the targets
 
-module _ (g : Geometry) (l : List ℕ) (ds ts : Group) (numbers m : List ℕ) (k : ℕ) (st : Staged g l ds ts numbers m k) (room : k * recordSize ≤ length l) where
+module _ (g : Geometry) (es l : List ℕ) (ds ts : Group) (numbers m : List ℕ) (k : ℕ) (st : Staged g es l ds ts numbers m k) (room : k * recordSize ≤ length l) where
   noted : (j : ℕ) → j < length ts → getD numbers j 0 ≡ getD ts j barrier .sector
   noted j h =
       sym (getD-bytesFrom numbers 0 (length ts) j h ∙ ap (λ x. getD numbers x 0) (zero-add j))
@@ -71,13 +72,13 @@ module _ (g : Geometry) (l : List ℕ) (ds ts : Group) (numbers m : List ℕ) (k
 
   copied : (j : ℕ) → j < length ts → bytesFrom m ((length ds + j) * recordSize + contentsStart) 512 ≡ bytesFrom (getD ts j barrier .contents) 0 512
   copied j h =
-      let cs : Group = copies (staging g (length ts)) ts in
-      let n : length (ds ++ cs) ≡ length ds + length ts = length-append ds cs ∙ ap (λ x. length ds + x) (length-copies (staging g (length ts)) ts) in
+      let cs : Group = copies (stagesIn g es (length ts)) ts in
+      let n : length (ds ++ cs) ≡ length ds + length ts = length-append ds cs ∙ ap (λ x. length ds + x) (length-copies (stagesIn g es (length ts)) ts) in
       let e : k ≡ length ds + length ts = staged-count st in
       ap₂ (λ (x : List ℕ) (i : ℕ). bytesFrom x (i * recordSize + contentsStart) 512) (st .emitted .holds) (sym (zero-add (length ds + j)))
       ∙ contents-emitted l 0 (ds ++ cs) (length ds + j) (omega arith) (omega arith)
       ∙ ap (λ (r : Record). bytesFrom (r .contents) 0 512) (getD-append-add ds cs j barrier)
-      ∙ ap (λ (c : List ℕ). bytesFrom c 0 512) (copy-at (staging g (length ts)) ts j h)
+      ∙ ap (λ (c : List ℕ). bytesFrom c 0 512) (copy-at (stagesIn g es (length ts)) ts j h)
 
   targets-same : (p : ℕ) → listBytes p (stagedTargets m (length ds) numbers (length ts)) ≡ listBytes p ts
   unfolding stagedTargets
@@ -92,17 +93,24 @@ length-staged list from numbers n = length-tabulate (λ j. sectorWrite (getD num
 
 -- ---- the commit behind them
 
-groups-split : (g : Geometry) (d : Disk) (p : Plan)
-    → closed (groupsOf g d p)
-    ≡ (p .dataSectors ++ copies (staging g (length (p .targets))) (p .targets))
-    ++ closed (journalOf g (staging g (length (p .targets))) (sectorsOf (p .targets)) ∷ superblockGroup d (length (p .targets)) ∷ p .targets ∷ superblockGroup d 0 ∷ [])
+groups-split : (g : Geometry) (es : List ℕ) (d : Disk) (p : Plan)
+    → closed (groupsOf g (stagesIn g es (length (p .targets))) d p)
+    ≡ (p .dataSectors ++ copies (stagesIn g es (length (p .targets))) (p .targets))
+    ++ closed (journalOf g (stagesIn g es (length (p .targets))) (sectorsOf (p .targets)) ∷ superblockGroup d (length (p .targets)) ∷ p .targets ∷ superblockGroup d 0 ∷ [])
 unfolding groupsOf groupA
-groups-split g d p =
+groups-split g es d p =
     let n = length (p .targets) in
-    let front : Group = p .dataSectors ++ copies (staging g n) (p .targets) in
-    let journal : Group = journalOf g (staging g n) (sectorsOf (p .targets)) in
+    let front : Group = p .dataSectors ++ copies (stagesIn g es n) (p .targets) in
+    let journal : Group = journalOf g (stagesIn g es n) (sectorsOf (p .targets)) in
     let rest : List Group = superblockGroup d n ∷ p .targets ∷ superblockGroup d 0 ∷ [] in
     ap (λ (x : List Record). closedAfter x rest) (append-assoc front journal (barrier ∷ [])) ∙ closed-front front (journal ++ (barrier ∷ [])) rest
+
+-- the stages in the disk's staging extents are its
+stages-are : (g : Geometry) (es : List ℕ) (d : Disk) (n : ℕ) → g ≡ geometryIn (d superblockAt) → StagesOf g d es → stagesIn g es n ≡ staging (catalogueOf d) n
+unfolding stagesIn staging stageIn catalogueOf
+stages-are g es d n is are =
+    tabulate-ext (stageIn g es) (stageIn (geometryIn (d superblockAt)) (stagingExtents (catalogueOf d))) 0 0 n
+    (λ k l. ap₂ (λ (h : Geometry) (e : ℕ). extentAt h e + (0 + k) % extentSectors h) is (are .are ((0 + k) / extentSectors g) ∙ ap (λ (h : Geometry). getD (stagingExtents (catalogueOf d)) ((0 + k) / extentSectors h) 0) is))
 
 -- groups whose third has other records of the same bytes
 module _ (x a b c c′ e : Group) (same : (p : ℕ) → listBytes p c ≡ listBytes p c′) (many : length c ≡ length c′) where
@@ -112,29 +120,30 @@ module _ (x a b c c′ e : Group) (same : (p : ℕ) → listBytes p c ≡ listBy
   length-third : length (x ++ closed (a ∷ b ∷ c ∷ e ∷ [])) ≡ length (x ++ closed (a ∷ b ∷ c′ ∷ e ∷ []))
   length-third = simp (length-append, many)
 
-module _ {g : Geometry} {l numbers m m′ : List ℕ} {k n j : ℕ} (d : Disk) (p : Plan) where
+module _ {g : Geometry} {es l numbers m m′ : List ℕ} {k n j : ℕ} (d : Disk) (p : Plan) where
   -- what was staged and then committed by `put_commit`: the plan's groups, in the list that the call was lent
-  pub committed : Staged g l (p .dataSectors) (p .targets) numbers m k → n ≡ length (p .targets) → k * recordSize ≤ length l
-      → Emitted m k (closed (commitGroups g d m (k - n) numbers n)) m′ j → Emitted l 0 (closed (groupsOf g d p)) m′ j
+  pub committed : Staged g es l (p .dataSectors) (p .targets) numbers m k → n ≡ length (p .targets) → k * recordSize ≤ length l
+      → Emitted m k (closed (commitGroups g es d m (k - n) numbers n)) m′ j → Emitted l 0 (closed (groupsOf g (stagesIn g es (length (p .targets))) d p)) m′ j
   unfolding commitGroups
   committed st e room q =
       let ds = p .dataSectors in
       let ts = p .targets in
-      let front : Group = ds ++ copies (staging g (length ts)) ts in
-      let journal : Group = journalOf g (staging g (length ts)) (sectorsOf ts) in
+      let front : Group = ds ++ copies (stagesIn g es (length ts)) ts in
+      let journal : Group = journalOf g (stagesIn g es (length ts)) (sectorsOf ts) in
       let staged : Group = stagedTargets m (length ds) numbers (length ts) in
       let at : k - n ≡ length ds = omega (arith, staged-count st) in
-      let same : (p : ℕ) → listBytes p staged ≡ listBytes p ts = targets-same g l ds ts numbers m k st room in
+      let same : (p : ℕ) → listBytes p staged ≡ listBytes p ts = targets-same g es l ds ts numbers m k st room in
       let many : length staged ≡ length ts = length-staged m (length ds) numbers (length ts) in
       let behind : Emitted m k (closed (journal ∷ superblockGroup d (length ts) ∷ staged ∷ superblockGroup d 0 ∷ [])) m′ j = rw (at, e, st .numbered) at q in
-      rw (groups-split g d p)
+      rw (groups-split g es d p)
       (emitted-same
       (bytes-third front journal (superblockGroup d (length ts)) staged ts (superblockGroup d 0) same many 0)
       (length-third front journal (superblockGroup d (length ts)) staged ts (superblockGroup d 0) same many)
       (emitted-then (st .emitted) behind))
 
-  -- the same where the geometry is the disk's
-  pub committed-for : g ≡ geometryIn (d superblockAt) → Staged g l (p .dataSectors) (p .targets) numbers m k → n ≡ length (p .targets) → k * recordSize ≤ length l
-      → Emitted m k (closed (commitGroups g d m (k - n) numbers n)) m′ j → Emitted l 0 (closed (groupsFor d (some p))) m′ j
+  -- the same where the geometry is the disk's, and so are the extents
+  pub committed-for : g ≡ geometryIn (d superblockAt) → StagesOf g d es → Staged g es l (p .dataSectors) (p .targets) numbers m k → n ≡ length (p .targets) → k * recordSize ≤ length l
+      → Emitted m k (closed (commitGroups g es d m (k - n) numbers n)) m′ j → Emitted l 0 (closed (groupsFor d (some p))) m′ j
   unfolding groupsFor
-  committed-for is st e room q = rw (← is) (committed st e room q)
+  committed-for is are st e room q =
+      rw (← is, sym (stages-are g es d (length (p .targets)) is are)) (committed st e room q)

@@ -10,10 +10,9 @@ use lib.Seq.{ext-getD, getD-append-add, getD-append-seam}
 use Rattle.model.specs.declared.Geometry.{Geometry}
 use Rattle.model.specs.Bytes.{beBytes, bytesFrom, put}
 use Rattle.model.specs.Search.{tabulate}
-use Rattle.model.specs.Geometry.{reserveAt}
 use Rattle.model.specs.Journal.{entriesIn, journalSector}
 use Rattle.model.specs.WriteList.{Record, Group, sectorWrite, barrier, recordSize, contentsStart, recordBytes, listBytes, emit, Emitted}
-use Rattle.model.specs.WriteList.{staging, copies, sectorsOf, closedAfter, closed, listLength}
+use Rattle.model.specs.WriteList.{stageIn, stagesIn, copies, sectorsOf, closedAfter, closed, listLength}
 use Rattle.laws.proofs.Bytes.{length-beBytes, bytesFrom-ext, bytesFrom-bytesFrom, bytesFrom-put-other, bytesFrom-put-in}
 use Rattle.laws.proofs.Search.{length-tabulate, getD-tab0, tabulate-more, tabulate-ext}
 use Rattle.laws.proofs.WriteList.{length-recordBytes, listBytes-append, length-listBytes, emitted-then, copies-are}
@@ -135,21 +134,21 @@ copy-at stages ts k h =
     ap (λ (r : Record). r .contents) (getD-tab0 (λ k. sectorWrite (getD stages k 0) (getD ts k barrier .contents)) (length ts) k barrier h)
 
 -- one more target, one more copy
-pub copies-more : (g : Geometry) (ts : Group) (r : Record)
-    → copies (staging g (length (ts ++ (r ∷ [])))) (ts ++ (r ∷ [])) ≡ copies (staging g (length ts)) ts ++ (sectorWrite (reserveAt g + length ts) (r .contents) ∷ [])
-copies-more g ts r =
+pub copies-more : (g : Geometry) (es : List ℕ) (ts : Group) (r : Record)
+    → copies (stagesIn g es (length (ts ++ (r ∷ [])))) (ts ++ (r ∷ [])) ≡ copies (stagesIn g es (length ts)) ts ++ (sectorWrite (stageIn g es (length ts)) (r .contents) ∷ [])
+copies-more g es ts r =
     let us : Group = ts ++ (r ∷ []) in
-    let f : ℕ → Record = λ k. sectorWrite (reserveAt g + k) (getD us k barrier .contents) in
+    let f : ℕ → Record = λ k. sectorWrite (stageIn g es k) (getD us k barrier .contents) in
     let n : length us ≡ length ts + 1 = length-append ts (r ∷ []) in
     let last : getD us (length ts) barrier ≡ r = getD-append-seam ts r [] barrier in
-    copies-are g us
+    copies-are g es us
     ∙ ap (λ (m : ℕ). tabulate f 0 m) n
     ∙ tabulate-more f 0 (length ts)
     ∙ ap₂ (λ (a : Group) (b : Record). a ++ (b ∷ []))
-    (tabulate-ext f (λ k. sectorWrite (reserveAt g + k) (getD ts k barrier .contents)) 0 0 (length ts)
-    (λ k l. ap (λ (x : Record). sectorWrite (reserveAt g + (0 + k)) (x .contents)) (List·getD-append ts (r ∷ []) barrier (0 + k) (omega arith)))
-    ∙ sym (copies-are g ts))
-    (ap f (zero-add (length ts)) ∙ ap (λ (x : Record). sectorWrite (reserveAt g + length ts) (x .contents)) last)
+    (tabulate-ext f (λ k. sectorWrite (stageIn g es k) (getD ts k barrier .contents)) 0 0 (length ts)
+    (λ k l. ap (λ (x : Record). sectorWrite (stageIn g es (0 + k)) (x .contents)) (List·getD-append ts (r ∷ []) barrier (0 + k) (omega arith)))
+    ∙ sym (copies-are g es ts))
+    (ap f (zero-add (length ts)) ∙ ap (λ (x : Record). sectorWrite (stageIn g es (length ts)) (x .contents)) last)
 
 -- ---- groups
 

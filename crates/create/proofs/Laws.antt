@@ -20,16 +20,16 @@ use Rattle.model.specs.Superblock.{geometryIn}
 use Rattle.model.specs.Root.{rootField, rootIn}
 use Rattle.model.specs.Edition.{layoutOf, badTime}
 use Rattle.model.specs.Entry.{badNewName}
-use Rattle.model.specs.Catalogue.{Catalogue, catalogueOf, isFree, fileNamed, freeEntry, hasId}
+use Rattle.model.specs.Catalogue.{Catalogue, catalogueOf, isFree, fileNamed, freeEntry, hasId, lacksReserve}
 use Rattle.model.specs.Refusals.{Conditions, verdictOf, refusal, done, judged}
-use Rattle.model.specs.WriteList.{Plan, recordSize, Emitted, groupsOf, groupsFor, closed, listLength}
+use Rattle.model.specs.WriteList.{Plan, recordSize, Emitted, groupsFor, closed, listLength}
 use Rattle.model.specs.Create.{createConditions, createPlan, createCount, createDecision, createAnswer, createList}
 use Rattle.laws.proofs.Booleans.{or-none}
 use Rattle.laws.proofs.Search.{Hit, scan-hit}
 use Rattle.laws.proofs.Entry.{new-name-good}
 use Rattle.laws.proofs.Named.{short-name}
 use Rattle.laws.proofs.WriteList.{plan-needs}
-use Rattle.commit.proofs.Decided.{edition-is, same-refusal, refused-by-own, refused-as-short, done-as-planned}
+use Rattle.commit.proofs.Decided.{edition-is, same-refusal, refused-by-own, refused-as-full, refused-as-short, done-as-planned}
 
 -- ---- what the searches and conditions say
 
@@ -106,13 +106,18 @@ module _ (img list name : List ℕ) (id mode time : ℕ) (ok : judged (length im
   unfolding createAnswer createList createDecision
   create-refused h = refused-by-own (length img) (view img) cs (some plan) list ok v own h
 
-  pub create-short : v .number ≡ 0 → length list < createCount * recordSize → Comes img list name id mode time (record { verdict = refusal 14; length = 0 }) list
+  pub create-full : v .number ≡ 0 → lacksReserve (catalogueOf (view img)) ≡ true → Comes img list name id mode time (record { verdict = refusal 13; length = 0 }) list
   unfolding createAnswer createList createDecision
-  create-short z h = refused-as-short (length img) (view img) cs (some plan) list ok v own z (omega (arith, create-needs (view img) name id mode time))
+  create-full z f = refused-as-full (length img) (view img) cs (some plan) list ok v own z f
 
-  pub create-done : {g : Geometry} {m : List ℕ} {j : ℕ} → v .number ≡ 0 → createCount * recordSize ≤ length list → g ≡ geometryIn (view img superblockAt)
-      → Emitted list 0 (closed (groupsOf g (view img) plan)) m j → Comes img list name id mode time (record { verdict = done; length = createCount * recordSize }) m
-  unfolding createAnswer createList createDecision groupsFor
-  create-done z h is e =
+  pub create-short : v .number ≡ 0 → lacksReserve (catalogueOf (view img)) ≡ false → length list < createCount * recordSize
+      → Comes img list name id mode time (record { verdict = refusal 14; length = 0 }) list
+  unfolding createAnswer createList createDecision
+  create-short z f h = refused-as-short (length img) (view img) cs (some plan) list ok v own f z (omega (arith, create-needs (view img) name id mode time))
+
+  pub create-done : {m : List ℕ} {j : ℕ} → v .number ≡ 0 → lacksReserve (catalogueOf (view img)) ≡ false → createCount * recordSize ≤ length list
+      → Emitted list 0 (closed (groupsFor (view img) (some plan))) m j → Comes img list name id mode time (record { verdict = done; length = createCount * recordSize }) m
+  unfolding createAnswer createList createDecision
+  create-done z f h e =
       let n = create-needs (view img) name id mode time in
-      rw (← n) (done-as-planned (length img) (view img) cs (some plan) list ok v own z (omega arith) (rw is at e))
+      rw (← n) (done-as-planned (length img) (view img) cs (some plan) list ok v own f z (omega arith) e)

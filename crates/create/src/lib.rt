@@ -8,6 +8,7 @@ use model::Verdict;
 ghost use mathlib.Core.Path.{_≡_};
 ghost use mathlib.Core.Bool.{_||_};
 ghost use mathlib.Core.List.{[], _∷_};
+ghost use mathlib.Core.Option.{some};
 ghost use Prim.Native.Nat.{_*_, _≤_};
 ghost use lib.Dec.{eqb};
 ghost use lib.ListN.{length};
@@ -17,9 +18,10 @@ ghost use Rattle.model.specs.Edition.{layoutOf, badTime};
 ghost use Rattle.model.specs.Entry.{badNewName};
 ghost use Rattle.model.specs.Catalogue.{catalogueOf, fileNamed, hasId};
 ghost use Rattle.model.specs.Refusals.{verdictOf, judged};
-ghost use Rattle.model.specs.WriteList.{sectorWrite, recordSize, closed, groupsOf, Emitted};
+ghost use Rattle.model.specs.WriteList.{sectorWrite, recordSize, closed, groupsFor, Emitted};
 ghost use Rattle.model.specs.Create.{createConditions, createPlan, createCount, createAnswer, createList};
-ghost use Rattle.model.specs.Opened.{Bounded, Opened};
+ghost use Rattle.model.specs.Opened.{Opened};
+ghost use Rattle.commit.specs.Commit.{StagesOf};
 
 // A create's list has 11 records.
 const LIST_SIZE: usize = 11 * lists::RECORD_SIZE;
@@ -96,41 +98,44 @@ fn put_pair(
     list: &mut [u8],
     img: &[u8],
     g: Geometry,
+    stages: &[u64],
     s: Sector,
     a: [u8; 512],
     t: Sector,
     b: [u8; 512],
 ) -> usize
+    requires { ⌜ StagesOf g (view (now img)) (now stages) ⌝ }
     requires { ⌜ createCount * recordSize ≤ length (now list) ⌝ }
-    requires { ⌜ 512 ≤ length (now img) ⌝ }
-    requires { ⌜ Bounded g ⌝ }
-    ensures { λ r. ⌜ Emitted (now (list .entry)) 0 (closed (groupsOf g (view (now (img .entry))) (record { dataSectors = []; targets = sectorWrite (s .0) a ∷ sectorWrite (t .0) b ∷ [] }))) (now (list .exit)) r ⌝ }
+    requires { ⌜ Opened (now img) g ⌝ }
+    ensures { λ r. ⌜ Emitted (now (list .entry)) 0 (closed (groupsFor (view (now (img .entry))) (some (record { dataSectors = []; targets = sectorWrite (s .0) a ∷ sectorWrite (t .0) b ∷ [] })))) (now (list .exit)) r ⌝ }
 {
     let mut numbers = [0u64; 2];
-    let k = commit::put_copy(list, 0, g, &mut numbers, 0, s, a);
-    let n = commit::put_copy(list, k, g, &mut numbers, 1, t, b);
-    commit::put_commit(list, n, img, g, &numbers, 2)
+    let k = commit::put_copy(list, 0, g, stages, &mut numbers, 0, s, a);
+    let n = commit::put_copy(list, k, g, stages, &mut numbers, 1, t, b);
+    commit::put_commit(list, n, img, g, stages, &numbers, 2)
 }
 
 fn put_create(
     list: &mut [u8],
     img: &[u8],
     g: Geometry,
+    stages: &[u64],
     name: &[u8],
     id: u64,
     mode: u32,
     time: u64,
 ) -> usize
+    requires { ⌜ StagesOf g (view (now img)) (now stages) ⌝ }
     requires { ⌜ createCount * recordSize ≤ length (now list) ⌝ }
     requires { ⌜ Opened (now img) g ⌝ }
     requires { ⌜ length (now name) ≤ layoutOf (g .edition) .longestName ⌝ }
-    ensures { λ r. ⌜ Emitted (now (list .entry)) 0 (closed (groupsOf g (view (now (img .entry))) (createPlan (catalogueOf (view (now (img .entry)))) (view (now (img .entry))) (now (name .entry)) id mode time))) (now (list .exit)) r ⌝ }
+    ensures { λ r. ⌜ Emitted (now (list .entry)) 0 (closed (groupsFor (view (now (img .entry))) (some (createPlan (catalogueOf (view (now (img .entry)))) (view (now (img .entry))) (now (name .entry)) id mode time)))) (now (list .exit)) r ⌝ }
 {
     let a = directory::updated_root(img, g.edition, time);
     let b = layout::entry::new(g.edition, name, id, mode, time);
     let i = index_of(directory::free_entry(img, g));
     let t = FileIndex(i as u64).sector();
-    put_pair(list, img, g, Sector(1), a, t, b)
+    put_pair(list, img, g, stages, Sector(1), a, t, b)
 }
 
 // ---- the call
@@ -143,15 +148,19 @@ pub fn create_in(img: &[u8], list: &mut [u8], name: &[u8], id: u64, mode: u32, t
     let g = volume::geometry_in(img);
     let v = own_verdict(img, g, name, id, time);
     if v.number == 0 {
-        if LIST_SIZE <= list.len() {
-            put_create(list, img, g, name, id, mode, time);
-            let verdict = volume::refusal(0);
-            return Changed {
-                verdict,
-                length: LIST_SIZE as u64,
-            };
+        let mut stages = [0u64; 5];
+        if table::staging(img, g, &mut stages) {
+            if LIST_SIZE <= list.len() {
+                put_create(list, img, g, &stages, name, id, mode, time);
+                let verdict = volume::refusal(0);
+                return Changed {
+                    verdict,
+                    length: LIST_SIZE as u64,
+                };
+            }
+            return commit::refused(volume::refusal(14));
         }
-        return commit::refused(volume::refusal(14));
+        return commit::refused(volume::refusal(13));
     }
     commit::refused(v)
 }

@@ -3,10 +3,11 @@ use Prim.Native.Nat.{ℕ, zero, suc, _+_, _*_, _≤_, _<_}
 use mathlib.Core.Path.{_≡_, refl, sym, ap, ap₂, _∙_}
 use mathlib.Core.Bool.{Bool, true, false, cond, not, _||_}
 use mathlib.Core.List.{List, [], _∷_}
-use mathlib.Core.Option.{some}
+use mathlib.Core.Option.{Option, some}
 use native.Mathlib.Nat.{zero-add}
 use native.Mathlib.Omega.{arith}
 use lib.ListN.{length, length-append}
+use borrow.Author.Tests.{eq-eqb, lt-ltb, le-ltb}
 use Rattle.model.specs.declared.Changed.{Changed}
 use Rattle.model.specs.declared.Geometry.{Geometry}
 use Rattle.model.specs.declared.Lowest.{Lowest}
@@ -17,15 +18,17 @@ use Rattle.model.specs.Disk.{Disk, view}
 use Rattle.model.specs.Superblock.{geometryIn}
 use Rattle.model.specs.Edition.{badTime}
 use Rattle.model.specs.Entry.{badName}
-use Rattle.model.specs.Catalogue.{Catalogue, catalogueOf, fileNamed, holdsFrom, sectorsFrom}
+use Rattle.model.specs.Catalogue.{Catalogue, catalogueOf, fileNamed, lacksReserve, holdsFrom, sectorsFrom}
 use Rattle.model.specs.Refusals.{Conditions, verdictOf, refusal, done, judged}
-use Rattle.model.specs.WriteList.{Record, Plan, Emitted, closed, recordSize, recordCount, groupsFor, listLength}
+use Rattle.model.specs.WriteList.{Record, Plan, Emitted, closed, recordSize, recordCount, groupsFor, listLength, planConditions, decided}
 use Rattle.model.specs.Find.{nameConditions}
 use Rattle.model.specs.Delete.{freedSector, freedSectors, deletePlan, deleteConditions, deleteDecision, deleteAnswer, deleteList}
 use Rattle.model.specs.Resize.{shrinkPlan}
 use Rattle.laws.proofs.Named.{editionOn}
 use Rattle.laws.proofs.WriteList.{plan-needs}
-use Rattle.commit.proofs.Decided.{same-refusal, refused-by-own, refused-as-short, done-as-planned}
+use Rattle.laws.proofs.WriteList.{emit-nil}
+use Rattle.commit.proofs.Decided.{ComesTo, same-refusal, refused-by-own}
+use Rattle.delete.specs.Staging.{fitted, deletedAt}
 use Rattle.delete.proofs.Laws.{shrink-targets, shrink-alone}
 
 -- ---- how many table sectors are freed, how many bytes a list takes
@@ -51,7 +54,7 @@ module _ (c : Catalogue) (d : Disk) (i o : ℕ) where
   unfolding freedSectors sectorsFrom
   length-freed = length-freed-flat (tableSectors (c .geometry))
 
-delete-needs : (d : Disk) (i time : ℕ) → listLength (groupsFor d (some (deletePlan (catalogueOf d) d i time))) ≡ recordCount 0 (2 + sectorsFrom (catalogueOf d) i 0) * recordSize
+pub delete-needs : (d : Disk) (i time : ℕ) → listLength (groupsFor d (some (deletePlan (catalogueOf d) d i time))) ≡ recordCount 0 (2 + sectorsFrom (catalogueOf d) i 0) * recordSize
 unfolding deletePlan
 delete-needs d i time =
     plan-needs d (deletePlan (catalogueOf d) d i time)
@@ -66,6 +69,28 @@ shrink-needs d g is i z time =
     (ap length (shrink-targets d g is i z time)
     ∙ (let e : suc (length (freedSectors (catalogueOf d) d i (extentsFor g z))) ≡ 1 + sectorsFrom (catalogueOf d) i (extentsFor g z) = omega
     (arith, length-freed (catalogueOf d) d i (extentsFor g z)) in e))
+
+-- ---- a call that its own conditions let pass
+
+module _ (d : Disk) (plan : Plan) (list : List ℕ) where
+  pub fitted-full : lacksReserve (catalogueOf d) ≡ true → ComesTo d (fitted d (some plan) (length list)) list (record { verdict = refusal 13; length = 0 }) list
+  unfolding groupsFor verdictOf planConditions
+  fitted-full f = rw f (refl, sym (emit-nil list 0))
+
+  module _ (there : lacksReserve (catalogueOf d) ≡ false) where
+    pub fitted-short : length list < listLength (groupsFor d (some plan)) → ComesTo d (fitted d (some plan) (length list)) list (record { verdict = refusal 14; length = 0 }) list
+    unfolding groupsFor verdictOf planConditions
+    fitted-short h = rw (there, lt-ltb _ _ h) (refl, sym (emit-nil list 0))
+
+    pub fitted-done : {m : List ℕ} {j n : ℕ} → n ≡ listLength (groupsFor d (some plan)) → n ≤ length list → Emitted list 0 (closed (groupsFor d (some plan))) m j
+        → ComesTo d (fitted d (some plan) (length list)) list (record { verdict = done; length = n }) m
+    unfolding verdictOf planConditions
+    fitted-done q h e = rw (there, le-ltb (length list) (listLength (groupsFor d (some plan))) (omega arith), q) (refl, e .holds)
+
+pub decided-fitted : (len : ℕ) (d : Disk) (cs : Conditions) (plan : Option Plan) (room : ℕ) → judged len d .number ≡ 0 → done ≡ verdictOf cs
+    → decided len d cs plan room ≡ fitted d plan room
+unfolding decided
+decided-fitted len d cs plan room ok own = rw (eq-eqb _ _ ok, ← own)
 
 -- ---- delete's answer and list, test by test
 
@@ -108,18 +133,6 @@ module _ (img list name : List ℕ) (time : ℕ) (ok : judged (length img) (view
     own : done ≡ verdictOf cs
     own = sym (own-tests ∙ rw (good, found))
 
-    plan-is : plan ≡ deletePlan c (view img) i time
-    plan-is = ap (λ (x : Lowest). deletePlan c (view img) (indexOf x) time) found
-
-    needs : listLength (groupsFor (view img) (some plan)) ≡ recordCount 0 (2 + sectorsFrom c i 0) * recordSize
-    needs = ap (λ (p : Plan). listLength (groupsFor (view img) (some p))) plan-is ∙ delete-needs (view img) i time
-
-    pub delete-short : length list < recordCount 0 (2 + sectorsFrom c i 0) * recordSize → Comes img list name time (record { verdict = refusal 14; length = 0 }) list
+    pub delete-found : {answer : Changed} {m : List ℕ} → ComesTo (view img) (deletedAt (view img) i time (length list)) list answer m → Comes img list name time answer m
     unfolding deleteAnswer deleteList deleteDecision
-    delete-short h = refused-as-short (length img) (view img) cs (some plan) list ok done own refl (rw needs h)
-
-    pub delete-done : {m : List ℕ} {j : ℕ} (n : ℕ) → n ≡ recordCount 0 (2 + sectorsFrom c i 0) * recordSize → n ≤ length list
-        → Emitted list 0 (closed (groupsFor (view img) (some (deletePlan c (view img) i time)))) m j → Comes img list name time (record { verdict = done; length = n }) m
-    unfolding deleteAnswer deleteList deleteDecision
-    delete-done {m} {j} n q h e =
-        rw (q ∙ sym needs) (done-as-planned (length img) (view img) cs (some plan) list ok done own {j = j} refl (rw (needs ∙ sym q) h) (rw plan-is e))
+    delete-found r = rw (decided-fitted (length img) (view img) cs (some plan) (length list) ok own, found) r

@@ -8,19 +8,19 @@ use native.Mathlib.Omega.{arith}
 use lib.ListN.{length, set}
 use Rattle.model.specs.declared.Geometry.{Geometry}
 use Rattle.model.specs.Search.{concatenated}
-use Rattle.model.specs.Geometry.{superblockAt, rootAt, entryAt, tableAt, tableSectors, reserveAt, extentsFor}
+use Rattle.model.specs.Geometry.{superblockAt, rootAt, entryAt, tableAt, tableSectors, extentsFor}
 use Rattle.model.specs.Disk.{Disk}
 use Rattle.model.specs.Superblock.{geometryIn}
 use Rattle.model.specs.Table.{freedIn}
 use Rattle.model.specs.Catalogue.{catalogueOf, ownedFrom, holdsFrom}
-use Rattle.model.specs.WriteList.{Group, Plan, sectorWrite, recordSize, Emitted, groupsFor, closed}
+use Rattle.model.specs.WriteList.{stageIn, Group, Plan, sectorWrite, recordSize, Emitted, groupsFor, closed}
 use Rattle.model.specs.Bytes.{zeroSector}
 use Rattle.model.specs.Root.{updatedRootSector}
 use Rattle.model.specs.Entry.{updatedEntrySector}
 use Rattle.model.specs.Delete.{freedSector, freedSectors, deletePlan}
 use Rattle.model.specs.Resize.{shrinkPlan}
 use Rattle.laws.proofs.WriteList.{emitted-none}
-use Rattle.commit.specs.Commit.{commitGroups, Staged}
+use Rattle.commit.specs.Commit.{StagesOf, commitGroups, Staged}
 use Rattle.commit.proofs.Laws.{staged-none, staged-more, staged-count, committed-for}
 use Rattle.delete.specs.Staging.{Added}
 
@@ -30,28 +30,28 @@ left {l} {m} e = l
 
 -- ---- targets one after the other
 
-pub added-none : (g : Geometry) (numbers m : List ℕ) (k : ℕ) → Added g numbers m k [] numbers m k
-added-none g numbers m k = record { more = λ l ts st. rw append-nil st }
+pub added-none : (g : Geometry) (es numbers m : List ℕ) (k : ℕ) → Added g es numbers m k [] numbers m k
+added-none g es numbers m k = record { more = λ l ts st. rw append-nil st }
 
-module _ {g : Geometry} {numbers m : List ℕ} {k : ℕ} where
-  pub added-then : {numbers′ m′ numbers″ m″ : List ℕ} {k′ k″ : ℕ} {a b : Group} → Added g numbers m k a numbers′ m′ k′ → Added g numbers′ m′ k′ b numbers″ m″ k″
-      → Added g numbers m k (a ++ b) numbers″ m″ k″
+module _ {g : Geometry} {es numbers m : List ℕ} {k : ℕ} where
+  pub added-then : {numbers′ m′ numbers″ m″ : List ℕ} {k′ k″ : ℕ} {a b : Group} → Added g es numbers m k a numbers′ m′ k′ → Added g es numbers′ m′ k′ b numbers″ m″ k″
+      → Added g es numbers m k (a ++ b) numbers″ m″ k″
   added-then {numbers′} {m′} {numbers″} {m″} {k′} {k″} {a} {b} p q =
       record { more = λ l ts st. rw (sym (append-assoc ts a b)) (q .more l (ts ++ a) (p .more l ts st)) }
 
   -- `put_copy` of one
-  pub added-copy : {numbers′ m′ c : List ℕ} {k′ s : ℕ} → Emitted m k (sectorWrite (reserveAt g + k) c ∷ []) m′ k′ → numbers′ ≡ set numbers k s → k < length numbers
-      → Added g numbers m k (sectorWrite s c ∷ []) numbers′ m′ k′
+  pub added-copy : {numbers′ m′ c : List ℕ} {k′ s : ℕ} → Emitted m k (sectorWrite (stageIn g es k) c ∷ []) m′ k′ → numbers′ ≡ set numbers k s → k < length numbers
+      → Added g es numbers m k (sectorWrite s c ∷ []) numbers′ m′ k′
   added-copy {numbers′} {m′} {c} {k′} {s} p q h =
       record { more = λ l ts st. staged-more s st (let e : k ≡ length ts = omega (arith, staged-count st) in e) h p q }
 
 -- all of a plan's targets, and the commit behind them
-module _ {g : Geometry} {numbers₀ numbers l m m′ : List ℕ} {ts : Group} {k j : ℕ} (d : Disk) (p : Plan) where
-  pub added-committed : Added g numbers₀ l 0 ts numbers m k → Emitted m k (closed (commitGroups g d m (k - k) numbers k)) m′ j
-      → g ≡ geometryIn (d superblockAt) → ts ≡ p .targets → p .dataSectors ≡ [] → k * recordSize ≤ length l → Emitted l 0 (closed (groupsFor d (some p))) m′ j
-  added-committed a q is e none room =
-      let st : Staged g l [] (p .targets) numbers m k = rw (← e) (a .more l [] (staged-none (emitted-none l 0))) in
-      committed-for d p is (rw none st) (let e : k ≡ length (p .targets) = omega (arith, staged-count st) in e) room q
+module _ {g : Geometry} {es numbers₀ numbers l m m′ : List ℕ} {ts : Group} {k j : ℕ} (d : Disk) (p : Plan) where
+  pub added-committed : Added g es numbers₀ l 0 ts numbers m k → Emitted m k (closed (commitGroups g es d m (k - k) numbers k)) m′ j
+      → g ≡ geometryIn (d superblockAt) → StagesOf g d es → ts ≡ p .targets → p .dataSectors ≡ [] → k * recordSize ≤ length l → Emitted l 0 (closed (groupsFor d (some p))) m′ j
+  added-committed a q is are e none room =
+      let st : Staged g es l [] (p .targets) numbers m k = rw (← e) (a .more l [] (staged-none (emitted-none l 0))) in
+      committed-for d p is are (rw none st) (let e : k ≡ length (p .targets) = omega (arith, staged-count st) in e) room q
 
 -- ---- freed table sectors
 

@@ -14,11 +14,12 @@ ghost use Rattle.model.specs.Disk.{view};
 ghost use Rattle.model.specs.Table.{freeFile};
 ghost use Rattle.model.specs.Catalogue.{catalogueOf, holdsFrom, sectorsFrom};
 ghost use Rattle.model.specs.Refusals.{judged};
-ghost use Rattle.model.specs.WriteList.{recordSize, recordCount, groupsFor, closed, Emitted};
+ghost use Rattle.model.specs.WriteList.{recordSize, recordCount, groupsFor, closed, Emitted, answerOf, listAfter};
 ghost use Rattle.model.specs.Delete.{freedSector, freedSectors, deletePlan, deleteAnswer, deleteList};
 ghost use Rattle.model.specs.Resize.{shrinkPlan};
 ghost use Rattle.model.specs.Opened.{Opened};
-ghost use Rattle.delete.specs.Staging.{Added};
+ghost use Rattle.commit.specs.Commit.{Stages, StagesOf};
+ghost use Rattle.delete.specs.Staging.{Added, deletedAt};
 
 // ---- freed table sectors
 
@@ -29,19 +30,21 @@ fn put_freed_sector(
     numbers: &mut [u64],
     img: &[u8],
     g: Geometry,
+    stages: &[u64],
     i: FileIndex,
     o: u64,
     t: u64,
 ) -> usize
+    requires { ⌜ Stages g (now stages) ⌝ }
     requires { ⌜ Opened (now img) g ⌝ }
     requires { ⌜ (i .0 < freeFile) × (t < tableSectors g) ⌝ }
-    requires { ⌜ ((k + 1) * recordSize ≤ length (now list)) × (k < length (now numbers)) ⌝ }
-    ensures { λ r. ⌜ Added g (now (numbers .entry)) (now (list .entry)) k (freedSector (catalogueOf (view (now (img .entry)))) (view (now (img .entry))) (i .0) o t) (now (numbers .exit)) (now (list .exit)) r ⌝ }
+    requires { ⌜ ((k + 1) * recordSize ≤ length (now list)) × (k < 640) × (k < length (now numbers)) ⌝ }
+    ensures { λ r. ⌜ Added g (now (stages .entry)) (now (numbers .entry)) (now (list .entry)) k (freedSector (catalogueOf (view (now (img .entry)))) (view (now (img .entry))) (i .0) o t) (now (numbers .exit)) (now (list .exit)) r ⌝ }
     ensures { λ r. ⌜ (r ≡ k + cond (holdsFrom (catalogueOf (view (now (img .entry)))) (i .0) o t) 1 0) × (r ≤ k + 1) ⌝ }
 {
     if table::holds_from(img, g, i, o, t) {
         let s = table::freed(img, g, i, o, t);
-        return commit::put_copy(list, k, g, numbers, k, g.table_sector(t), s);
+        return commit::put_copy(list, k, g, stages, numbers, k, g.table_sector(t), s);
     }
     k
 }
@@ -53,20 +56,23 @@ pub fn put_freed(
     numbers: &mut [u64],
     img: &[u8],
     g: Geometry,
+    stages: &[u64],
     i: FileIndex,
     o: u64,
 ) -> usize
+    requires { ⌜ Stages g (now stages) ⌝ }
     requires { ⌜ Opened (now img) g ⌝ }
     requires { ⌜ i .0 < freeFile ⌝ }
-    requires { ⌜ ((k + sectorsFrom (catalogueOf (view (now img))) (i .0) o + 1) * recordSize ≤ length (now list)) × (k + tableSectors g ≤ length (now numbers)) ⌝ }
-    ensures { λ r. ⌜ Added g (now (numbers .entry)) (now (list .entry)) k (freedSectors (catalogueOf (view (now (img .entry)))) (view (now (img .entry))) (i .0) o) (now (numbers .exit)) (now (list .exit)) r ⌝ }
+    requires { ⌜ (k + sectorsFrom (catalogueOf (view (now img))) (i .0) o + 1) * recordSize ≤ length (now list) ⌝ }
+    requires { ⌜ (k ≤ 3) × (k + tableSectors g ≤ length (now numbers)) ⌝ }
+    ensures { λ r. ⌜ Added g (now (stages .entry)) (now (numbers .entry)) (now (list .entry)) k (freedSectors (catalogueOf (view (now (img .entry)))) (view (now (img .entry))) (i .0) o) (now (numbers .exit)) (now (list .exit)) r ⌝ }
     ensures { λ r. ⌜ (r ≡ k + sectorsFrom (catalogueOf (view (now (img .entry)))) (i .0) o) × (r ≤ k + tableSectors g) ⌝ }
 {
     let n = g.table_sectors();
     let mut j = k;
     let mut t: u64 = 0;
     while t < n {
-        j = put_freed_sector(list, j, numbers, img, g, i, o, t);
+        j = put_freed_sector(list, j, numbers, img, g, stages, i, o, t);
         t += 1;
     }
     j
@@ -95,7 +101,16 @@ pub fn shrink_count(img: &[u8], g: Geometry, i: FileIndex, size: u64) -> usize
 }
 
 // Shrinks file i to the size given: the whole list, which has room for it. The answer is how many records it has.
-pub fn shrink(img: &[u8], g: Geometry, i: FileIndex, size: u64, time: u64, list: &mut [u8]) -> usize
+pub fn shrink(
+    img: &[u8],
+    g: Geometry,
+    stages: &[u64],
+    i: FileIndex,
+    size: u64,
+    time: u64,
+    list: &mut [u8],
+) -> usize
+    requires { ⌜ StagesOf g (view (now img)) (now stages) ⌝ }
     requires { ⌜ Opened (now img) g ⌝ }
     requires { ⌜ i .0 < g .files ⌝ }
     requires { ⌜ recordCount 0 (1 + sectorsFrom (catalogueOf (view (now img))) (i .0) (extentsFor g size)) * recordSize ≤ length (now list) ⌝ }
@@ -103,16 +118,24 @@ pub fn shrink(img: &[u8], g: Geometry, i: FileIndex, size: u64, time: u64, list:
 {
     let mut numbers = [0u64; 1024];
     let s = directory::updated_entry(img, g.edition, i, size, time);
-    let k = commit::put_copy(list, 0, g, &mut numbers, 0, i.sector(), s);
+    let k = commit::put_copy(list, 0, g, stages, &mut numbers, 0, i.sector(), s);
     let first = table::extents_for(g, size);
-    let n = put_freed(list, k, &mut numbers, img, g, i, first);
-    commit::put_commit(list, n, img, g, &numbers, n)
+    let n = put_freed(list, k, &mut numbers, img, g, stages, i, first);
+    commit::put_commit(list, n, img, g, stages, &numbers, n)
 }
 
 // ---- deleting
 
 // The whole list that deletes file i; the list has room for it.
-fn put_delete(img: &[u8], g: Geometry, i: FileIndex, time: u64, list: &mut [u8]) -> usize
+fn put_delete(
+    img: &[u8],
+    g: Geometry,
+    stages: &[u64],
+    i: FileIndex,
+    time: u64,
+    list: &mut [u8],
+) -> usize
+    requires { ⌜ StagesOf g (view (now img)) (now stages) ⌝ }
     requires { ⌜ Opened (now img) g ⌝ }
     requires { ⌜ i .0 < g .files ⌝ }
     requires { ⌜ recordCount 0 (2 + sectorsFrom (catalogueOf (view (now img))) (i .0) 0) * recordSize ≤ length (now list) ⌝ }
@@ -120,11 +143,11 @@ fn put_delete(img: &[u8], g: Geometry, i: FileIndex, time: u64, list: &mut [u8])
 {
     let mut numbers = [0u64; 1024];
     let root = directory::updated_root(img, g.edition, time);
-    let k = commit::put_copy(list, 0, g, &mut numbers, 0, Sector(1), root);
+    let k = commit::put_copy(list, 0, g, stages, &mut numbers, 0, Sector(1), root);
     let entry = [0u8; 512];
-    let j = commit::put_copy(list, k, g, &mut numbers, k, i.sector(), entry);
-    let n = put_freed(list, j, &mut numbers, img, g, i, 0);
-    commit::put_commit(list, n, img, g, &numbers, n)
+    let j = commit::put_copy(list, k, g, stages, &mut numbers, k, i.sector(), entry);
+    let n = put_freed(list, j, &mut numbers, img, g, stages, i, 0);
+    commit::put_commit(list, n, img, g, stages, &numbers, n)
 }
 
 // How many records that list has.
@@ -135,6 +158,29 @@ fn delete_count(img: &[u8], g: Geometry, i: FileIndex) -> usize
     ensures { λ r. ⌜ r ≤ 2048 ⌝ }
 {
     records_for(2 + table::sectors_from(img, g, i, 0))
+}
+
+// Deletes file i: refusals 13 and 14, or the list.
+fn delete_file(img: &[u8], g: Geometry, i: FileIndex, time: u64, list: &mut [u8]) -> Changed
+    requires { ⌜ Opened (now img) g ⌝ }
+    requires { ⌜ i .0 < g .files ⌝ }
+    ensures { λ r. ⌜ r ≡ answerOf (view (now (img .entry))) (deletedAt (view (now (img .entry))) (i .0) time (length (now (list .entry)))) ⌝ }
+    ensures { λ _. ⌜ now (list .exit) ≡ listAfter (view (now (img .entry))) (deletedAt (view (now (img .entry))) (i .0) time (length (now (list .entry)))) (now (list .entry)) ⌝ }
+{
+    let mut stages = [0u64; 5];
+    if table::staging(img, g, &mut stages) {
+        let needed = lists::RECORD_SIZE * delete_count(img, g, i);
+        if needed <= list.len() {
+            put_delete(img, g, &stages, i, time, list);
+            let verdict = volume::refusal(0);
+            return Changed {
+                verdict,
+                length: needed as u64,
+            };
+        }
+        return commit::refused(volume::refusal(14));
+    }
+    commit::refused(volume::refusal(13))
 }
 
 pub fn delete_in(img: &[u8], name: &[u8], time: u64, list: &mut [u8]) -> Changed
@@ -148,16 +194,7 @@ pub fn delete_in(img: &[u8], name: &[u8], time: u64, list: &mut [u8]) -> Changed
     }
     if let Lowest::At(i) = directory::file_named(img, g, name) {
         let index = FileIndex(i as u64);
-        let needed = lists::RECORD_SIZE * delete_count(img, g, index);
-        if needed <= list.len() {
-            put_delete(img, g, index, time, list);
-            let verdict = volume::refusal(0);
-            return Changed {
-                verdict,
-                length: needed as u64,
-            };
-        }
-        return commit::refused(volume::refusal(14));
+        return delete_file(img, g, index, time, list);
     }
     commit::refused(volume::refusal(9))
 }

@@ -5,7 +5,7 @@ use mathlib.Core.Bool.{Bool, _&&_, _||_}
 use lib.Dec.{eqb, ltb}
 use Rattle.model.specs.Bytes.{numberIn}
 use Rattle.model.specs.Search.{first, anyBelow}
-use Rattle.model.specs.Geometry.{usable, extentBytes, entryAt}
+use Rattle.model.specs.Geometry.{extentBytes, entryAt}
 use Rattle.model.specs.Disk.{Disk}
 use Rattle.model.specs.Superblock.{geometryIn}
 use Rattle.model.specs.Entry.{entryField, entryIn, isOccupied, nameIn, badName}
@@ -28,5 +28,5 @@ isBad d edition most i = isOccupied (d (entryAt i)) && (badName edition (nameIn 
 
 pub fault22-on : (d : Disk)
     → first (fault22 (catalogueOf d)) (geometryIn (d 0) .files)
-    ≡ first (isBad d (geometryIn (d 0) .edition) (usable (geometryIn (d 0)) * extentBytes (geometryIn (d 0)))) (geometryIn (d 0) .files)
-fault22-on d = first-ext (fault22 (catalogueOf d)) (isBad d (geometryIn (d 0) .edition) (usable (geometryIn (d 0)) * extentBytes (geometryIn (d 0)))) (geometryIn (d 0) .files) (fault22-is d)
+    ≡ first (isBad d (geometryIn (d 0) .edition) (geometryIn (d 0) .extents * extentBytes (geometryIn (d 0)))) (geometryIn (d 0) .files)
+fault22-on d = first-ext (fault22 (catalogueOf d)) (isBad d (geometryIn (d 0) .edition) (geometryIn (d 0) .extents * extentBytes (geometryIn (d 0)))) (geometryIn (d 0) .files) (fault22-is d)

@@ -11,7 +11,7 @@ ghost use lib.Dec.{eqb, ltb};
 ghost use lib.ListN.{length, getD};
 ghost use Rattle.model.specs.Bytes.{numberIn};
 ghost use Rattle.model.specs.Search.{first, anyBelow, equalBytes};
-ghost use Rattle.model.specs.Geometry.{usable, extentBytes, rootAt, entryAt};
+ghost use Rattle.model.specs.Geometry.{extentBytes, rootAt, entryAt};
 ghost use Rattle.model.specs.Disk.{view};
 ghost use Rattle.model.specs.Root.{rootField, updatedRootSector, accessedRootSector};
 ghost use Rattle.model.specs.Edition.{layoutOf, badTime};
@@ -297,12 +297,12 @@ fn bad_name_at(img: &[u8], edition: u64, i: FileIndex) -> bool
     true
 }
 
-// (N - K) x E
+// N x E
 fn most_bytes(g: Geometry) -> u64
     requires { ⌜ Bounded g ⌝ }
-    ensures { λ r. ⌜ r ≡ usable g * extentBytes g ⌝ }
+    ensures { λ r. ⌜ r ≡ g .extents * extentBytes g ⌝ }
 {
-    g.usable() * (512 * (g.extent_sectors as u64))
+    g.extents * (512 * (g.extent_sectors as u64))
 }
 
 // Entry i is occupied, and its name is bad or its size exceeds `most`.

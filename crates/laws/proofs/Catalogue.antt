@@ -11,7 +11,7 @@ use borrow.Author.Tests.{lt-ltb, eqb-true, ne-eqb}
 use Rattle.model.specs.declared.Geometry.{Geometry}
 use Rattle.model.specs.Bytes.{numberIn}
 use Rattle.model.specs.Search.{first, anyBelow, allBelow, countBelow, equalBytes}
-use Rattle.model.specs.Geometry.{usable, extentBytes, extentsFor, rootAt, entryAt}
+use Rattle.model.specs.Geometry.{extentBytes, extentsFor, rootAt, entryAt}
 use Rattle.model.specs.Disk.{Disk}
 use Rattle.model.specs.Superblock.{geometryIn}
 use Rattle.model.specs.Root.{rootIn}
@@ -64,11 +64,11 @@ module _ (d : Disk) where
   slot-on i l = ap (λ (b : Bool). cond (b && isOccupied (s i)) (some (entryIn (g .edition) (s i))) none) (lt-ltb i (g .files) l)
 
   pub fault22-is : (i : ℕ) → i < g .files
-      → fault22 (catalogueOf d) i ≡ (isOccupied (s i) && (badName (g .edition) (nameIn (g .edition) (s i)) || ltb (usable g * extentBytes g) (numberIn (s i) (entryField .size))))
+      → fault22 (catalogueOf d) i ≡ (isOccupied (s i) && (badName (g .edition) (nameIn (g .edition) (s i)) || ltb (g .extents * extentBytes g) (numberIn (s i) (entryField .size))))
   unfolding fault22 catalogueOf entryIn
   fault22-is i l =
-      ap (λ (o : Option Entry). holdsOf o (λ e. badName (g .edition) (e .name) || ltb (usable g * extentBytes g) (e .size))) (slot-on i l)
-      ∙ among-if (isOccupied (s i)) (entryIn (g .edition) (s i)) (λ e. badName (g .edition) (e .name) || ltb (usable g * extentBytes g) (e .size))
+      ap (λ (o : Option Entry). holdsOf o (λ e. badName (g .edition) (e .name) || ltb (g .extents * extentBytes g) (e .size))) (slot-on i l)
+      ∙ among-if (isOccupied (s i)) (entryIn (g .edition) (s i)) (λ e. badName (g .edition) (e .name) || ltb (g .extents * extentBytes g) (e .size))
 
   pub fault23-is : (i : ℕ) → i < g .files → fault23 (catalogueOf d) i ≡ (isOccupied (s i) && anyBelow (λ j. isOccupied (s j) && equalBytes (nameIn (g .edition) (s j)) (nameIn (g .edition) (s i))) i)
   unfolding fault23 entryIn
@@ -91,13 +91,13 @@ module _ (d : Disk) where
       (λ j k. ap (hasId (idAt i)) (slot-on j (omega arith)) ∙ id-if (isOccupied (s j)) (entryIn (g .edition) (s j)) (idAt i)))
 
   pub fault25-is : (e : ℕ) → e < g .extents
-      → fault25 (catalogueOf d) e ≡ (not (eqb (tableFile g d e) freeFile) && (not (ltb (tableFile g d e) (g .files) && isOccupied (s (tableFile g d e))) || leb (usable g) e))
+      → fault25 (catalogueOf d) e ≡ (not (eqb (tableFile g d e) freeFile) && not (ltb (tableFile g d e) (g .files) && isOccupied (s (tableFile g d e))))
   unfolding fault25 catalogueOf
   fault25-is e l =
       ap (λ (b : Bool). holdsOf (cond (b && not (eqb (tableFile g d e) freeFile)) (some (record { file = tableFile g d e; offset = tableOffset g d e })) none)
-      (λ (w : Owner). isFree (catalogueOf d .entries (w .file)) || leb (usable g) e)) (lt-ltb e (g .extents) l)
-      ∙ among-if (not (eqb (tableFile g d e) freeFile)) (record { file = tableFile g d e; offset = tableOffset g d e }) (λ (w : Owner). isFree (catalogueOf d .entries (w .file)) || leb (usable g) e)
-      ∙ ap (λ (b : Bool). not (eqb (tableFile g d e) freeFile) && (b || leb (usable g) e))
+      (λ (w : Owner). isFree (catalogueOf d .entries (w .file)))) (lt-ltb e (g .extents) l)
+      ∙ among-if (not (eqb (tableFile g d e) freeFile)) (record { file = tableFile g d e; offset = tableOffset g d e }) (λ (w : Owner). isFree (catalogueOf d .entries (w .file)))
+      ∙ ap (λ (b : Bool). not (eqb (tableFile g d e) freeFile) && b)
       (free-if (ltb (tableFile g d e) (g .files) && isOccupied (s (tableFile g d e))) (entryIn (g .edition) (s (tableFile g d e))))
 
   pub table-on : (e : ℕ) → e < g .extents → catalogueOf d .table e ≡ owner (tableFile g d e) (tableOffset g d e)

@@ -10,6 +10,7 @@ pub mod Entry
 pub mod Refusals
 pub mod Catalogue
 pub mod WriteList
+pub mod Staging
 pub mod Recovery
 pub mod Areas
 pub mod Repair

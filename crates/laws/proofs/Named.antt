@@ -15,7 +15,7 @@ use Rattle.model.specs.declared.Geometry.{Geometry}
 use Rattle.model.specs.declared.Lowest.the-variants.{At}
 use Rattle.model.specs.Bytes.{numberIn}
 use Rattle.model.specs.Search.{scan, equalBytes}
-use Rattle.model.specs.Geometry.{superblockAt, entryAt, usable, extentBytes}
+use Rattle.model.specs.Geometry.{superblockAt, entryAt, extentBytes}
 use Rattle.model.specs.Disk.{Disk, view}
 use Rattle.model.specs.Superblock.{geometryIn}
 use Rattle.model.specs.Edition.{layoutOf}
@@ -36,7 +36,7 @@ editionOn d = geometryIn (d superblockAt) .edition
 
 -- the most bytes that a file can have, and an entry that says more
 abbrev roomOf : Disk → ℕ
-roomOf d = usable (geometryIn (d superblockAt)) * extentBytes (geometryIn (d superblockAt))
+roomOf d = geometryIn (d superblockAt) .extents * extentBytes (geometryIn (d superblockAt))
 
 abbrev tooLarge : Disk → ℕ → Bool
 tooLarge d i = ltb (roomOf d) (numberIn (d (entryAt i)) (entryField .size))
@@ -116,8 +116,8 @@ pub size-fits : (img : List ℕ) (g : Geometry) → Opened img g → firstFault 
     → i < geometryIn (view img superblockAt) .files → isOccupied (view img (entryAt i)) ≡ true
     → numberIn (view img (entryAt i)) (entryField .size) < 2 ^ 62
 size-fits img g o s i l h =
-    let a : numberIn (view img (entryAt i)) (entryField .size) ≤ usable g * extentBytes g = rw (o .is) (sound-size (view img) s i l h) in
-    let b : usable g * extentBytes g ≤ 65535 * (512 * 4294967295) =
-    mul-le-mul (let q : usable g ≤ 65535 = omega (arith, o .bounded .extents-high) in q)
+    let a : numberIn (view img (entryAt i)) (entryField .size) ≤ g .extents * extentBytes g = rw (o .is) (sound-size (view img) s i l h) in
+    let b : g .extents * extentBytes g ≤ 65535 * (512 * 4294967295) =
+    mul-le-mul (o .bounded .extents-high)
     (let q : extentBytes g ≤ 512 * 4294967295 = omega (arith, o .bounded .extent-high) in q) in
     omega arith

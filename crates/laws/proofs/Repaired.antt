@@ -11,7 +11,7 @@ use borrow.Author.Tests.{eqb-true, eq-eqb, lt-leb, leb-true, leb-false}
 use Rattle.model.specs.declared.Lowest.{Lowest}
 use Rattle.model.specs.declared.Lowest.the-variants.{At, Nowhere}
 use Rattle.model.specs.Search.{scan, first, anyBelow, allBelow, countBelow, isAt, indexOf}
-use Rattle.model.specs.Geometry.{usable, extentsFor}
+use Rattle.model.specs.Geometry.{extentsFor}
 use Rattle.model.specs.Entry.{Entry}
 use Rattle.model.specs.Catalogue.{Catalogue, Owner, isFree, isPart, ownedFrom, entryOr, extentOf}
 use Rattle.model.specs.Faults.{holdsOf, fault25, exact}
@@ -108,8 +108,8 @@ module _ (c : Catalogue) where
     pub extent-repaired : extentOf (repaired c) i o ≡ extentOf c i o
     unfolding extentOf repaired
     extent-repaired =
-        ap indexOf (let q : first (λ e. isPart i o (repaired c .table e)) (usable (c .geometry)) ≡ first (lowest P) (usable (c .geometry)) =
-        first-ext (λ e. isPart i o (repaired c .table e)) (lowest P) (usable (c .geometry)) (λ e l. part-repaired e) in q ∙ first-lowest P (usable (c .geometry)))
+        ap indexOf (let q : first (λ e. isPart i o (repaired c .table e)) (c .geometry .extents) ≡ first (lowest P) (c .geometry .extents) =
+        first-ext (λ e. isPart i o (repaired c .table e)) (lowest P) (c .geometry .extents) (λ e l. part-repaired e) in q ∙ first-lowest P (c .geometry .extents))
 
     pub countBelow-repaired : (n : ℕ) → countBelow (λ e. isPart i o (repaired c .table e)) n ≡ cond (anyBelow (λ e. isPart i o (c .table e)) n) 1 0
     countBelow-repaired n = countBelow-ext (λ e. isPart i o (repaired c .table e)) (lowest P) n (λ e l. part-repaired e) ∙ countBelow-lowest P n
@@ -167,17 +167,10 @@ module _ (c : Catalogue) where
   repaired-again =
       λ j. record { geometry = c .geometry; root = c .root; entries = c .entries; table = fun-ext (λ e. ap (λ (b : Bool). cond b none (repaired c .table e)) (stray-again e)) j }
 
-  -- no 25 where the reserve is free
-  pub fault25-repaired : (e : ℕ) → (usable (c .geometry) ≤ e → c .table e ≡ none) → fault25 (repaired c) e ≡ false
+  -- no 25
+  pub fault25-repaired : (e : ℕ) → fault25 (repaired c) e ≡ false
   unfolding fault25 repaired
-  fault25-repaired e free = none-stays e (λ w. isFree (c .entries (w .file)) || leb (usable (c .geometry)) e) (λ w z s. λ j. s .occupied j || low w z j)
-    where
-      low : (w : Owner) → c .table e ≡ some w → leb (usable (c .geometry)) e ≡ false
-      low w z = go (leb (usable (c .geometry)) e) refl
-        where
-          go : (b : Bool) → leb (usable (c .geometry)) e ≡ b → leb (usable (c .geometry)) e ≡ false
-          go true q = absurd (Option·none-ne-some w (sym (free (leb-true (usable (c .geometry)) e q)) ∙ z))
-          go false q = q
+  fault25-repaired e = none-stays e (λ w. isFree (c .entries (w .file))) (λ w z s. s .occupied)
 
   -- an occupied file has exactly its extents if each of its offsets had one
   module _ (i : ℕ) (x : Entry) (has : c .entries i ≡ some x) where

@@ -10,12 +10,13 @@ use lib.ListN.{length, getD, length-append, length-map}
 use Rattle.model.specs.declared.Geometry.{Geometry}
 use Rattle.model.specs.Bytes.{beBytes, bytesFrom, put}
 use Rattle.model.specs.Search.{tabulate}
-use Rattle.model.specs.Geometry.{superblockAt, journalAt, reserveAt}
+use Rattle.model.specs.Geometry.{superblockAt, journalAt}
 use Rattle.model.specs.Disk.{Disk}
+use Rattle.model.specs.Catalogue.{catalogueOf}
 use Rattle.model.specs.Superblock.{geometryIn}
 use Rattle.model.specs.Journal.{journalSectors, journalSector}
 use Rattle.model.specs.WriteList.{Record, Group, Plan, sectorWrite, barrier, recordSize, numberStart, contentsStart, recordBytes, listBytes, emit, Emitted, stored}
-use Rattle.model.specs.WriteList.{staging, copies, sectorsOf, journalOf, groupA, groupsOf, groupsFor, listLength, recordCount}
+use Rattle.model.specs.WriteList.{stageIn, stagesIn, staging, copies, sectorsOf, journalOf, groupA, groupsOf, groupsFor, listLength, recordCount}
 use Rattle.laws.proofs.Bytes.{length-beBytes, length-bytesFrom, length-put, bytesFrom-all, put-append, put-nil, put-in}
 use Rattle.laws.proofs.Search.{length-tabulate, getD-tab0, tabulate-ext}
 
@@ -97,11 +98,21 @@ sector-at [] k h = absurd (not-suc-le-zero h)
 sector-at (t ∷ ts) zero h = refl
 sector-at (t ∷ ts) (suc k) h = sector-at ts k (omega arith)
 
-pub copies-are : (g : Geometry) (ts : Group) → copies (staging g (length ts)) ts ≡ tabulate (λ k. sectorWrite (reserveAt g + k) (getD ts k barrier .contents)) 0 (length ts)
-unfolding copies staging
-copies-are g ts =
+-- the stage of copy k, and the copies in their stages
+pub stage-at : (g : Geometry) (extents : List ℕ) (n k : ℕ) → k < n → getD (stagesIn g extents n) k 0 ≡ stageIn g extents k
+unfolding stagesIn
+stage-at g extents n k h = getD-tab0 (stageIn g extents) n k 0 h
+
+pub length-stages : (g : Geometry) (extents : List ℕ) (n : ℕ) → length (stagesIn g extents n) ≡ n
+unfolding stagesIn
+length-stages g extents n = length-tabulate (stageIn g extents) 0 n
+
+pub copies-are : (g : Geometry) (extents : List ℕ) (ts : Group)
+    → copies (stagesIn g extents (length ts)) ts ≡ tabulate (λ k. sectorWrite (stageIn g extents k) (getD ts k barrier .contents)) 0 (length ts)
+unfolding copies
+copies-are g extents ts =
     tabulate-ext _ _ 0 0 (length ts)
-    (λ k l. ap (λ (s : ℕ). sectorWrite s (getD ts (0 + k) barrier .contents)) (getD-tab0 (λ k. reserveAt g + k) (length ts) (0 + k) 0 (omega arith)))
+    (λ k l. ap (λ (s : ℕ). sectorWrite s (getD ts (0 + k) barrier .contents)) (stage-at g extents (length ts) (0 + k) (omega arith)))
 
 pub length-copies : (stages : List ℕ) (ts : Group) → length (copies stages ts) ≡ length ts
 unfolding copies
@@ -113,15 +124,16 @@ length-journalOf g stages targets =
     length-tabulate (λ j. sectorWrite (journalAt g + j) (journalSector (λ k. getD stages k 0) (λ k. getD targets k 0) (length targets) j)) 0 (journalSectors (length targets))
 
 -- how many records group A has; how many bytes a plan's list takes, by which refusal 14 is decided
-length-groupA : (g : Geometry) (p : Plan)
-    → length (groupA g (staging g (length (p .targets))) p) ≡ length (p .dataSectors) + length (p .targets) + journalSectors (length (p .targets))
+length-groupA : (g : Geometry) (stages : List ℕ) (p : Plan)
+    → length (groupA g stages p) ≡ length (p .dataSectors) + length (p .targets) + journalSectors (length (p .targets))
 unfolding groupA
-length-groupA g p = simp (length-append, length-copies, length-journalOf, length-map) (omega arith)
+length-groupA g stages p = simp (length-append, length-copies, length-journalOf, length-map) (omega arith)
 
-pub length-groups : (g : Geometry) (d : Disk) (p : Plan) → listLength (groupsOf g d p) ≡ recordCount (length (p .dataSectors)) (length (p .targets)) * recordSize
+pub length-groups : (g : Geometry) (stages : List ℕ) (d : Disk) (p : Plan)
+    → listLength (groupsOf g stages d p) ≡ recordCount (length (p .dataSectors)) (length (p .targets)) * recordSize
 unfolding groupsOf
-length-groups g d p = simp (length-append) (omega (arith, length-groupA g p))
+length-groups g stages d p = simp (length-append) (omega (arith, length-groupA g stages p))
 
 pub plan-needs : (d : Disk) (p : Plan) → listLength (groupsFor d (some p)) ≡ recordCount (length (p .dataSectors)) (length (p .targets)) * recordSize
 unfolding groupsFor
-plan-needs d p = length-groups (geometryIn (d superblockAt)) d p
+plan-needs d p = length-groups (geometryIn (d superblockAt)) (staging (catalogueOf d) (length (p .targets))) d p

@@ -1,15 +1,15 @@
 -- What a volume says, apart from its files' bytes: the geometry, the root, each directory entry, each table entry. What a call
 -- decides is a function of this, so that a disk and the ledger can be asked the same question.
-use Prim.Native.Nat.{ℕ, _+_, _*_, _/_, _%_}
+use Prim.Native.Nat.{ℕ, _+_, _*_, _-_, _/_, _%_}
 use mathlib.Core.Bool.{Bool, true, false, cond, not, _&&_}
-use mathlib.Core.List.{List, []}
+use mathlib.Core.List.{List, [], _∷_}
 use mathlib.Core.Option.{Option, none, some}
 use lib.Dec.{eqb, leb, ltb}
-use lib.ListN.{getD}
+use lib.ListN.{length, getD, drop}
 use Rattle.model.specs.declared.Geometry.{Geometry}
 use Rattle.model.specs.declared.Lowest.{Lowest}
-use Rattle.model.specs.Search.{first, anyBelow, countBelow, tabulate, indexOf, equalBytes}
-use Rattle.model.specs.Geometry.{SectorNumber, ExtentNumber, FileNumber, extentSectors, usable, superblockAt, rootAt, entryAt, extentAt, tableSectors}
+use Rattle.model.specs.Search.{first, anyBelow, countBelow, tabulate, concatenated, indexOf, equalBytes}
+use Rattle.model.specs.Geometry.{SectorNumber, ExtentNumber, FileNumber, extentSectors, reserveExtents, superblockAt, rootAt, entryAt, extentAt, tableSectors}
 use Rattle.model.specs.Disk.{Disk}
 use Rattle.model.specs.Superblock.{geometryIn}
 use Rattle.model.specs.Root.{Root, rootIn}
@@ -72,7 +72,7 @@ entryOr none = noEntry
 entryOr (some e) = e
 
 module _ (c : Catalogue) where
-  -- the file of that name; the lowest free entry; the lowest usable free extent
+  -- the file of that name; the lowest free entry; the lowest free extent
   unfoldable pub fileNamed : List ℕ → Lowest
   fileNamed n = first (λ i. hasName n (c .entries i)) (c .geometry .files)
 
@@ -80,7 +80,21 @@ module _ (c : Catalogue) where
   freeEntry = first (λ i. isFree (c .entries i)) (c .geometry .files)
 
   unfoldable pub freeExtent : Lowest
-  freeExtent = first (λ e. isFree (c .table e)) (usable (c .geometry))
+  freeExtent = first (λ e. isFree (c .table e)) (c .geometry .extents)
+
+  -- the free extents below extent n, in rising order; all of them
+  unfoldable pub freeBelow : ℕ → List ExtentNumber
+  freeBelow n = concatenated (λ e. cond (isFree (c .table e)) (e ∷ []) []) 0 n
+
+  abbrev pub freeExtents : List ExtentNumber
+  freeExtents = freeBelow (c .geometry .extents)
+
+  -- T-12: "at least K extents must stay free": fewer are; "the K highest extents free .., in rising order"
+  unfoldable pub lacksReserve : Bool
+  lacksReserve = ltb (length freeExtents) (reserveExtents (c .geometry))
+
+  unfoldable pub stagingExtents : List ExtentNumber
+  stagingExtents = drop (length freeExtents - reserveExtents (c .geometry)) freeExtents
 
   -- what entry i says; where it is free, nothing but zeros
   unfoldable pub entryOf : FileNumber → Entry
@@ -88,7 +102,7 @@ module _ (c : Catalogue) where
 
   -- file i's extent of offset o; where the file's sector s stands
   unfoldable pub extentOf : FileNumber → ℕ → ExtentNumber
-  extentOf i o = indexOf (first (λ e. isPart i o (c .table e)) (usable (c .geometry)))
+  extentOf i o = indexOf (first (λ e. isPart i o (c .table e)) (c .geometry .extents))
 
   unfoldable pub sectorOf : FileNumber → ℕ → SectorNumber
   sectorOf i s = extentAt (c .geometry) (extentOf i (s / extentSectors (c .geometry))) + s % extentSectors (c .geometry)

@@ -3,14 +3,14 @@
 use Prim.Native.Nat.{ℕ, _*_}
 use mathlib.Core.Bool.{Bool, false, not, _&&_, _||_}
 use mathlib.Core.Option.{Option, none, some}
-use lib.Dec.{eqb, leb, ltb}
+use lib.Dec.{eqb, ltb}
 use Rattle.model.specs.declared.Lowest.{Lowest}
 use Rattle.model.specs.declared.Lowest.the-variants.{At, Nowhere}
 use Rattle.model.specs.declared.Soundness.{Soundness}
 use Rattle.model.specs.declared.Soundness.the-variants.{Sound, Faulty}
 use Rattle.model.specs.Bytes.{numberIn}
 use Rattle.model.specs.Search.{first, anyBelow, allBelow, countBelow}
-use Rattle.model.specs.Geometry.{ExtentNumber, FileNumber, extentBytes, usable, entryAt, extentsFor}
+use Rattle.model.specs.Geometry.{ExtentNumber, FileNumber, extentBytes, entryAt, extentsFor}
 use Rattle.model.specs.Disk.{Disk}
 use Rattle.model.specs.Entry.{entryField, freeMark, isOccupied, badName}
 use Rattle.model.specs.Catalogue.{Catalogue, catalogueOf, isFree, hasName, hasId, isPart, ownedFrom}
@@ -25,9 +25,9 @@ unfoldable pub fault21 : Disk → FileNumber → Bool
 fault21 d i = not (eqb (numberIn (d (entryAt i)) (entryField .mark)) freeMark || isOccupied (d (entryAt i)))
 
 module _ (c : Catalogue) where
-  -- 22 occupied, and the name length isn't 1 to 476, on version 2 to 468, or a name byte is 0, or size exceeds (N - K) x E
+  -- 22 occupied, and the name length isn't 1 to 476, on version 2 to 468, or a name byte is 0, or size exceeds N x E (T-12)
   unfoldable pub fault22 : FileNumber → Bool
-  fault22 i = holdsOf (c .entries i) (λ e. badName (c .geometry .edition) (e .name) || ltb (usable (c .geometry) * extentBytes (c .geometry)) (e .size))
+  fault22 i = holdsOf (c .entries i) (λ e. badName (c .geometry .edition) (e .name) || ltb (c .geometry .extents * extentBytes (c .geometry)) (e .size))
 
   -- 23 same name as an occupied entry of lower index
   unfoldable pub fault23 : FileNumber → Bool
@@ -37,9 +37,9 @@ module _ (c : Catalogue) where
   unfoldable pub fault24 : FileNumber → Bool
   fault24 i = holdsOf (c .entries i) (λ e. eqb (e .id) 0 || eqb (e .id) (c .root .id) || anyBelow (λ j. hasId (e .id) (c .entries j)) i)
 
-  -- 25 a table entry names no occupied file and isn't free, or a reserve entry isn't free
+  -- 25 a table entry names no occupied file and isn't free. T-12: it "no longer looks at the reserve"
   unfoldable pub fault25 : ExtentNumber → Bool
-  fault25 e = holdsOf (c .table e) (λ w. isFree (c .entries (w .file)) || leb (usable (c .geometry)) e)
+  fault25 e = holdsOf (c .table e) (λ w. isFree (c .entries (w .file)))
 
   -- "exactly one entry for each offset 0 to k - 1 and no others"
   unfoldable pub exact : FileNumber → ℕ → Bool

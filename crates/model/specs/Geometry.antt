@@ -29,7 +29,8 @@ tableSectors g = (g .extents + 127) / 128
 abbrev pub mostTargets : Geometry → ℕ
 mostTargets g = tableSectors g + 3
 
--- "The last K extents ... are the reserve and never belong to a file. The first N - K are usable." T-01: "K = (T + 3) / S rounded up"
+-- T-01: "K = (T + 3) / S rounded up". T-12: "the reserve is a count: at least K extents must stay free, anywhere". The summary puts it at the last
+-- K extents, where it stands on a volume of our own format
 abbrev pub reserveExtents : Geometry → ℕ
 reserveExtents g = (mostTargets g + (extentSectors g - 1)) / extentSectors g
 

@@ -1,9 +1,11 @@
 -- "List copies entry i's name and gives its fields." 8 an index of F or more, 9 listed entry is free, 14 output or list too short.
 -- T-02: "Read and list now take a time and also give a write list: one target, the entry or the root, with the access time set and the
--- version unchanged. Refusal 14 covers both buffers and neither changes." The fields given are those before the call.
+-- version unchanged. Refusal 14 covers both buffers and neither changes." The fields given are those before the call. T-12: where fewer than K
+-- extents are free, "read and list answer there with an empty write list and the access time stays".
 use Prim.Native.Nat.{ℕ}
+use mathlib.Core.Bool.{cond}
 use mathlib.Core.List.{List, [], _∷_}
-use mathlib.Core.Option.{some}
+use mathlib.Core.Option.{Option, none, some}
 use lib.Dec.{leb, ltb}
 use lib.ListN.{length}
 use Rattle.model.specs.declared.Listed.{Listed}
@@ -14,7 +16,7 @@ use Rattle.model.specs.Disk.{Disk}
 use Rattle.model.specs.Edition.{badTime}
 use Rattle.model.specs.Root.{accessedRootSector}
 use Rattle.model.specs.Entry.{fieldsOf, noFields}
-use Rattle.model.specs.Catalogue.{Catalogue, catalogueOf, entryOf, isFree}
+use Rattle.model.specs.Catalogue.{Catalogue, catalogueOf, lacksReserve, entryOf, isFree}
 use Rattle.model.specs.Refusals.{Conditions, given, refusal}
 use Rattle.model.specs.WriteList.{Plan, oneTarget, groupsFor, listLength, Decision, decided, listAfter}
 
@@ -27,11 +29,14 @@ listConditions c i time room =
 unfoldable pub listPlan : Catalogue → Disk → ℕ → Plan
 listPlan c d time = oneTarget rootAt (accessedRootSector (c .geometry .edition) time (d rootAt))
 
+unfoldable pub listPlanned : Catalogue → Disk → ℕ → Option Plan
+listPlanned c d time = cond (lacksReserve c) none (some (listPlan c d time))
+
 -- room is the output's length, space the list's
 unfoldable pub listDecision : ℕ → Disk → ℕ → ℕ → ℕ → ℕ → Decision
 listDecision len d i time room space =
     let c = catalogueOf d in
-    decided len d (listConditions c i time room) (some (listPlan c d time)) space
+    decided len d (listConditions c i time room) (listPlanned c d time) space
 
 abbrev pub notListed : Verdict → Listed
 notListed v = record { verdict = v; fields = noFields; length = 0 }

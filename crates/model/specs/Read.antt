@@ -1,10 +1,11 @@
 -- "Read gives min(count, size - offset) bytes." 8 bad name or more than 65,536 bytes asked, 9, 12 offset greater than size, 14.
 -- T-02: "Read and list now take a time and also give a write list: one target, the entry or the root, with the access time set and the
--- version unchanged. Refusal 14 covers both buffers and neither changes." "A read of 0 bytes still sets the time."
+-- version unchanged. Refusal 14 covers both buffers and neither changes." "A read of 0 bytes still sets the time." T-12: where fewer than K extents
+-- are free, "read and list answer there with an empty write list and the access time stays".
 use Prim.Native.Nat.{ℕ, _-_, min}
-use mathlib.Core.Bool.{not, _||_}
+use mathlib.Core.Bool.{cond, not, _||_}
 use mathlib.Core.List.{List, [], _∷_}
-use mathlib.Core.Option.{some}
+use mathlib.Core.Option.{Option, none, some}
 use lib.Dec.{ltb}
 use lib.ListN.{length}
 use Rattle.model.specs.declared.BytesRead.{BytesRead}
@@ -15,7 +16,7 @@ use Rattle.model.specs.Geometry.{FileNumber, entryAt}
 use Rattle.model.specs.Disk.{Disk}
 use Rattle.model.specs.Edition.{badTime}
 use Rattle.model.specs.Entry.{badName, accessedEntrySector}
-use Rattle.model.specs.Catalogue.{Catalogue, catalogueOf, fileNamed, entryOf, fileBytes}
+use Rattle.model.specs.Catalogue.{Catalogue, catalogueOf, fileNamed, lacksReserve, entryOf, fileBytes}
 use Rattle.model.specs.Refusals.{Conditions, given, refusal}
 use Rattle.model.specs.WriteList.{Plan, oneTarget, groupsFor, listLength, Decision, decided, listAfter}
 
@@ -40,11 +41,14 @@ readConditions c name offset asked time room =
 unfoldable pub readPlan : Catalogue → Disk → FileNumber → ℕ → Plan
 readPlan c d i time = oneTarget (entryAt i) (accessedEntrySector (c .geometry .edition) time (d (entryAt i)))
 
+unfoldable pub readPlanned : Catalogue → Disk → FileNumber → ℕ → Option Plan
+readPlanned c d i time = cond (lacksReserve c) none (some (readPlan c d i time))
+
 -- room is the output's length, space the list's
 unfoldable pub readDecision : ℕ → Disk → List ℕ → ℕ → ℕ → ℕ → ℕ → ℕ → Decision
 readDecision len d name offset asked time room space =
     let c = catalogueOf d in
-    decided len d (readConditions c name offset asked time room) (some (readPlan c d (indexOf (fileNamed c name)) time)) space
+    decided len d (readConditions c name offset asked time room) (readPlanned c d (indexOf (fileNamed c name)) time) space
 
 abbrev pub notRead : Verdict → BytesRead
 notRead v = record { verdict = v; count = 0; length = 0 }

@@ -1,29 +1,27 @@
 -- Request T-06, repair. "A repair call produces one transaction that frees each table entry not yet free that names no occupied file, or
 -- has an offset at or above the file's count, or repeats an offset that a lower extent of that file already holds; freed entries as in
--- delete. Its targets are the changed table sectors only. It runs on clean volumes with any faults, but is refused 7 if a reserve entry
--- isn't free; fault 25 and the lowest such extent go with it. Missing extents are reported, never invented: the answer lists the number
--- of entries freed and the first fault that remains with its place, both 0 if none."
+-- delete. Its targets are the changed table sectors only. It runs on clean volumes with any faults. .. Missing extents are reported, never
+-- invented: the answer lists the number of entries freed and the first fault that remains with its place, both 0 if none."
+-- T-12: it "no longer refuses a taken last extent, but refuses 13 if it has a target and fewer than K are free".
 use Prim.Native.Nat.{ℕ, _+_, _*_}
-use mathlib.Core.Bool.{Bool, cond, not, _&&_, _||_}
+use mathlib.Core.Bool.{Bool, cond, _||_}
 use mathlib.Core.List.{List, [], _∷_}
 use mathlib.Core.Option.{Option, none, some}
-use lib.Dec.{leb, ltb}
+use lib.Dec.{leb}
 use lib.ListN.{length}
-use Rattle.model.specs.declared.Lowest.{Lowest}
-use Rattle.model.specs.declared.Lowest.the-variants.{At, Nowhere}
 use Rattle.model.specs.declared.Soundness.{Soundness}
 use Rattle.model.specs.declared.Soundness.the-variants.{Sound, Faulty}
 use Rattle.model.specs.declared.Verdict.{Verdict}
 use Rattle.model.specs.declared.Repaired.{Repaired}
-use Rattle.model.specs.Search.{first, anyBelow, countBelow, concatenated}
-use Rattle.model.specs.Geometry.{ExtentNumber, usable, tableAt, tableSectors, extentsFor}
+use Rattle.model.specs.Search.{anyBelow, countBelow, concatenated}
+use Rattle.model.specs.Geometry.{ExtentNumber, tableAt, tableSectors, extentsFor}
 use Rattle.model.specs.Disk.{Disk}
 use Rattle.model.specs.Superblock.{stateOn}
 use Rattle.model.specs.Table.{freedIn}
 use Rattle.model.specs.Catalogue.{Catalogue, catalogueOf, isFree, isPart, entryOr}
 use Rattle.model.specs.Faults.{holdsOf, fault21, faultsIn}
 use Rattle.model.specs.Refusals.{verdictOf, andThen, given, isDone, done, refusal, imageVerdict, stateNumber}
-use Rattle.model.specs.WriteList.{Plan, Record, sectorWrite, groupsFor, listLength, Decision, listAfter}
+use Rattle.model.specs.WriteList.{Plan, Record, sectorWrite, groupsFor, listLength, planConditions, Decision, listAfter}
 
 module _ (c : Catalogue) where
   -- extent e is freed: its entry isn't free yet, and names no occupied file, or has an offset at or above the file's count C, or repeats
@@ -45,10 +43,6 @@ module _ (c : Catalogue) where
   unfoldable pub repaired : Catalogue
   repaired = record { geometry = c .geometry; root = c .root; entries = c .entries; table = λ e. cond (isStray e) none (c .table e) }
 
-  -- the lowest extent of the reserve that isn't free
-  unfoldable pub takenReserve : Lowest
-  takenReserve = first (λ e. leb (usable (c .geometry)) e && not (isFree (c .table e))) (c .geometry .extents)
-
 -- ---- the plan
 
 -- table sector t with its strays freed, if it holds one
@@ -66,18 +60,11 @@ repairPlanned c d = cond (anyBelow (isStray c) (c .geometry .extents)) (some (re
 
 -- ---- what the call comes to
 
--- 7 a reserve entry isn't free; fault 25 and the lowest such extent go with it
-abbrev pub reserveVerdict : Lowest → Verdict
-reserveVerdict (At e) = record { number = 7; fault = 25; place = e }
-reserveVerdict Nowhere = done
-
--- 1 to 6, 7, 14
+-- 1 to 6, 13, 14
 unfoldable pub repairVerdict : ℕ → Disk → ℕ → Verdict
 repairVerdict len d room =
-    let c = catalogueOf d in
     andThen (imageVerdict len d)
-    (andThen (refusal (stateNumber (stateOn d)))
-    (andThen (reserveVerdict (takenReserve c)) (verdictOf ((ltb room (listLength (groupsFor d (repairPlanned c d))), refusal 14) ∷ []))))
+    (andThen (refusal (stateNumber (stateOn d))) (verdictOf (planConditions d (repairPlanned (catalogueOf d) d) room)))
 
 unfoldable pub repairDecision : ℕ → Disk → ℕ → Decision
 repairDecision len d room =

@@ -1,6 +1,6 @@
 -- "Write at an offset up to the size: size grows if needed, version up, change time set. At most one new extent is ever needed;
 -- the lowest usable free one is taken. Bytes of a touched sector outside the span stay. Targets: entry, and the table sector if
--- changed."
+-- changed." T-12: "An allocation takes the lowest free extent and is refused 13 if fewer than K + 1 are free."
 use Prim.Native.Nat.{ℕ, _+_, _*_, _-_, _/_, _%_, min, max}
 use mathlib.Core.Bool.{Bool, cond, not, _&&_, _||_}
 use mathlib.Core.List.{List, [], _∷_}
@@ -10,12 +10,12 @@ use lib.ListN.{length}
 use Rattle.model.specs.declared.Changed.{Changed}
 use Rattle.model.specs.Bytes.{bytesFrom, put}
 use Rattle.model.specs.Search.{tabulate, isAt, indexOf}
-use Rattle.model.specs.Geometry.{SectorNumber, FileNumber, extentSectors, entryAt, extentAt, extentsFor}
+use Rattle.model.specs.Geometry.{SectorNumber, FileNumber, extentSectors, reserveExtents, entryAt, extentAt, extentsFor}
 use Rattle.model.specs.Disk.{Disk}
 use Rattle.model.specs.Edition.{badTime}
 use Rattle.model.specs.Entry.{badName, updatedEntrySector}
 use Rattle.model.specs.Table.{tableSectorOf, takenIn}
-use Rattle.model.specs.Catalogue.{Catalogue, catalogueOf, fileNamed, freeExtent, entryOf, extentOf}
+use Rattle.model.specs.Catalogue.{Catalogue, catalogueOf, fileNamed, freeExtent, freeExtents, entryOf, extentOf}
 use Rattle.model.specs.Refusals.{Conditions, refusal}
 use Rattle.model.specs.WriteList.{Plan, Record, sectorWrite, Decision, decided, answerOf, listAfter}
 use Rattle.model.specs.Read.{longestTransfer, sizeNamed}
@@ -41,9 +41,9 @@ module _ (c : Catalogue) (i : FileNumber) where
   unfoldable pub grows : ℕ → Bool
   grows z = ltb heldExtents (extentsFor (c .geometry) z)
 
-  -- 13 one more extent is needed and no usable one is free
+  -- 13 one more extent is needed and fewer than K + 1 are free
   unfoldable pub noRoom : ℕ → Bool
-  noRoom z = grows z && not (isAt (freeExtent c))
+  noRoom z = grows z && ltb (length (freeExtents c)) (reserveExtents (c .geometry) + 1)
 
   -- where file sector s stands: in the file's extents, or behind them in the one that is taken
   unfoldable pub fileSectorAt : ℕ → SectorNumber

@@ -1,9 +1,9 @@
 -- Write lists: "Each record becomes 528 bytes: its position in the list, from 0, in 8 bytes, then the 520 as before" (request T-09),
 -- which are "sector number (8), contents (512)"; "A list has four groups, each closed by a barrier: (A) data sectors in file order, then
 -- copies, then journal sectors; (B) superblock with length n; (C) the n targets in rising order; (D) superblock with length 0."
-use Prim.Native.Nat.{ℕ, suc, _+_, _*_, _-_, _^_}
+use Prim.Native.Nat.{ℕ, suc, _+_, _*_, _-_, _/_, _%_, _^_}
 use mathlib.Core.Path.{_≡_}
-use mathlib.Core.Bool.{cond}
+use mathlib.Core.Bool.{Bool, true, false, cond, _&&_}
 use mathlib.Core.List.{List, [], _∷_, _++_, map}
 use mathlib.Core.Option.{Option, none, some}
 use lib.Dec.{eqb, ltb}
@@ -13,10 +13,11 @@ use Rattle.model.specs.declared.Verdict.{Verdict}
 use Rattle.model.specs.declared.Changed.{Changed}
 use Rattle.model.specs.Bytes.{beBytes, bytesFrom, put, zeroSector}
 use Rattle.model.specs.Search.{tabulate}
-use Rattle.model.specs.Geometry.{SectorNumber, superblockAt, journalAt, reserveAt}
+use Rattle.model.specs.Geometry.{SectorNumber, ExtentNumber, extentSectors, superblockAt, journalAt, extentAt}
 use Rattle.model.specs.Disk.{Disk}
 use Rattle.model.specs.Superblock.{geometryIn, withJournalLength}
 use Rattle.model.specs.Journal.{journalSectors, journalSector}
+use Rattle.model.specs.Catalogue.{Catalogue, catalogueOf, lacksReserve, stagingExtents}
 use Rattle.model.specs.Refusals.{Conditions, verdictOf, andThen, isDone, refusal, judged}
 
 -- ---- records
@@ -81,9 +82,16 @@ oneTarget s c = record { dataSectors = []; targets = sectorWrite s c ∷ [] }
 abbrev pub Group : Type 0
 Group = List Record
 
--- "The k-th target's copy goes to the k-th reserve sector": the staging sectors of n copies
-unfoldable pub staging : Geometry → ℕ → List SectorNumber
-staging g n = tabulate (λ k. reserveAt g + k) 0 n
+-- T-12: "Staging uses the K highest extents free before the call, in rising order": copy k goes to sector k mod S of the (k / S)-th of these
+-- extents; so the staging sectors of n copies, and on a volume
+unfoldable pub stageIn : Geometry → List ExtentNumber → ℕ → SectorNumber
+stageIn g extents k = extentAt g (getD extents (k / extentSectors g) 0) + k % extentSectors g
+
+unfoldable pub stagesIn : Geometry → List ExtentNumber → ℕ → List SectorNumber
+stagesIn g extents n = tabulate (stageIn g extents) 0 n
+
+unfoldable pub staging : Catalogue → ℕ → List SectorNumber
+staging c n = stagesIn (c .geometry) (stagingExtents c) n
 
 unfoldable pub copies : List SectorNumber → Group → Group
 copies stages ts = tabulate (λ k. sectorWrite (getD stages k 0) (getD ts k barrier .contents)) 0 (length ts)
@@ -103,15 +111,15 @@ groupA g stages p = p .dataSectors ++ copies stages (p .targets) ++ journalOf g 
 abbrev pub superblockGroup : Disk → ℕ → Group
 superblockGroup d n = sectorWrite superblockAt (withJournalLength n (d superblockAt)) ∷ []
 
-unfoldable pub groupsOf : Geometry → Disk → Plan → List Group
-groupsOf g d p =
+unfoldable pub groupsOf : Geometry → List SectorNumber → Disk → Plan → List Group
+groupsOf g stages d p =
     let n = length (p .targets) in
-    groupA g (staging g n) p ∷ superblockGroup d n ∷ p .targets ∷ superblockGroup d 0 ∷ []
+    groupA g stages p ∷ superblockGroup d n ∷ p .targets ∷ superblockGroup d 0 ∷ []
 
 -- no plan, no groups: an empty list
 unfoldable pub groupsFor : Disk → Option Plan → List Group
 groupsFor d none = []
-groupsFor d (some p) = groupsOf (geometryIn (d superblockAt)) d p
+groupsFor d (some p) = groupsOf (geometryIn (d superblockAt)) (staging (catalogueOf d) (length (p .targets))) d p
 
 -- the records of groups, a barrier after each, behind those of acc
 abbrev pub closedAfter : List Record → List Group → List Record
@@ -135,14 +143,24 @@ pub record Decision : Type 0 where
   pub verdict : Verdict
   pub plan : Option Plan
 
--- the call's own refusals, last of them 14 list too short for the answer
+-- a recovery's own refusals, last of them 14 list too short for the answer
 abbrev pub ownVerdict : Conditions → ℕ → ℕ → Verdict
 ownVerdict cs room needed = andThen (verdictOf cs) (verdictOf ((ltb room needed, refusal 14) ∷ []))
 
--- on an image of len bytes: 1 to 7, its own conditions, 14 by the lent list's length, or the plan
+-- a plan has targets
+abbrev pub isPlanned : Option Plan → Bool
+isPlanned none = false
+isPlanned (some p) = true
+
+-- T-12: "a sound volume with fewer than K free refuses with 13 every call that has a target"; 14 list too short for the answer
+unfoldable pub planConditions : Disk → Option Plan → ℕ → Conditions
+planConditions d plan room =
+    (isPlanned plan && lacksReserve (catalogueOf d), refusal 13) ∷ (ltb room (listLength (groupsFor d plan)), refusal 14) ∷ []
+
+-- on an image of len bytes: 1 to 7, its own conditions, 13 and 14 by its plan, or the plan
 unfoldable pub decided : ℕ → Disk → Conditions → Option Plan → ℕ → Decision
 decided len d cs plan room =
-    let v = andThen (judged len d) (ownVerdict cs room (listLength (groupsFor d plan))) in
+    let v = andThen (judged len d) (andThen (verdictOf cs) (verdictOf (planConditions d plan room))) in
     record { verdict = v; plan = cond (isDone v) plan none }
 
 -- its answer, and what it leaves in the lent list

@@ -1,9 +1,9 @@
 -- What list answers and leaves in both buffers, test by test. Assumes nothing.
 use Prim.Native.Nat.{ℕ, _*_, _≤_, _<_}
-use mathlib.Core.Path.{_≡_, sym, ap, _∙_, subst}
-use mathlib.Core.Bool.{true, false}
+use mathlib.Core.Path.{_≡_, sym, ap, ap₂, _∙_, subst}
+use mathlib.Core.Bool.{Bool, true, false, cond}
 use mathlib.Core.List.{List}
-use mathlib.Core.Option.{none, some}
+use mathlib.Core.Option.{Option, none, some}
 use native.Mathlib.Omega.{arith}
 use lib.Dec.{ltb}
 use lib.ListN.{length}
@@ -19,16 +19,16 @@ use Rattle.model.specs.Superblock.{geometryIn}
 use Rattle.model.specs.Edition.{badTime}
 use Rattle.model.specs.Root.{accessedRootSector}
 use Rattle.model.specs.Entry.{Entry, nameIn, entryIn, fieldsOf, isOccupied}
-use Rattle.model.specs.Catalogue.{catalogueOf, entryOf}
-use Rattle.model.specs.Refusals.{Conditions, verdictOf, refusal, judged}
-use Rattle.model.specs.WriteList.{Plan, oneTarget, recordSize, emit, Emitted, groupsFor, closed, listLength, Decision, ownVerdict, listAfter}
-use Rattle.model.specs.Listing.{listConditions, listPlan, listDecision, notListed, listedOf, copiedOf, listAnswer, listCopies, listOutput, listingList}
+use Rattle.model.specs.Catalogue.{catalogueOf, lacksReserve, entryOf}
+use Rattle.model.specs.Refusals.{Conditions, verdictOf, andThen, refusal, judged}
+use Rattle.model.specs.WriteList.{Plan, oneTarget, emit, groupsFor, closed, listLength, Decision, planConditions, listAfter}
+use Rattle.model.specs.Listing.{listConditions, listPlan, listPlanned, listDecision, notListed, listedOf, copiedOf, listAnswer, listCopies, listOutput, listingList}
 use Rattle.laws.proofs.Bytes.{put-nil}
 use Rattle.laws.proofs.Named.{free-is}
 use Rattle.laws.proofs.WriteList.{emit-nil, plan-needs}
 use Rattle.commit.proofs.Decided.{edition-is, decided-judged, decided-own}
-use Rattle.reading.specs.Given.{lentVerdict, planned, entryDecision}
-use Rattle.reading.proofs.Verdicts.{lent-last, planned-refused, planned-done, files-is, entry-is}
+use Rattle.reading.specs.Given.{accessSize, lentVerdict, planned, entryDecision}
+use Rattle.reading.proofs.Verdicts.{lent-last, access-needs, planned-refused, planned-done, files-is, entry-is}
 
 -- the answer, the output and the list that a decision comes to
 abbrev pub ListedAs : List ℕ → List ℕ → List ℕ → ℕ → Decision → Listed → List ℕ → List ℕ → Type 0
@@ -38,23 +38,24 @@ refused-as : (img out list : List ℕ) (i : ℕ) (v : Verdict) → (v .number �
 unfolding listedOf copiedOf groupsFor
 refused-as img out list i v h = let t = ne-eqb (v .number) 0 h in (rw t, (rw t (sym (put-nil out 0)), sym (emit-nil list 0)))
 
-list-needs : (d : Disk) (time : ℕ) → listLength (groupsFor d (some (listPlan (catalogueOf d) d time))) ≡ 9 * recordSize
-unfolding listPlan
-list-needs d time = plan-needs d (listPlan (catalogueOf d) d time)
+list-needs : (d : Disk) (time : ℕ) → listLength (groupsFor d (listPlanned (catalogueOf d) d time)) ≡ accessSize (lacksReserve (catalogueOf d))
+unfolding listPlan listPlanned
+list-needs d time = access-needs d (lacksReserve (catalogueOf d)) (listPlan (catalogueOf d) d time) (plan-needs d (listPlan (catalogueOf d) d time))
 
 -- ---- of an occupied entry
 
 module _ (img out list : List ℕ) (i time : ℕ) (g : Geometry) (is : g ≡ geometryIn (view img superblockAt)) (low : i < g .files)
     (occupied : isOccupied (view img (entryAt i)) ≡ true) (fields : Fields) (f : fields ≡ fieldsOf (entryIn (g .edition) (view img (entryAt i))))
-    (v : Verdict) (e : v ≡ lentVerdict (fields .«name_length») (length out) (length list)) where
+    (lacks : Bool) (s : lacksReserve (catalogueOf (view img)) ≡ lacks)
+    (v : Verdict) (e : v ≡ lentVerdict (fields .«name_length») (length out) (accessSize lacks) (length list)) where
   abbrev d : Disk
   d = view img
 
   abbrev x : Decision
   x = entryDecision d i time (length out) (length list)
 
-  abbrev target : Plan
-  target = listPlan (catalogueOf d) d time
+  abbrev target : Option Plan
+  target = listPlanned (catalogueOf d) d time
 
   fields-on : fields ≡ fieldsOf (entryOf (catalogueOf d) i)
   fields-on = f ∙ ap fieldsOf (entry-is img g i is low occupied)
@@ -64,7 +65,9 @@ module _ (img out list : List ℕ) (i time : ℕ) (g : Geometry) (is : g ≡ geo
   needed-on = ap (λ (y : Fields). y .«name_length») fields-on
 
   decision-on : x ≡ planned v target
-  decision-on = ap (λ (w : Verdict). planned w target) (sym (e ∙ ap (λ (n : ℕ). lentVerdict n (length out) (length list)) needed-on))
+  decision-on =
+      ap (λ (w : Verdict). planned w target)
+      (sym (e ∙ ap₂ (λ (n : ℕ) (b : Bool). lentVerdict n (length out) (accessSize b) (length list)) needed-on (sym s)))
 
   pub entry-refused : (v .number ≡ 0 → ⊥) → ListedAs img out list i x (notListed v) out list
   entry-refused h = subst (λ (y : Decision). ListedAs img out list i y (notListed v) out list) (sym (decision-on ∙ planned-refused v target h)) (refused-as img out list i v h)
@@ -73,20 +76,23 @@ module _ (img out list : List ℕ) (i time : ℕ) (g : Geometry) (is : g ≡ geo
   unfolding entryIn
   name-on = ap (λ (y : Entry). y .name) (entry-is img g i is low occupied)
 
-  target-on : {s : List ℕ} → s ≡ accessedRootSector (g .edition) time (d rootAt) → oneTarget rootAt s ≡ target
-  unfolding listPlan
-  target-on q = ap (λ (c : List ℕ). oneTarget rootAt c) (q ∙ ap (λ (n : ℕ). accessedRootSector n time (d rootAt)) (sym (edition-is img g is)))
+  target-on : {a : List ℕ} → a ≡ accessedRootSector (g .edition) time (d rootAt) → cond lacks none (some (oneTarget rootAt a)) ≡ target
+  unfolding listPlan listPlanned
+  target-on q =
+      ap₂ (λ (b : Bool) (c : List ℕ). cond b none (some (oneTarget rootAt c))) (sym s)
+      (q ∙ ap (λ (n : ℕ). accessedRootSector n time (d rootAt)) (sym (edition-is img g is)))
 
-  pub entry-done : {o l s : List ℕ} {j : ℕ} → v .number ≡ 0 → o ≡ put out 0 (nameIn (g .edition) (d (entryAt i))) → s ≡ accessedRootSector (g .edition) time (d rootAt)
-      → Emitted list 0 (closed (groupsFor d (some (oneTarget rootAt s)))) l j → ListedAs img out list i x (record { verdict = v; fields = fields; length = 9 * recordSize }) o l
+  pub entry-done : {o l a : List ℕ} → v .number ≡ 0 → o ≡ put out 0 (nameIn (g .edition) (d (entryAt i))) → a ≡ accessedRootSector (g .edition) time (d rootAt)
+      → l ≡ emit list 0 (closed (groupsFor d (cond lacks none (some (oneTarget rootAt a)))))
+      → ListedAs img out list i x (record { verdict = v; fields = fields; length = accessSize lacks }) o l
   unfolding listedOf copiedOf
-  entry-done {o} {l} {s} {j} z p q m =
+  entry-done {o} {l} {a} z p q m =
       let t = eq-eqb (v .number) 0 z in
-      subst (λ (y : Decision). ListedAs img out list i y (record { verdict = v; fields = fields; length = 9 * recordSize }) o l) (sym (decision-on ∙ planned-done v target z)) (
-        rw (t, list-needs d time, ← fields-on),
+      subst (λ (y : Decision). ListedAs img out list i y (record { verdict = v; fields = fields; length = accessSize lacks }) o l) (sym (decision-on ∙ planned-done v target z)) (
+        rw (t, list-needs d time, s, ← fields-on),
         (
           rw t (p ∙ ap (λ (n : List ℕ). put out 0 n) name-on),
-          m .holds ∙ ap (λ (y : Plan). emit list 0 (closed (groupsFor d (some y)))) (target-on q),
+          m ∙ ap (λ (y : Option Plan). emit list 0 (closed (groupsFor d y))) (target-on q),
         ),
       )
 
@@ -101,8 +107,12 @@ module _ (img out list : List ℕ) (i time : ℕ) where
   abbrev cs : Conditions
   cs = listConditions (catalogueOf (view img)) i time (length out)
 
-  abbrev plan : Plan
-  plan = listPlan (catalogueOf (view img)) (view img) time
+  abbrev plan : Option Plan
+  plan = listPlanned (catalogueOf (view img)) (view img) time
+
+  -- what its own conditions and those of its plan come to
+  abbrev own : Verdict
+  own = andThen (verdictOf cs) (verdictOf (planConditions (view img) plan (length list)))
 
   list-as : {r : Listed} {o l : List ℕ} (y : Decision) → listDecision (length img) (view img) i time (length out) (length list) ≡ y
       → ListedAs img out list i y r o l → Lists img out list i time r o l
@@ -113,15 +123,15 @@ module _ (img out list : List ℕ) (i time : ℕ) where
   pub list-judged : (v : Verdict) → v ≡ judged (length img) (view img) → (v .number ≡ 0 → ⊥) → Lists img out list i time (notListed v) out list
   unfolding listDecision
   list-judged v e h =
-      list-as (record { verdict = v; plan = none }) (decided-judged (length img) (view img) cs (some plan) (length list) v e h) (refused-as img out list i v h)
+      list-as (record { verdict = v; plan = none }) (decided-judged (length img) (view img) cs plan (length list) v e h) (refused-as img out list i v h)
 
   module _ (ok : judged (length img) (view img) .number ≡ 0) (g : Geometry) (is : g ≡ geometryIn (view img superblockAt)) where
-    list-own : (v : Verdict) → v ≡ ownVerdict cs (length list) (listLength (groupsFor (view img) (some plan)))
+    list-own : (v : Verdict) → v ≡ own
         → listDecision (length img) (view img) i time (length out) (length list) ≡ planned v plan
     unfolding listDecision
-    list-own v e = decided-own (length img) (view img) cs (some plan) (length list) ok v e
+    list-own v e = decided-own (length img) (view img) cs plan (length list) ok v e
 
-    own-refused : (v : Verdict) → (v .number ≡ 0 → ⊥) → v ≡ ownVerdict cs (length list) (listLength (groupsFor (view img) (some plan)))
+    own-refused : (v : Verdict) → (v .number ≡ 0 → ⊥) → v ≡ own
         → Lists img out list i time (notListed v) out list
     own-refused v h e = list-as (record { verdict = v; plan = none }) (list-own v e ∙ planned-refused v plan h) (refused-as img out list i v h)
 
@@ -145,14 +155,16 @@ module _ (img out list : List ℕ) (i time : ℕ) where
             (rw (edition-is img g is, fits, files-is img g is, lt-leb (g .files) i low, free-is (view img) i low-on, o))
 
         lent-own : isOccupied (view img (entryAt i)) ≡ true
-            → lentVerdict (length (entryOf (catalogueOf (view img)) i .name)) (length out) (length list) ≡ ownVerdict cs (length list) (listLength (groupsFor (view img) (some plan)))
-        unfolding lentVerdict verdictOf listConditions
+            → lentVerdict (length (entryOf (catalogueOf (view img)) i .name)) (length out) (accessSize (lacksReserve (catalogueOf (view img)))) (length list) ≡ own
+        unfolding lentVerdict verdictOf listConditions planConditions listPlanned
         lent-own o =
-            lent-last (ltb (length out) (length (entryOf (catalogueOf (view img)) i .name))) (ltb (length list) (9 * recordSize))
+            let l = lacksReserve (catalogueOf (view img)) in
+            lent-last (ltb (length out) (length (entryOf (catalogueOf (view img)) i .name))) (ltb (length list) (accessSize l)) l
+            (listPlan (catalogueOf (view img)) (view img) time)
             ∙ rw (list-needs (view img) time, edition-is img g is, fits, files-is img g is, lt-leb (g .files) i low, free-is (view img) i low-on, o)
 
         pub list-found : {r : Listed} {o l : List ℕ} → isOccupied (view img (entryAt i)) ≡ true
             → ListedAs img out list i (entryDecision (view img) i time (length out) (length list)) r o l → Lists img out list i time r o l
         list-found o h =
             list-as (entryDecision (view img) i time (length out) (length list))
-            (list-own (lentVerdict (length (entryOf (catalogueOf (view img)) i .name)) (length out) (length list)) (lent-own o)) h
+            (list-own (lentVerdict (length (entryOf (catalogueOf (view img)) i .name)) (length out) (accessSize (lacksReserve (catalogueOf (view img)))) (length list)) (lent-own o)) h

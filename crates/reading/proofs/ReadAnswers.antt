@@ -1,9 +1,9 @@
 -- What read answers and leaves in both buffers, test by test. Assumes nothing.
 use Prim.Native.Nat.{ℕ, _*_, _<_}
-use mathlib.Core.Path.{_≡_, refl, sym, ap, _∙_, subst}
-use mathlib.Core.Bool.{Bool, true, false, cond, not, _||_}
+use mathlib.Core.Path.{_≡_, refl, sym, ap, ap₂, _∙_, subst}
+use mathlib.Core.Bool.{Bool, true, false, cond, not, _&&_, _||_}
 use mathlib.Core.List.{List}
-use mathlib.Core.Option.{none, some}
+use mathlib.Core.Option.{Option, none, some}
 use native.Mathlib.Omega.{arith}
 use lib.Dec.{ltb}
 use lib.ListN.{length}
@@ -20,15 +20,15 @@ use Rattle.model.specs.Disk.{Disk, view}
 use Rattle.model.specs.Superblock.{geometryIn}
 use Rattle.model.specs.Edition.{badTime}
 use Rattle.model.specs.Entry.{entryField, Entry, entryIn, isOccupied, badName, accessedEntrySector}
-use Rattle.model.specs.Catalogue.{Catalogue, catalogueOf, fileNamed, entryOf, fileBytes}
+use Rattle.model.specs.Catalogue.{Catalogue, catalogueOf, lacksReserve, fileNamed, entryOf, fileBytes}
 use Rattle.model.specs.Refusals.{Conditions, verdictOf, andThen, refusal, done, judged}
-use Rattle.model.specs.WriteList.{Plan, oneTarget, recordSize, emit, Emitted, groupsFor, closed, listLength, Decision, ownVerdict, listAfter}
-use Rattle.model.specs.Read.{longestTransfer, readCount, sizeNamed, readConditions, readPlan, readDecision, notRead, readOf, readAnswer, readGives, readOutput, readList}
+use Rattle.model.specs.WriteList.{Plan, oneTarget, emit, groupsFor, closed, listLength, Decision, isPlanned, planConditions, listAfter}
+use Rattle.model.specs.Read.{longestTransfer, readCount, sizeNamed, readConditions, readPlan, readPlanned, readDecision, notRead, readOf, readAnswer, readGives, readOutput, readList}
 use Rattle.laws.proofs.Bytes.{put-nil}
 use Rattle.laws.proofs.WriteList.{emit-nil, plan-needs}
 use Rattle.commit.proofs.Decided.{edition-is, same-refusal, decided-judged, decided-own}
-use Rattle.reading.specs.Given.{lentVerdict, fileVerdict, planned, fileDecision, fileRead}
-use Rattle.reading.proofs.Verdicts.{lent-last, planned-refused, planned-done, entry-is}
+use Rattle.reading.specs.Given.{accessSize, lentVerdict, fileVerdict, planned, fileDecision, fileRead}
+use Rattle.reading.proofs.Verdicts.{lent-last, access-needs, planned-refused, planned-done, entry-is}
 
 -- the answer, the output and the list that a decision comes to, of file i
 abbrev pub ReadAs : List ℕ → List ℕ → List ℕ → ℕ → ℕ → ℕ → Decision → BytesRead → List ℕ → List ℕ → Type 0
@@ -41,52 +41,54 @@ refused-as : (img out list : List ℕ) (i offset asked : ℕ) (v : Verdict) → 
 unfolding fileRead groupsFor fileBytes tabulate
 refused-as img out list i offset asked v h = (rw (ne-eqb (v .number) 0 h), (sym (put-nil out 0), sym (emit-nil list 0)))
 
-read-needs : (d : Disk) (i time : ℕ) → listLength (groupsFor d (some (readPlan (catalogueOf d) d i time))) ≡ 9 * recordSize
-unfolding readPlan
-read-needs d i time = plan-needs d (readPlan (catalogueOf d) d i time)
+read-needs : (d : Disk) (i time : ℕ) → listLength (groupsFor d (readPlanned (catalogueOf d) d i time)) ≡ accessSize (lacksReserve (catalogueOf d))
+unfolding readPlan readPlanned
+read-needs d i time = access-needs d (lacksReserve (catalogueOf d)) (readPlan (catalogueOf d) d i time) (plan-needs d (readPlan (catalogueOf d) d i time))
 
 -- ---- of an occupied entry
 
 module _ (img out list : List ℕ) (i offset asked time : ℕ) (g : Geometry) (is : g ≡ geometryIn (view img superblockAt)) (low : i < g .files)
     (occupied : isOccupied (view img (entryAt i)) ≡ true) (size : ℕ) (f : size ≡ numberIn (view img (entryAt i)) (entryField .size))
-    (v : Verdict) (e : v ≡ fileVerdict size offset asked (length out) (length list)) where
+    (lacks : Bool) (s : lacksReserve (catalogueOf (view img)) ≡ lacks)
+    (v : Verdict) (e : v ≡ fileVerdict size offset asked (length out) (accessSize lacks) (length list)) where
   abbrev d : Disk
   d = view img
 
   abbrev x : Decision
   x = fileDecision d i offset asked time (length out) (length list)
 
-  abbrev target : Plan
-  target = readPlan (catalogueOf d) d i time
+  abbrev target : Option Plan
+  target = readPlanned (catalogueOf d) d i time
 
   size-on : size ≡ entryOf (catalogueOf d) i .size
   unfolding entryIn
   size-on = f ∙ ap (λ (y : Entry). y .size) (entry-is img g i is low occupied)
 
   decision-on : x ≡ planned v target
-  decision-on = ap (λ (w : Verdict). planned w target) (sym (e ∙ ap (λ (n : ℕ). fileVerdict n offset asked (length out) (length list)) size-on))
+  decision-on =
+      ap (λ (w : Verdict). planned w target)
+      (sym (e ∙ ap₂ (λ (n : ℕ) (b : Bool). fileVerdict n offset asked (length out) (accessSize b) (length list)) size-on (sym s)))
 
   pub file-refused : (v .number ≡ 0 → ⊥) → ReadAs img out list i offset asked x (notRead v) out list
   file-refused h =
       subst (λ (y : Decision). ReadAs img out list i offset asked y (notRead v) out list) (sym (decision-on ∙ planned-refused v target h)) (refused-as img out list i offset asked v h)
 
-  target-on : {s : List ℕ} → s ≡ accessedEntrySector (g .edition) time (d (entryAt i)) → oneTarget (entryAt i) s ≡ target
-  unfolding readPlan
-  target-on q = ap (λ (c : List ℕ). oneTarget (entryAt i) c) (q ∙ ap (λ (n : ℕ). accessedEntrySector n time (d (entryAt i))) (sym (edition-is img g is)))
+  target-on : {a : List ℕ} (at : ℕ) → at ≡ entryAt i → a ≡ accessedEntrySector (g .edition) time (d (entryAt i)) → cond lacks none (some (oneTarget at a)) ≡ target
+  unfolding readPlan readPlanned
+  target-on {a} at h q =
+      ap (λ (k : ℕ). cond lacks none (some (oneTarget k a))) h
+      ∙ ap₂ (λ (b : Bool) (c : List ℕ). cond b none (some (oneTarget (entryAt i) c))) (sym s)
+      (q ∙ ap (λ (n : ℕ). accessedEntrySector n time (d (entryAt i))) (sym (edition-is img g is)))
 
-  pub file-done : {o l s : List ℕ} {j : ℕ} (count at : ℕ) → v .number ≡ 0 → count ≡ readCount size offset asked → o ≡ put out 0 (fileBytes (catalogueOf d) d i offset count)
-      → s ≡ accessedEntrySector (g .edition) time (d (entryAt i)) → at ≡ entryAt i → Emitted list 0 (closed (groupsFor d (some (oneTarget at s)))) l j
-      → ReadAs img out list i offset asked x (record { verdict = v; count = count; length = 9 * recordSize }) o l
+  pub file-done : {o l a : List ℕ} (count at : ℕ) → v .number ≡ 0 → count ≡ readCount size offset asked → o ≡ put out 0 (fileBytes (catalogueOf d) d i offset count)
+      → a ≡ accessedEntrySector (g .edition) time (d (entryAt i)) → at ≡ entryAt i → l ≡ emit list 0 (closed (groupsFor d (cond lacks none (some (oneTarget at a)))))
+      → ReadAs img out list i offset asked x (record { verdict = v; count = count; length = accessSize lacks }) o l
   unfolding fileRead
-  file-done {o} {l} {s} {j} count at z n p q h m =
-      subst (λ (y : Decision). ReadAs img out list i offset asked y (record { verdict = v; count = count; length = 9 * recordSize }) o l)
+  file-done {o} {l} {a} count at z n p q h m =
+      subst (λ (y : Decision). ReadAs img out list i offset asked y (record { verdict = v; count = count; length = accessSize lacks }) o l)
       (sym (decision-on ∙ planned-done v target z)) (
-        rw (eq-eqb (v .number) 0 z, read-needs d i time, ← size-on, ← n),
-        (
-          p,
-          m .holds ∙ ap (λ (k : ℕ). emit list 0 (closed (groupsFor d (some (oneTarget k s))))) h
-              ∙ ap (λ (y : Plan). emit list 0 (closed (groupsFor d (some y)))) (target-on q),
-        ),
+        rw (eq-eqb (v .number) 0 z, read-needs d i time, s, ← size-on, ← n),
+        (p, m ∙ ap (λ (y : Option Plan). emit list 0 (closed (groupsFor d y))) (target-on at h q)),
       )
 
 -- ---- the call
@@ -101,10 +103,10 @@ abbrev isBad : ℕ → List ℕ → ℕ → ℕ → Bool
 isBad edition name asked time = badTime edition time || (badName edition name || ltb longestTransfer asked)
 
 -- the list's 14 stands last
-file-last : (a b e : Bool)
-    → cond a (refusal 12) (cond b (refusal 14) (cond e (refusal 14) done)) ≡ andThen (cond a (refusal 12) (cond b (refusal 14) done)) (cond e (refusal 14) done)
-file-last true b e = refl
-file-last false b e = lent-last b e
+file-last : (a b e l : Bool) (p : Plan) → cond a (refusal 12) (cond b (refusal 14) (cond e (refusal 14) done))
+    ≡ andThen (cond a (refusal 12) (cond b (refusal 14) done)) (cond (isPlanned (cond l none (some p)) && l) (refusal 13) (cond e (refusal 14) done))
+file-last true b e l p = refl
+file-last false b e l p = lent-last b e l p
 
 module _ (img out list name : List ℕ) (offset asked time : ℕ) where
   abbrev c : Catalogue
@@ -116,8 +118,12 @@ module _ (img out list name : List ℕ) (offset asked time : ℕ) where
   abbrev cs : Conditions
   cs = readConditions c name offset asked time (length out)
 
-  abbrev plan : Plan
-  plan = readPlan c (view img) place time
+  abbrev plan : Option Plan
+  plan = readPlanned c (view img) place time
+
+  -- what its own conditions and those of its plan come to
+  abbrev own : Verdict
+  own = andThen (verdictOf cs) (verdictOf (planConditions (view img) plan (length list)))
 
   read-as : {r : BytesRead} {o l : List ℕ} (y : Decision) → readDecision (length img) (view img) name offset asked time (length out) (length list) ≡ y
       → ReadAs img out list place offset asked y r o l → Reads img out list name offset asked time r o l
@@ -128,15 +134,15 @@ module _ (img out list name : List ℕ) (offset asked time : ℕ) where
   pub read-judged : (v : Verdict) → v ≡ judged (length img) (view img) → (v .number ≡ 0 → ⊥) → Reads img out list name offset asked time (notRead v) out list
   unfolding readDecision
   read-judged v e h =
-      read-as (record { verdict = v; plan = none }) (decided-judged (length img) (view img) cs (some plan) (length list) v e h) (refused-as img out list place offset asked v h)
+      read-as (record { verdict = v; plan = none }) (decided-judged (length img) (view img) cs plan (length list) v e h) (refused-as img out list place offset asked v h)
 
   module _ (ok : judged (length img) (view img) .number ≡ 0) (g : Geometry) (is : g ≡ geometryIn (view img superblockAt)) where
-    read-own : (v : Verdict) → v ≡ ownVerdict cs (length list) (listLength (groupsFor (view img) (some plan)))
+    read-own : (v : Verdict) → v ≡ own
         → readDecision (length img) (view img) name offset asked time (length out) (length list) ≡ planned v plan
     unfolding readDecision
-    read-own v e = decided-own (length img) (view img) cs (some plan) (length list) ok v e
+    read-own v e = decided-own (length img) (view img) cs plan (length list) ok v e
 
-    own-refused : (v : Verdict) → (v .number ≡ 0 → ⊥) → v ≡ ownVerdict cs (length list) (listLength (groupsFor (view img) (some plan)))
+    own-refused : (v : Verdict) → (v .number ≡ 0 → ⊥) → v ≡ own
         → Reads img out list name offset asked time (notRead v) out list
     own-refused v h e = read-as (record { verdict = v; plan = none }) (read-own v e ∙ planned-refused v plan h) (refused-as img out list place offset asked v h)
 
@@ -162,11 +168,12 @@ module _ (img out list name : List ℕ) (offset asked time : ℕ) where
         unfolding sizeNamed
         size-named = ap (λ (p : Lowest). entryOf c (indexOf p) .size) found
 
-        file-own : fileVerdict (entryOf c i .size) offset asked (length out) (length list) ≡ ownVerdict cs (length list) (listLength (groupsFor (view img) (some plan)))
-        unfolding fileVerdict lentVerdict verdictOf
+        file-own : fileVerdict (entryOf c i .size) offset asked (length out) (accessSize (lacksReserve c)) (length list) ≡ own
+        unfolding fileVerdict lentVerdict verdictOf planConditions readPlanned
         file-own =
             let size = entryOf c i .size in
-            file-last (ltb size offset) (ltb (length out) (readCount size offset asked)) (ltb (length list) (9 * recordSize))
+            file-last (ltb size offset) (ltb (length out) (readCount size offset asked)) (ltb (length list) (accessSize (lacksReserve c))) (lacksReserve c)
+            (readPlan c (view img) place time)
             ∙ rw (read-tests, good, read-needs (view img) place time, size-named, found)
 
         pub read-found : {r : BytesRead} {o l : List ℕ} → ReadAs img out list i offset asked (fileDecision (view img) i offset asked time (length out) (length list)) r o l
@@ -174,6 +181,6 @@ module _ (img out list name : List ℕ) (offset asked time : ℕ) where
         read-found h =
             let there : indexOf (fileNamed c name) ≡ i = rw found in
             read-as (fileDecision (view img) i offset asked time (length out) (length list))
-            (read-own (fileVerdict (entryOf c i .size) offset asked (length out) (length list)) file-own
-            ∙ ap (λ (k : ℕ). planned (fileVerdict (entryOf c i .size) offset asked (length out) (length list)) (readPlan c (view img) k time)) there)
+            (read-own (fileVerdict (entryOf c i .size) offset asked (length out) (accessSize (lacksReserve c)) (length list)) file-own
+            ∙ ap (λ (k : ℕ). planned (fileVerdict (entryOf c i .size) offset asked (length out) (accessSize (lacksReserve c)) (length list)) (readPlanned c (view img) k time)) there)
             (rw there h)

@@ -1,9 +1,9 @@
 -- The verdicts of find, and of list and read once the entry is found, from the tests that the code makes. Assumes nothing.
 use Prim.Native.Nat.{ℕ, _+_, _*_, _≤_, _<_}
 use mathlib.Core.Path.{_≡_, refl, sym, ap, _∙_}
-use mathlib.Core.Bool.{Bool, true, false, cond, not}
+use mathlib.Core.Bool.{Bool, true, false, cond, not, _&&_}
 use mathlib.Core.List.{List}
-use mathlib.Core.Option.{none, some}
+use mathlib.Core.Option.{Option, none, some}
 use native.Mathlib.Omega.{arith}
 use lib.Dec.{ltb}
 use borrow.Author.Tests.{ltb-false, eq-eqb, ne-eqb}
@@ -17,11 +17,11 @@ use Rattle.model.specs.Superblock.{geometryIn}
 use Rattle.model.specs.Entry.{entryIn, isOccupied, badName}
 use Rattle.model.specs.Catalogue.{catalogueOf, fileNamed, entryOf}
 use Rattle.model.specs.Refusals.{verdictOf, andThen, refusal, done}
-use Rattle.model.specs.WriteList.{Plan, recordSize}
+use Rattle.model.specs.WriteList.{Plan, recordSize, groupsFor, listLength, isPlanned}
 use Rattle.model.specs.Find.{nameConditions}
 use Rattle.model.specs.Read.{readCount}
 use Rattle.laws.proofs.Named.{editionOn, entry-on}
-use Rattle.reading.specs.Given.{lentVerdict, fileVerdict, planned}
+use Rattle.reading.specs.Given.{accessSize, lentVerdict, fileVerdict, planned}
 
 -- ---- find: its conditions are tests of the code's
 
@@ -47,29 +47,37 @@ passed : (b : Bool) (n : ℕ) (v : Verdict) → cond b (refusal (n + 1)) v .numb
 passed true n v e = let z : n + 1 ≡ 0 = e in absurd (omega arith)
 passed false n v e = (refl, e)
 
-pub lent-enough : (needed room space : ℕ) → lentVerdict needed room space .number ≡ 0 → (needed ≤ room) × (9 * recordSize ≤ space)
+pub lent-enough : (needed room listed space : ℕ) → lentVerdict needed room listed space .number ≡ 0 → (needed ≤ room) × (listed ≤ space)
 unfolding lentVerdict verdictOf
-lent-enough needed room space e =
-    let a = passed (ltb room needed) 13 (cond (ltb space (9 * recordSize)) (refusal 14) done) e in
-    (ltb-false room needed (a .0), ltb-false space (9 * recordSize) (passed (ltb space (9 * recordSize)) 13 done (a .1) .0))
+lent-enough needed room listed space e =
+    let a = passed (ltb room needed) 13 (cond (ltb space listed) (refusal 14) done) e in
+    (ltb-false room needed (a .0), ltb-false space listed (passed (ltb space listed) 13 done (a .1) .0))
 
-pub file-enough : (size offset asked room space : ℕ) → fileVerdict size offset asked room space .number ≡ 0
-    → (offset ≤ size) × (readCount size offset asked ≤ room) × (9 * recordSize ≤ space)
+pub file-enough : (size offset asked room listed space : ℕ) → fileVerdict size offset asked room listed space .number ≡ 0
+    → (offset ≤ size) × (readCount size offset asked ≤ room) × (listed ≤ space)
 unfolding fileVerdict
-file-enough size offset asked room space e =
-    let a = passed (ltb size offset) 11 (lentVerdict (readCount size offset asked) room space) e in
-    let b = lent-enough (readCount size offset asked) room space (a .1) in
+file-enough size offset asked room listed space e =
+    let a = passed (ltb size offset) 11 (lentVerdict (readCount size offset asked) room listed space) e in
+    let b = lent-enough (readCount size offset asked) room listed space (a .1) in
     (ltb-false size offset (a .0), b .0, b .1)
 
--- the list's 14 stands behind the output's
-pub lent-last : (a b : Bool) → cond a (refusal 14) (cond b (refusal 14) done) ≡ andThen (cond a (refusal 14) done) (cond b (refusal 14) done)
-lent-last true b = refl
-lent-last false b = refl
+-- the list's 14 stands behind the output's, and there is no 13: no plan where the reserve lacks
+pub lent-last : (a b l : Bool) (p : Plan) → cond a (refusal 14) (cond b (refusal 14) done)
+    ≡ andThen (cond a (refusal 14) done) (cond (isPlanned (cond l none (some p)) && l) (refusal 13) (cond b (refusal 14) done))
+lent-last true b l p = refl
+lent-last false b true p = refl
+lent-last false b false p = refl
 
-pub planned-refused : (v : Verdict) (p : Plan) → (v .number ≡ 0 → ⊥) → planned v p ≡ record { verdict = v; plan = none }
+-- how long the list is
+pub access-needs : (d : Disk) (l : Bool) (p : Plan) → listLength (groupsFor d (some p)) ≡ 9 * recordSize → listLength (groupsFor d (cond l none (some p))) ≡ accessSize l
+unfolding groupsFor
+access-needs d true p e = refl
+access-needs d false p e = e
+
+pub planned-refused : (v : Verdict) (p : Option Plan) → (v .number ≡ 0 → ⊥) → planned v p ≡ record { verdict = v; plan = none }
 planned-refused v p h = rw (ne-eqb (v .number) 0 h)
 
-pub planned-done : (v : Verdict) (p : Plan) → v .number ≡ 0 → planned v p ≡ record { verdict = v; plan = some p }
+pub planned-done : (v : Verdict) (p : Option Plan) → v .number ≡ 0 → planned v p ≡ record { verdict = v; plan = p }
 planned-done v p h = rw (eq-eqb (v .number) 0 h)
 
 -- ---- what the code reads by is the catalogue's

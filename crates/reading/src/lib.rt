@@ -9,7 +9,8 @@ use model::Lowest;
 use model::Sector;
 use model::Verdict;
 ghost use mathlib.Core.Path.{_≡_};
-ghost use mathlib.Core.Bool.{true, _||_};
+ghost use mathlib.Core.Bool.{true, cond, not, _||_};
+ghost use mathlib.Core.Option.{none, some};
 ghost use Prim.Native.Nat.{_+_, _*_, _≤_, _<_, _^_};
 ghost use lib.Dec.{ltb};
 ghost use lib.ListN.{length};
@@ -20,12 +21,13 @@ ghost use Rattle.model.specs.Edition.{layoutOf, badTime};
 ghost use Rattle.model.specs.Entry.{entryField, nameIn, noFields, isOccupied, badName};
 ghost use Rattle.model.specs.Catalogue.{catalogueOf, fileBytes};
 ghost use Rattle.model.specs.Refusals.{verdictOf, judged};
-ghost use Rattle.model.specs.WriteList.{listAfter};
+ghost use Rattle.model.specs.WriteList.{oneTarget, emit, groupsFor, closed, listAfter};
 ghost use Rattle.model.specs.Find.{notFound, nameConditions, foundBy};
 ghost use Rattle.model.specs.Listing.{notListed, listedOf, copiedOf, listAnswer, listOutput, listingList};
 ghost use Rattle.model.specs.Read.{longestTransfer, notRead, readAnswer, readOutput, readList};
 ghost use Rattle.model.specs.Opened.{Opened};
-ghost use Rattle.reading.specs.Given.{lentVerdict, fileVerdict, entryDecision, fileDecision, fileRead};
+ghost use Rattle.commit.specs.Commit.{StagesOf};
+ghost use Rattle.reading.specs.Given.{accessSize, lentVerdict, fileVerdict, entryDecision, fileDecision, fileRead};
 
 fn no_fields() -> Fields
     ensures { λ r. ⌜ r ≡ noFields ⌝ }
@@ -94,17 +96,48 @@ pub fn find_in(img: &[u8], name: &[u8]) -> Found
     not_found(volume::refusal(9))
 }
 
-// 14 where the output is shorter than what is given, or the list than that of the access time's one target.
-fn lent_verdict(needed: usize, room: usize, space: usize) -> Verdict
-    ensures { λ r. ⌜ r ≡ lentVerdict needed room space ⌝ }
+// 14 where the output is shorter than what is given, or the list than what stands in it.
+fn lent_verdict(needed: usize, room: usize, listed: usize, space: usize) -> Verdict
+    ensures { λ r. ⌜ r ≡ lentVerdict needed room listed space ⌝ }
 {
     if room < needed {
         return volume::refusal(14);
     }
-    if space < commit::ONE_TARGET_SIZE {
+    if space < listed {
         return volume::refusal(14);
     }
     volume::refusal(0)
+}
+
+// ---- the access time: one target, where the reserve is there
+
+fn access_size(there: bool) -> usize
+    ensures { λ r. ⌜ r ≡ accessSize (not there) ⌝ }
+{
+    if there {
+        return commit::ONE_TARGET_SIZE;
+    }
+    0
+}
+
+fn put_access(
+    list: &mut [u8],
+    img: &[u8],
+    g: Geometry,
+    stages: &[u64],
+    there: bool,
+    target: Sector,
+    s: [u8; 512],
+)
+    requires { ⌜ (there ≡ true → StagesOf g (view (now img)) (now stages)) ⌝ }
+    requires { ⌜ accessSize (not there) ≤ length (now list) ⌝ }
+    requires { ⌜ Opened (now img) g ⌝ }
+    ensures { λ _. ⌜ now (list .exit) ≡ emit (now (list .entry)) 0 (closed (groupsFor (view (now (img .entry))) (cond (not there) none (some (oneTarget (target .0) s))))) ⌝ }
+{
+    if there {
+        commit::put_one_target(list, img, g, stages, target, s);
+        return;
+    }
 }
 
 // ---- list
@@ -135,15 +168,18 @@ fn list_entry(
 {
     let fields = directory::fields_at(img, g.edition, i);
     let n = fields.name_length as usize;
-    let verdict = lent_verdict(n, out.len(), list.len());
+    let mut stages = [0u64; 5];
+    let there = table::staging(img, g, &mut stages);
+    let listed = access_size(there);
+    let verdict = lent_verdict(n, out.len(), listed, list.len());
     if verdict.number == 0 {
         copy_name(img, g.edition, i, out, n);
         let root = directory::accessed_root(img, g.edition, time);
-        commit::put_one_target(list, img, g, Sector(1), root);
+        put_access(list, img, g, &stages, there, Sector(1), root);
         return Listed {
             verdict,
             fields,
-            length: commit::ONE_TARGET_SIZE as u64,
+            length: listed as u64,
         };
     }
     not_listed(verdict)
@@ -184,15 +220,22 @@ fn bad_argument(edition: u64, name: &[u8], asked: u64, time: u64) -> bool
 }
 
 // 12, or 14 for either buffer.
-fn file_verdict(size: u64, offset: u64, asked: u64, room: usize, space: usize) -> Verdict
+fn file_verdict(
+    size: u64,
+    offset: u64,
+    asked: u64,
+    room: usize,
+    listed: usize,
+    space: usize,
+) -> Verdict
     requires { ⌜ asked ≤ longestTransfer ⌝ }
-    ensures { λ r. ⌜ r ≡ fileVerdict size offset asked room space ⌝ }
+    ensures { λ r. ⌜ r ≡ fileVerdict size offset asked room listed space ⌝ }
 {
     if size < offset {
         return volume::refusal(12);
     }
     let count = fields::least(asked, size - offset);
-    lent_verdict(count as usize, room, space)
+    lent_verdict(count as usize, room, listed, space)
 }
 
 // Reads of file i and sets its access time: refusals 12 and 14, or all of it.
@@ -213,17 +256,20 @@ fn read_file(
     ensures { λ _. ⌜ now (list .exit) ≡ listAfter (view (now (img .entry))) (fileDecision (view (now (img .entry))) (i .0) offset asked time (length (now (out .entry))) (length (now (list .entry)))) (now (list .entry)) ⌝ }
 {
     let size = directory::size_at(img, i);
-    let v = file_verdict(size, offset, asked, out.len(), list.len());
+    let mut stages = [0u64; 5];
+    let there = table::staging(img, g, &mut stages);
+    let listed = access_size(there);
+    let v = file_verdict(size, offset, asked, out.len(), listed, list.len());
     if v.number == 0 {
         let count = fields::least(asked, size - offset);
         spans::read_span(img, g, i, offset, out, 0, count as usize);
         let entry = directory::accessed_entry(img, g.edition, i, time);
         let target = i.sector();
-        commit::put_one_target(list, img, g, target, entry);
+        put_access(list, img, g, &stages, there, target, entry);
         return BytesRead {
             verdict: v,
             count,
-            length: commit::ONE_TARGET_SIZE as u64,
+            length: listed as u64,
         };
     }
     not_read(v)

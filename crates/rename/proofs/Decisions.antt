@@ -1,56 +1,34 @@
 -- What a rename comes to, test by test. Assumes nothing.
-use Prim.Native.Nat.{ℕ, _≤_, _<_}
+use Prim.Native.Nat.{ℕ, _<_}
 use mathlib.Core.Path.{_≡_, refl, sym, ap, _∙_}
 use mathlib.Core.Bool.{Bool, true, false, cond, not, _||_}
 use mathlib.Core.List.{List}
 use mathlib.Core.Option.{Option, some}
 use native.Mathlib.Omega.{arith}
-use lib.Dec.{ltb}
 use lib.ListN.{length}
-use borrow.Author.Tests.{eq-eqb, lt-ltb, le-ltb}
 use Rattle.model.specs.declared.Changed.{Changed}
 use Rattle.model.specs.declared.Geometry.{Geometry}
 use Rattle.model.specs.declared.Lowest.{Lowest}
 use Rattle.model.specs.declared.Lowest.the-variants.{At, Nowhere}
 use Rattle.model.specs.Search.{isAt, indexOf, equalBytes}
-use Rattle.model.specs.Disk.{Disk, view}
+use Rattle.model.specs.Disk.{view}
 use Rattle.model.specs.Edition.{badTime}
 use Rattle.model.specs.Entry.{badName, badNewName}
 use Rattle.model.specs.Catalogue.{Catalogue, catalogueOf, fileNamed}
 use Rattle.model.specs.Refusals.{Conditions, verdictOf, refusal, done, judged}
-use Rattle.model.specs.WriteList.{Plan, Emitted, closed, groupsFor, listLength, Decision, decided}
+use Rattle.model.specs.WriteList.{Plan}
 use Rattle.model.specs.Rename.{renameConditions, renamePlan, renamePlanned, renameDecision, renameAnswer, renameList}
 use Rattle.model.specs.Opened.{Opened}
 use Rattle.laws.proofs.Named.{editionOn, named-at}
-use Rattle.laws.proofs.WriteList.{emit-nil}
 use Rattle.commit.proofs.Decided.{same-refusal, same-refusals, ComesTo, refused-by-own, done-with-nothing}
-use Rattle.rename.specs.Renaming.{fitted, renamedTo}
+use Rattle.delete.proofs.Decisions.{decided-fitted}
+use Rattle.rename.specs.Renaming.{renamedTo}
 
 -- ---- where the new name is
 
 pub place-below : {img : List ℕ} {g : Geometry} (place : Lowest) (name : List ℕ) → Opened img g → place ≡ fileNamed (catalogueOf (view img)) name → indexOf place < g .files
 place-below Nowhere name o e = omega (arith, o .bounded .files-low)
 place-below {img} {g} (At j) name o e = let low = named-at (view img) name j e .0 in let f = ap (λ (x : Geometry). x .files) (o .is) in omega arith
-
--- ---- a change that nothing but 14 can refuse
-
-module _ (d : Disk) (plan : Plan) (list : List ℕ) where
-  pub fitted-short : length list < listLength (groupsFor d (some plan)) → ComesTo d (fitted d (some plan) (length list)) list (record { verdict = refusal 14; length = 0 }) list
-  unfolding groupsFor
-  fitted-short h = rw (lt-ltb _ _ h) (refl, sym (emit-nil list 0))
-
-  pub fitted-done : {m : List ℕ} {j n : ℕ} → n ≡ listLength (groupsFor d (some plan)) → n ≤ length list → Emitted list 0 (closed (groupsFor d (some plan))) m j
-      → ComesTo d (fitted d (some plan) (length list)) list (record { verdict = done; length = n }) m
-  fitted-done q h e = rw (le-ltb (length list) (listLength (groupsFor d (some plan))) (omega arith), q) (refl, e .holds)
-
--- a call whose own conditions let it pass
-decided-fitted : (len : ℕ) (d : Disk) (cs : Conditions) (plan : Option Plan) (room : ℕ) → judged len d .number ≡ 0 → done ≡ verdictOf cs → decided len d cs plan room ≡ fitted d plan room
-unfolding decided verdictOf
-decided-fitted len d cs plan room ok own = go (ltb room (listLength (groupsFor d plan))) refl
-  where
-    go : (b : Bool) → ltb room (listLength (groupsFor d plan)) ≡ b → decided len d cs plan room ≡ fitted d plan room
-    go true e = rw (eq-eqb _ _ ok, ← own, e)
-    go false e = rw (eq-eqb _ _ ok, ← own, e)
 
 -- ---- rename's answer and list, test by test
 

@@ -22,6 +22,7 @@ ghost use Rattle.model.specs.Refusals.{judged};
 ghost use Rattle.model.specs.WriteList.{sectorWrite, recordSize, recordCount, groupsFor, closed, Emitted, answerOf, listAfter};
 ghost use Rattle.model.specs.Rename.{renamedRecord, replacingRecords, renamingRecords, renamePlan, renameAnswer, renameList};
 ghost use Rattle.model.specs.Opened.{Bounded, Opened};
+ghost use Rattle.commit.specs.Commit.{Stages, StagesOf};
 ghost use Rattle.delete.specs.Staging.{Added};
 ghost use Rattle.rename.specs.Renaming.{renamingCount, renamedTo};
 
@@ -46,18 +47,20 @@ fn put_renamed(
     numbers: &mut [u64],
     img: &[u8],
     g: Geometry,
+    stages: &[u64],
     i: FileIndex,
     name: &[u8],
     time: u64,
 ) -> usize
+    requires { ⌜ Stages g (now stages) ⌝ }
     requires { ⌜ Opened (now img) g ⌝ }
     requires { ⌜ (i .0 < g .files) × (length (now name) ≤ layoutOf (g .edition) .longestName) ⌝ }
-    requires { ⌜ ((k + 1) * recordSize ≤ length (now list)) × (k < length (now numbers)) ⌝ }
-    ensures { λ r. ⌜ Added g (now (numbers .entry)) (now (list .entry)) k (renamedRecord (catalogueOf (view (now (img .entry)))) (view (now (img .entry))) (i .0) (now (name .entry)) time ∷ []) (now (numbers .exit)) (now (list .exit)) r ⌝ }
+    requires { ⌜ ((k + 1) * recordSize ≤ length (now list)) × (k ≤ 3) × (k < length (now numbers)) ⌝ }
+    ensures { λ r. ⌜ Added g (now (stages .entry)) (now (numbers .entry)) (now (list .entry)) k (renamedRecord (catalogueOf (view (now (img .entry)))) (view (now (img .entry))) (i .0) (now (name .entry)) time ∷ []) (now (numbers .exit)) (now (list .exit)) r ⌝ }
     ensures { λ r. ⌜ r ≡ k + 1 ⌝ }
 {
     let s = directory::renamed_entry(img, g.edition, i, name, time);
-    commit::put_copy(list, k, g, numbers, k, i.sector(), s)
+    commit::put_copy(list, k, g, stages, numbers, k, i.sector(), s)
 }
 
 // The copy of file j's entry, freed, is record k.
@@ -66,16 +69,18 @@ fn put_freed_entry(
     k: usize,
     numbers: &mut [u64],
     g: Geometry,
+    stages: &[u64],
     j: FileIndex,
 ) -> usize
+    requires { ⌜ Stages g (now stages) ⌝ }
     requires { ⌜ Bounded g ⌝ }
     requires { ⌜ j .0 < g .files ⌝ }
-    requires { ⌜ ((k + 1) * recordSize ≤ length (now list)) × (k < length (now numbers)) ⌝ }
-    ensures { λ r. ⌜ Added g (now (numbers .entry)) (now (list .entry)) k (sectorWrite (entryAt (j .0)) zeroSector ∷ []) (now (numbers .exit)) (now (list .exit)) r ⌝ }
+    requires { ⌜ ((k + 1) * recordSize ≤ length (now list)) × (k ≤ 3) × (k < length (now numbers)) ⌝ }
+    ensures { λ r. ⌜ Added g (now (stages .entry)) (now (numbers .entry)) (now (list .entry)) k (sectorWrite (entryAt (j .0)) zeroSector ∷ []) (now (numbers .exit)) (now (list .exit)) r ⌝ }
     ensures { λ r. ⌜ r ≡ k + 1 ⌝ }
 {
     let s = [0u8; 512];
-    commit::put_copy(list, k, g, numbers, k, j.sector(), s)
+    commit::put_copy(list, k, g, stages, numbers, k, j.sector(), s)
 }
 
 // The copies of both, by index, from record k on.
@@ -85,23 +90,25 @@ fn put_entries(
     numbers: &mut [u64],
     img: &[u8],
     g: Geometry,
+    stages: &[u64],
     i: FileIndex,
     j: FileIndex,
     name: &[u8],
     time: u64,
 ) -> usize
+    requires { ⌜ Stages g (now stages) ⌝ }
     requires { ⌜ Opened (now img) g ⌝ }
     requires { ⌜ (i .0 < g .files) × (j .0 < g .files) × (length (now name) ≤ layoutOf (g .edition) .longestName) ⌝ }
-    requires { ⌜ ((k + 2) * recordSize ≤ length (now list)) × (k + 1 < length (now numbers)) ⌝ }
-    ensures { λ r. ⌜ Added g (now (numbers .entry)) (now (list .entry)) k (cond (ltb (i .0) (j .0)) (renamedRecord (catalogueOf (view (now (img .entry)))) (view (now (img .entry))) (i .0) (now (name .entry)) time ∷ sectorWrite (entryAt (j .0)) zeroSector ∷ []) (sectorWrite (entryAt (j .0)) zeroSector ∷ renamedRecord (catalogueOf (view (now (img .entry)))) (view (now (img .entry))) (i .0) (now (name .entry)) time ∷ [])) (now (numbers .exit)) (now (list .exit)) r ⌝ }
+    requires { ⌜ ((k + 2) * recordSize ≤ length (now list)) × (k ≤ 1) × (k + 1 < length (now numbers)) ⌝ }
+    ensures { λ r. ⌜ Added g (now (stages .entry)) (now (numbers .entry)) (now (list .entry)) k (cond (ltb (i .0) (j .0)) (renamedRecord (catalogueOf (view (now (img .entry)))) (view (now (img .entry))) (i .0) (now (name .entry)) time ∷ sectorWrite (entryAt (j .0)) zeroSector ∷ []) (sectorWrite (entryAt (j .0)) zeroSector ∷ renamedRecord (catalogueOf (view (now (img .entry)))) (view (now (img .entry))) (i .0) (now (name .entry)) time ∷ [])) (now (numbers .exit)) (now (list .exit)) r ⌝ }
     ensures { λ r. ⌜ r ≡ k + 2 ⌝ }
 {
     if i.0 < j.0 {
-        let n = put_renamed(list, k, numbers, img, g, i, name, time);
-        return put_freed_entry(list, n, numbers, g, j);
+        let n = put_renamed(list, k, numbers, img, g, stages, i, name, time);
+        return put_freed_entry(list, n, numbers, g, stages, j);
     }
-    let n = put_freed_entry(list, k, numbers, g, j);
-    put_renamed(list, n, numbers, img, g, i, name, time)
+    let n = put_freed_entry(list, k, numbers, g, stages, j);
+    put_renamed(list, n, numbers, img, g, stages, i, name, time)
 }
 
 // ---- the targets
@@ -114,19 +121,21 @@ fn put_replacing(
     numbers: &mut [u64],
     img: &[u8],
     g: Geometry,
+    stages: &[u64],
     i: FileIndex,
     j: FileIndex,
     name: &[u8],
     time: u64,
 ) -> usize
+    requires { ⌜ Stages g (now stages) ⌝ }
     requires { ⌜ Opened (now img) g ⌝ }
     requires { ⌜ (i .0 < g .files) × (j .0 < g .files) × (length (now name) ≤ layoutOf (g .edition) .longestName) ⌝ }
-    requires { ⌜ ((k + 2 + sectorsFrom (catalogueOf (view (now img))) (j .0) 0 + 1) * recordSize ≤ length (now list)) × (k + 2 + tableSectors g ≤ length (now numbers)) ⌝ }
-    ensures { λ r. ⌜ Added g (now (numbers .entry)) (now (list .entry)) k (replacingRecords (catalogueOf (view (now (img .entry)))) (view (now (img .entry))) (i .0) (j .0) (now (name .entry)) time) (now (numbers .exit)) (now (list .exit)) r ⌝ }
+    requires { ⌜ ((k + 2 + sectorsFrom (catalogueOf (view (now img))) (j .0) 0 + 1) * recordSize ≤ length (now list)) × (k ≤ 1) × (k + 2 + tableSectors g ≤ length (now numbers)) ⌝ }
+    ensures { λ r. ⌜ Added g (now (stages .entry)) (now (numbers .entry)) (now (list .entry)) k (replacingRecords (catalogueOf (view (now (img .entry)))) (view (now (img .entry))) (i .0) (j .0) (now (name .entry)) time) (now (numbers .exit)) (now (list .exit)) r ⌝ }
     ensures { λ r. ⌜ (r ≡ k + 2 + sectorsFrom (catalogueOf (view (now (img .entry)))) (j .0) 0) × (r ≤ k + 2 + tableSectors g) ⌝ }
 {
-    let n = put_entries(list, k, numbers, img, g, i, j, name, time);
-    delete::put_freed(list, n, numbers, img, g, j, 0)
+    let n = put_entries(list, k, numbers, img, g, stages, i, j, name, time);
+    delete::put_freed(list, n, numbers, img, g, stages, j, 0)
 }
 
 // The same by where the new name is: nowhere, or at a file that is replaced.
@@ -136,15 +145,17 @@ fn put_renaming(
     numbers: &mut [u64],
     img: &[u8],
     g: Geometry,
+    stages: &[u64],
     i: FileIndex,
     place: Lowest,
     name: &[u8],
     time: u64,
 ) -> usize
+    requires { ⌜ Stages g (now stages) ⌝ }
     requires { ⌜ Opened (now img) g ⌝ }
     requires { ⌜ (i .0 < g .files) × (indexOf place < g .files) × (length (now name) ≤ layoutOf (g .edition) .longestName) ⌝ }
-    requires { ⌜ ((k + renamingCount (catalogueOf (view (now img))) place + 1) * recordSize ≤ length (now list)) × (k + 2 + tableSectors g ≤ length (now numbers)) ⌝ }
-    ensures { λ r. ⌜ Added g (now (numbers .entry)) (now (list .entry)) k (renamingRecords (catalogueOf (view (now (img .entry)))) (view (now (img .entry))) (i .0) place (now (name .entry)) time) (now (numbers .exit)) (now (list .exit)) r ⌝ }
+    requires { ⌜ ((k + renamingCount (catalogueOf (view (now img))) place + 1) * recordSize ≤ length (now list)) × (k ≤ 1) × (k + 2 + tableSectors g ≤ length (now numbers)) ⌝ }
+    ensures { λ r. ⌜ Added g (now (stages .entry)) (now (numbers .entry)) (now (list .entry)) k (renamingRecords (catalogueOf (view (now (img .entry)))) (view (now (img .entry))) (i .0) place (now (name .entry)) time) (now (numbers .exit)) (now (list .exit)) r ⌝ }
     ensures { λ r. ⌜ (r ≡ k + renamingCount (catalogueOf (view (now (img .entry)))) place) × (r ≤ k + 2 + tableSectors g) ⌝ }
 {
     match place {
@@ -154,12 +165,13 @@ fn put_renaming(
             numbers,
             img,
             g,
+            stages,
             i,
             FileIndex(j as u64),
             name,
             time,
         ),
-        Lowest::Nowhere => put_renamed(list, k, numbers, img, g, i, name, time),
+        Lowest::Nowhere => put_renamed(list, k, numbers, img, g, stages, i, name, time),
     }
 }
 
@@ -184,12 +196,14 @@ fn rename_count(img: &[u8], g: Geometry, place: Lowest) -> usize
 fn put_rename(
     img: &[u8],
     g: Geometry,
+    stages: &[u64],
     i: FileIndex,
     place: Lowest,
     name: &[u8],
     time: u64,
     list: &mut [u8],
 ) -> usize
+    requires { ⌜ StagesOf g (view (now img)) (now stages) ⌝ }
     requires { ⌜ Opened (now img) g ⌝ }
     requires { ⌜ (i .0 < g .files) × (indexOf place < g .files) × (length (now name) ≤ layoutOf (g .edition) .longestName) ⌝ }
     requires { ⌜ recordCount 0 (1 + renamingCount (catalogueOf (view (now img))) place) * recordSize ≤ length (now list) ⌝ }
@@ -197,14 +211,14 @@ fn put_rename(
 {
     let mut numbers = [0u64; 1024];
     let root = directory::updated_root(img, g.edition, time);
-    let k = commit::put_copy(list, 0, g, &mut numbers, 0, Sector(1), root);
-    let n = put_renaming(list, k, &mut numbers, img, g, i, place, name, time);
-    commit::put_commit(list, n, img, g, &numbers, n)
+    let k = commit::put_copy(list, 0, g, stages, &mut numbers, 0, Sector(1), root);
+    let n = put_renaming(list, k, &mut numbers, img, g, stages, i, place, name, time);
+    commit::put_commit(list, n, img, g, stages, &numbers, n)
 }
 
 // ---- the call
 
-// File i to a name that is not its own.
+// File i to a name that is not its own: refusals 13 and 14, or the list.
 fn rename_file(
     img: &[u8],
     g: Geometry,
@@ -218,17 +232,21 @@ fn rename_file(
     ensures { λ r. ⌜ r ≡ answerOf (view (now (img .entry))) (renamedTo (view (now (img .entry))) (i .0) (now (name .entry)) time (length (now (list .entry)))) ⌝ }
     ensures { λ _. ⌜ now (list .exit) ≡ listAfter (view (now (img .entry))) (renamedTo (view (now (img .entry))) (i .0) (now (name .entry)) time (length (now (list .entry)))) (now (list .entry)) ⌝ }
 {
-    let place = directory::file_named(img, g, name);
-    let needed = lists::RECORD_SIZE * rename_count(img, g, place);
-    if needed <= list.len() {
-        put_rename(img, g, i, place, name, time, list);
-        let verdict = volume::refusal(0);
-        return Changed {
-            verdict,
-            length: needed as u64,
-        };
+    let mut stages = [0u64; 5];
+    if table::staging(img, g, &mut stages) {
+        let place = directory::file_named(img, g, name);
+        let needed = lists::RECORD_SIZE * rename_count(img, g, place);
+        if needed <= list.len() {
+            put_rename(img, g, &stages, i, place, name, time, list);
+            let verdict = volume::refusal(0);
+            return Changed {
+                verdict,
+                length: needed as u64,
+            };
+        }
+        return commit::refused(volume::refusal(14));
     }
-    commit::refused(volume::refusal(14))
+    commit::refused(volume::refusal(13))
 }
 
 pub fn rename_in(img: &[u8], old: &[u8], new: &[u8], time: u64, list: &mut [u8]) -> Changed

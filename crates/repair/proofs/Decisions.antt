@@ -2,38 +2,47 @@
 use Prim.Native.Nat.{ℕ, _*_, _≤_, _<_}
 use mathlib.Core.Path.{_≡_, refl, sym, ap, _∙_}
 use mathlib.Core.Logic.{_≢_}
-use mathlib.Core.Bool.{Bool, true, false, cond, not, _&&_, true≢false}
-use mathlib.Core.List.{List, [], _∷_}
+use mathlib.Core.Bool.{Bool, true, false, cond}
+use mathlib.Core.List.{List}
 use mathlib.Core.Option.{Option, none, some}
 use native.Mathlib.Omega.{arith}
-use lib.Dec.{leb, ltb}
 use lib.ListN.{length}
-use borrow.Author.Tests.{le-ltb, lt-ltb, le-leb, ne-eqb, eq-eqb, eqb-true}
+use borrow.Author.Tests.{le-ltb, ne-eqb, eq-eqb, eqb-true}
 use Rattle.model.specs.declared.Geometry.{Geometry}
 use Rattle.model.specs.declared.Lowest.{Lowest}
-use Rattle.model.specs.declared.Lowest.the-variants.{At, Nowhere}
+use Rattle.model.specs.declared.Lowest.the-variants.{Nowhere}
 use Rattle.model.specs.declared.Soundness.the-variants.{Sound}
 use Rattle.model.specs.declared.Verdict.{Verdict}
+use Rattle.model.specs.declared.Changed.{Changed}
 use Rattle.model.specs.declared.Repaired.{Repaired}
 use Rattle.model.specs.Search.{first, countBelow}
-use Rattle.model.specs.Geometry.{usable, tableSectors}
+use Rattle.model.specs.Geometry.{tableSectors}
 use Rattle.model.specs.Disk.{Disk, view}
 use Rattle.model.specs.Superblock.{geometryIn, stateOn}
-use Rattle.model.specs.Catalogue.{Owner, Catalogue, catalogueOf, isFree}
+use Rattle.model.specs.Catalogue.{Catalogue, catalogueOf, lacksReserve}
 use Rattle.model.specs.Faults.{fault21, fault22, fault23, fault24, fault25, fault26, orElse, faultsIn}
 use Rattle.model.specs.Refusals.{verdictOf, andThen, isDone, done, refusal, imageVerdict, stateNumber}
-use Rattle.model.specs.WriteList.{Plan, Emitted, emit, closed, recordSize, recordCount, groupsFor, listLength}
-use Rattle.model.specs.Repair.{isStray, strays, repaired, takenReserve, repairPlanned, reserveVerdict, repairVerdict, repairDecision, doneBut, notRepaired, repairAnswer, repairList}
-use Rattle.laws.proofs.Search.{first-none, first-missed}
+use Rattle.model.specs.WriteList.{Plan, Decision, Emitted, closed, recordSize, recordCount, groupsFor, listLength, listAfter, planConditions}
+use Rattle.model.specs.Repair.{isStray, strays, repaired, repairPlanned, repairVerdict, repairDecision, doneBut, notRepaired, repairAnswer, repairList}
+use Rattle.laws.proofs.Search.{first-none}
 use Rattle.laws.proofs.WriteList.{emit-nil}
 use Rattle.laws.proofs.Repaired.{fault25-repaired}
 use Rattle.soundness.specs.Directory.{directoryFault}
+use Rattle.commit.proofs.Decided.{ComesTo}
+use Rattle.delete.specs.Staging.{fitted}
+use Rattle.delete.proofs.Decisions.{fitted-full, fitted-short, fitted-done}
+use Rattle.repair.specs.declared.Mended.{Mended}
 use Rattle.repair.specs.Strays.{Found, isMarked}
 use Rattle.repair.specs.Freeing.{holdsFreed, freeingPlan, Mends}
 use Rattle.repair.proofs.Strays.{marked-is}
 use Rattle.repair.proofs.Freeing.{geometry-is, planned-none, planned-some, freeing-needs}
 
--- ---- behind the refusals 1 to 7
+-- ---- behind the refusals 1 to 6
+
+-- no plan, and an empty list
+fitted-none : (d : Disk) (list : List ℕ) → ComesTo d (fitted d none (length list)) list (record { verdict = done; length = 0 }) list
+unfolding groupsFor verdictOf planConditions
+fitted-none d list = rw (le-ltb (length list) 0 (omega arith)) (refl, sym (emit-nil list 0))
 
 module _ (d : Disk) (g : Geometry) (is : g ≡ geometryIn (d 0)) (marks : List ℕ) (found : Found g d (g .extents) marks) (list : List ℕ)
     (n : ℕ) (counted : n ≡ countBelow (isStray (catalogueOf d)) (g .extents)) (lacking : Lowest) (lacks : lacking ≡ first (fault26 (repaired (catalogueOf d))) (g .files)) where
@@ -47,67 +56,51 @@ module _ (d : Disk) (g : Geometry) (is : g ≡ geometryIn (d 0)) (marks : List �
   lacking-is : lacking ≡ first (fault26 (repaired (catalogueOf d))) (catalogueOf d .geometry .files)
   lacking-is = lacks ∙ ap (λ (x : Geometry). first (fault26 (repaired (catalogueOf d))) (x .files)) (sym (geometry-is d g is))
 
+  comes : {o : Option Plan} {a : Changed} {after : List ℕ} → repairPlanned (catalogueOf d) d ≡ o → ComesTo d (fitted d o (length list)) list a after
+      → ComesTo d (fitted d (repairPlanned (catalogueOf d) d) (length list)) list a after
+  comes q h = rw q h
+
   -- nothing is freed
-  pub mends-none : n ≡ 0 → Mends d list (record { short = false; freed = 0; length = 0; lacking = lacking }) list
-  unfolding groupsFor
+  pub mends-none : n ≡ 0 → Mends d list (record { number = 0; freed = 0; length = 0; lacking = lacking }) list
   mends-none z =
-      let p : repairPlanned c d ≡ none = planned-none d g is (sym counted ∙ z) in
-      record {
-        short = sym (ap (λ (o : Option Plan). ltb (length list) (listLength (groupsFor d o))) p ∙ le-ltb (length list) 0 (omega arith));
-        freed = λ e. sym z ∙ freed-are;
-        bytes = λ e. sym (ap (λ (o : Option Plan). listLength (groupsFor d o)) p);
-        lacking = λ e. lacking-is;
-        leaves = sym (ap (λ (o : Option Plan). emit list 0 (closed (groupsFor d o))) p ∙ emit-nil list 0);
-      }
+      let r = comes (planned-none d g is (sym counted ∙ z)) (fitted-none d list) in
+      record { answers = r .0; leaves = r .1; freed = λ e. sym z ∙ freed-are; lacking = lacking-is }
 
   module _ (more : n ≢ 0) where
-    planned : repairPlanned c d ≡ some (freeingPlan (isMarked marks (g .extents)) g d)
+    abbrev plan : Plan
+    plan = freeingPlan (isMarked marks (g .extents)) g d
+
+    planned : repairPlanned c d ≡ some plan
     planned =
         planned-some d g is (λ z. more (counted ∙ z)) ∙ ap (λ (p : ℕ → Bool). some (freeingPlan p g d)) (sym (marked-is d g is marks found))
 
-    needs : listLength (groupsFor d (repairPlanned c d)) ≡ recordCount 0 (countBelow (holdsFreed (isMarked marks (g .extents))) (tableSectors g)) * recordSize
-    needs = ap (λ (o : Option Plan). listLength (groupsFor d o)) planned ∙ freeing-needs (isMarked marks (g .extents)) g d
-
-    pub mends-some : {after : List ℕ} {j : ℕ} (k : ℕ) → k ≡ recordCount 0 (countBelow (holdsFreed (isMarked marks (g .extents))) (tableSectors g)) * recordSize → k ≤ length list
+    pub mends-some : {after : List ℕ} {j : ℕ} (k : ℕ) → lacksReserve (catalogueOf d) ≡ false
+        → k ≡ recordCount 0 (countBelow (holdsFreed (isMarked marks (g .extents))) (tableSectors g)) * recordSize → k ≤ length list
         → Emitted list 0 (closed (groupsFor d (some (freeingPlan (isMarked marks (g .extents)) g d)))) after j
-        → Mends d list (record { short = false; freed = n; length = k; lacking = lacking }) after
-    mends-some {after} {j} k q room e = record {
-      short = sym (le-ltb (length list) (listLength (groupsFor d (repairPlanned c d))) (omega (arith, needs, q)));
-      freed = λ _. freed-are;
-      bytes = λ _. q ∙ sym needs;
-      lacking = λ _. lacking-is;
-      leaves = e .holds ∙ ap (λ (o : Option Plan). emit list 0 (closed (groupsFor d o))) (sym planned);
-    }
+        → Mends d list (record { number = 0; freed = n; length = k; lacking = lacking }) after
+    mends-some k has q room e =
+        let r = comes planned (fitted-done d plan list has (q ∙ sym (freeing-needs (isMarked marks (g .extents)) g d)) room e) in
+        record { answers = r .0; leaves = r .1; freed = λ _. freed-are; lacking = lacking-is }
 
-    pub mends-short : length list < recordCount 0 (countBelow (holdsFreed (isMarked marks (g .extents))) (tableSectors g)) * recordSize
-        → Mends d list (record { short = true; freed = 0; length = 0; lacking = lacking }) list
-    mends-short room = record {
-      short = sym (lt-ltb (length list) (listLength (groupsFor d (repairPlanned c d))) (omega (arith, needs)));
-      freed = λ h. absurd (true≢false h);
-      bytes = λ h. absurd (true≢false h);
-      lacking = λ h. absurd (true≢false h);
-      leaves = refl;
-    }
+    pub mends-short : lacksReserve (catalogueOf d) ≡ false → length list < recordCount 0 (countBelow (holdsFreed (isMarked marks (g .extents))) (tableSectors g)) * recordSize
+        → Mends d list (record { number = 14; freed = 0; length = 0; lacking = lacking }) list
+    mends-short has room =
+        let r = comes planned (fitted-short d plan list has (omega (arith, freeing-needs (isMarked marks (g .extents)) g d))) in
+        record { answers = r .0; leaves = r .1; freed = λ h. absurd (omega (arith, h)); lacking = lacking-is }
+
+    pub mends-frozen : lacksReserve (catalogueOf d) ≡ true → Mends d list (record { number = 13; freed = 0; length = 0; lacking = lacking }) list
+    mends-frozen lack =
+        let r = comes planned (fitted-full d plan list lack) in
+        record { answers = r .0; leaves = r .1; freed = λ h. absurd (omega (arith, h)); lacking = lacking-is }
 
 -- ---- the first fault that remains
 
-module _ (d : Disk) (g : Geometry) (is : g ≡ geometryIn (d 0)) (reserve : takenReserve (catalogueOf d) ≡ Nowhere) where
+module _ (d : Disk) (g : Geometry) (is : g ≡ geometryIn (d 0)) where
   abbrev k : Catalogue
   k = catalogueOf d
 
-  free-of : (t : Option Owner) → not (isFree t) ≡ false → t ≡ none
-  free-of none q = refl
-  free-of (some w) q = absurd (true≢false q)
-
-  reserve-free : (e : ℕ) → e < catalogueOf d .geometry .extents → usable (catalogueOf d .geometry) ≤ e → catalogueOf d .table e ≡ none
-  unfolding takenReserve
-  reserve-free e l h =
-      free-of (k .table e)
-      (sym (ap (λ (b : Bool). b && not (isFree (k .table e))) (le-leb (usable (k .geometry)) e h))
-      ∙ first-missed (λ e. leb (usable (k .geometry)) e && not (isFree (k .table e))) (k .geometry .extents) reserve e l)
-
   no-25 : first (fault25 (repaired (catalogueOf d))) (catalogueOf d .geometry .extents) ≡ Nowhere
-  no-25 = first-none (fault25 (repaired k)) (k .geometry .extents) (λ e l. fault25-repaired k e (reserve-free e l))
+  no-25 = first-none (fault25 (repaired k)) (k .geometry .extents) (λ e l. fault25-repaired k e)
 
   -- the directory's, then a file that lacks an extent
   pub remains : faultsIn (fault21 d) (repaired (catalogueOf d)) ≡ directoryFault g d (orElse 26 (first (fault26 (repaired (catalogueOf d))) (catalogueOf d .geometry .files)) Sound)
@@ -140,15 +133,13 @@ module _ (img list : List ℕ) where
   abbrev pub early : Verdict
   early = andThen (imageVerdict (length img) (view img)) (refusal (stateNumber (stateOn (view img))))
 
-  -- 7 and 14
-  abbrev later : Verdict
-  later =
-      andThen (reserveVerdict (takenReserve (catalogueOf (view img))))
-      (verdictOf ((ltb (length list) (listLength (groupsFor (view img) (repairPlanned (catalogueOf (view img)) (view img)))), refusal 14) ∷ []))
+  -- 13 and 14, or the plan
+  abbrev pub later : Decision
+  later = fitted (view img) (repairPlanned (catalogueOf (view img)) (view img)) (length list)
 
-  verdict-is : repairVerdict (length img) (view img) (length list) ≡ andThen early later
+  verdict-is : repairVerdict (length img) (view img) (length list) ≡ andThen early (later .verdict)
   unfolding repairVerdict
-  verdict-is = then-then (imageVerdict l v) (refusal (stateNumber (stateOn v))) later
+  verdict-is = then-then (imageVerdict l v) (refusal (stateNumber (stateOn v))) (later .verdict)
 
   -- a clean volume's image passed 1 to 3
   pub clean-image : early .number ≡ 0 → imageVerdict (length img) (view img) .number ≡ 0
@@ -164,37 +155,31 @@ module _ (img list : List ℕ) where
 
   pub repair-early : {w : Verdict} → w ≡ early → w .number ≢ 0 → Comes img list (notRepaired w) list
   repair-early {w} q n =
-      refused-by w (verdict-is ∙ ap (λ (x : Verdict). andThen x later) (sym q) ∙ ap (λ (b : Bool). cond b later w) (ne-eqb (w .number) 0 n)) (ne-eqb (w .number) 0 n)
+      refused-by w (verdict-is ∙ ap (λ (x : Verdict). andThen x (later .verdict)) (sym q) ∙ ap (λ (b : Bool). cond b (later .verdict) w) (ne-eqb (w .number) 0 n)) (ne-eqb (w .number) 0 n)
 
   module _ (clean : early .number ≡ 0) where
-    from-later : repairVerdict (length img) (view img) (length list) ≡ later
-    from-later = verdict-is ∙ ap (λ (b : Bool). cond b later early) (eq-eqb (early .number) 0 clean)
+    from-later : repairDecision (length img) (view img) (length list) ≡ later
+    unfolding repairDecision
+    from-later =
+        ap (λ (w : Verdict). let p = repairPlanned (catalogueOf v) v in record { verdict = w; plan = cond (isDone w) p none })
+        (verdict-is ∙ ap (λ (b : Bool). cond b (later .verdict) early) (eq-eqb (early .number) 0 clean))
 
-    pub repair-reserve : (e : ℕ) → takenReserve (catalogueOf (view img)) ≡ At e → Comes img list (notRepaired (record { number = 7; fault = 25; place = e })) list
-    repair-reserve e q =
-        refused-by (record { number = 7; fault = 25; place = e })
-        (from-later ∙ ap (λ (r : Lowest). andThen (reserveVerdict r)
-        (verdictOf ((ltb (length list) (listLength (groupsFor v (repairPlanned (catalogueOf v) v))), refusal 14) ∷ []))) q) refl
+    module _ {r : Mended} {after : List ℕ} (m : Mends (view img) list r after) where
+      leaves : after ≡ repairList (length img) (view img) list
+      unfolding repairList
+      leaves = m .leaves ∙ ap (λ (x : Decision). listAfter v x list) (sym from-later)
 
-    module _ (free : takenReserve (catalogueOf (view img)) ≡ Nowhere) where
-      by-length : repairVerdict (length img) (view img) (length list)
-          ≡ cond (ltb (length list) (listLength (groupsFor (view img) (repairPlanned (catalogueOf (view img)) (view img))))) (refusal 14) done
-      unfolding verdictOf
-      by-length =
-          from-later
-          ∙ ap (λ (r : Lowest). andThen (reserveVerdict r)
-          (cond (ltb (length list) (listLength (groupsFor v (repairPlanned (catalogueOf v) v)))) (refusal 14) done)) free
+      verdict-was : repairDecision (length img) (view img) (length list) .verdict ≡ refusal (r .number)
+      verdict-was = ap (λ (x : Decision). x .verdict) from-later ∙ sym (ap (λ (a : Changed). a .verdict) (m .answers))
 
-      pub repair-short : true ≡ ltb (length list) (listLength (groupsFor (view img) (repairPlanned (catalogueOf (view img)) (view img)))) → Comes img list (notRepaired (refusal 14)) list
-      repair-short s = refused-by (refusal 14) (by-length ∙ ap (λ (b : Bool). cond b (refusal 14) done) (sym s)) refl
+      pub repair-refused : r .number ≢ 0 → Comes img list (notRepaired (refusal (r .number))) after
+      unfolding repairAnswer
+      repair-refused n = (rw (verdict-was, ne-eqb (r .number) 0 n), leaves)
 
-      pub repair-done : (w : Verdict) (n k : ℕ) (after : List ℕ)
-          → false ≡ ltb (length list) (listLength (groupsFor (view img) (repairPlanned (catalogueOf (view img)) (view img))))
-          → w ≡ doneBut (faultsIn (fault21 (view img)) (repaired (catalogueOf (view img)))) → n ≡ strays (catalogueOf (view img))
-          → k ≡ listLength (groupsFor (view img) (repairPlanned (catalogueOf (view img)) (view img)))
-          → after ≡ emit list 0 (closed (groupsFor (view img) (repairPlanned (catalogueOf (view img)) (view img))))
-          → Comes img list (record { verdict = w; freed = n; length = k }) after
-      unfolding repairAnswer repairList repairDecision
-      repair-done w n k after s p q r t =
-          let e : repairVerdict l v (length list) ≡ done = by-length ∙ ap (λ (b : Bool). cond b (refusal 14) done) (sym s) in
-          (rw (e, p, q, r), rw e t)
+      pub repair-done : (w : Verdict) → r .number ≡ 0 → w ≡ doneBut (faultsIn (fault21 (view img)) (repaired (catalogueOf (view img))))
+          → Comes img list (record { verdict = w; freed = r .freed; length = r .length }) after
+      unfolding repairAnswer
+      repair-done w z q =
+          let k : r .length ≡ listLength (groupsFor v (repairDecision l v (length list) .plan))
+          = ap (λ (a : Changed). a .length) (m .answers) ∙ ap (λ (x : Decision). listLength (groupsFor v (x .plan))) (sym from-later) in
+          (rw (verdict-was, z, q, m .freed z, k), leaves)

@@ -1,30 +1,26 @@
 -- Which extents are freed: entries of one file and offset are of one bucket, and an extent's test in the terms that the code tests. Rests
 -- on the crate `laws`.
-use Prim.Native.Nat.{ℕ, _+_, _*_, _≤_, _<_}
+use Prim.Native.Nat.{ℕ, _*_, _≤_, _<_}
 use mathlib.Core.Path.{_≡_, refl, sym, ap, _∙_, fun-ext}
 use mathlib.Core.Logic.{_≢_}
 use mathlib.Core.Bool.{Bool, true, false, cond, not, _&&_, _||_}
 use mathlib.Core.List.{List}
-use mathlib.Core.Option.{none, some}
-use native.Mathlib.Nat.{zero-add}
+use mathlib.Core.Option.{none}
 use native.Mathlib.Omega.{arith}
 use lib.Dec.{eqb, leb, ltb}
 use lib.ListN.{getD}
 use borrow.Author.Tests.{eqb-true, eq-eqb, ne-eqb, ltb-true, lt-ltb, le-ltb, ltb-false, le-leb, lt-leb}
 use Rattle.model.specs.declared.Geometry.{Geometry}
 use Rattle.model.specs.Bytes.{numberIn}
-use Rattle.model.specs.Search.{anyBelow, first}
-use Rattle.model.specs.Geometry.{entryAt, extentSectors, extentBytes, usable}
+use Rattle.model.specs.Search.{anyBelow}
+use Rattle.model.specs.Geometry.{entryAt, extentSectors, extentBytes}
 use Rattle.model.specs.Disk.{Disk}
 use Rattle.model.specs.Superblock.{geometryIn}
 use Rattle.model.specs.Entry.{entryField, isOccupied}
 use Rattle.model.specs.Table.{freeFile, tableFile, tableOffset}
-use Rattle.model.specs.Catalogue.{Owner, catalogueOf, isFree}
-use Rattle.model.specs.Repair.{isStray, takenReserve}
+use Rattle.model.specs.Catalogue.{catalogueOf}
+use Rattle.model.specs.Repair.{isStray}
 use Rattle.laws.proofs.Booleans.{and-true, and-yes}
-use Rattle.laws.proofs.Catalogue.{table-on}
-use Rattle.laws.proofs.Search.{first-ext, scan-none}
-use Rattle.laws.proofs.Seeking.{Seeking, seek-start, seek-over}
 use Rattle.laws.proofs.Repair.{past-count, stray-is}
 use Rattle.repair.specs.Strays.{bucketOf, member, samePart, Found, isMarked}
 
@@ -131,22 +127,3 @@ module _ (d : Disk) (g : Geometry) (is : g ≡ geometryIn (d 0)) where
 
           pub stray-repeated : o * extentBytes g < z → anyBelow (samePart g d e) e ≡ isStray (catalogueOf d) e
           stray-repeated h = sym (counted false (lt-leb z (o * extentBytes g) h))
-
-  -- ---- the reserve
-
-  pub reserve-is : takenReserve (catalogueOf d) ≡ first (λ e. leb (usable g) e && not (eqb (tableFile g d e) freeFile)) (g .extents)
-  unfolding takenReserve catalogueOf
-  reserve-is =
-      rw is
-      (first-ext (λ e. leb (usable (geometryIn (d 0))) e && not (isFree (catalogueOf d .table e))) (λ e. leb (usable (geometryIn (d 0))) e && not (eqb (tableFile (geometryIn (d 0)) d e) freeFile))
-      (geometryIn (d 0) .extents) (λ e l. ap (λ (b : Bool). leb (usable (geometryIn (d 0))) e && not b) (ap isFree (table-on d e l) ∙ vacant (eqb (tableFile (geometryIn (d 0)) d e) freeFile) _)))
-    where
-      vacant : (b : Bool) (w : Owner) → isFree (cond (not b) (some w) none) ≡ b
-      vacant true w = refl
-      vacant false w = refl
-
--- a search that starts where the reserve does has passed all that is below
-pub reserve-start : (q : ℕ → Bool) (u n : ℕ) → u ≤ n → Seeking (λ e. leb u e && q e) n u
-reserve-start q u n h =
-    let z : 0 + u ≡ u = zero-add u in
-    rw z at (seek-over (seek-start {p = λ e. leb u e && q e} {n = n}) u (omega arith) (sym (scan-none (λ e. leb u e && q e) u 0 (λ k a b. ap (λ (t : Bool). t && q k) (lt-leb u k (omega arith))))))

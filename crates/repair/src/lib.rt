@@ -14,14 +14,15 @@ ghost use Prim.Native.Nat.{ℕ, _+_, _*_, _≤_, _<_};
 ghost use lib.Dec.{eqb};
 ghost use lib.ListN.{length, getD};
 ghost use Rattle.model.specs.Search.{first, anyBelow, countBelow};
-ghost use Rattle.model.specs.Geometry.{usable, tableAt, tableSectors};
+ghost use Rattle.model.specs.Geometry.{tableAt, tableSectors};
 ghost use Rattle.model.specs.Disk.{view};
 ghost use Rattle.model.specs.Table.{freeFile, tableFile, tableOffset, freedIn};
 ghost use Rattle.model.specs.Catalogue.{catalogueOf};
 ghost use Rattle.model.specs.Faults.{fault21, fault26, faultsIn};
 ghost use Rattle.model.specs.WriteList.{recordSize, recordCount, groupsFor, closed, Emitted};
 ghost use Rattle.model.specs.Opened.{Bounded, Opened};
-ghost use Rattle.model.specs.Repair.{isStray, repaired, takenReserve, doneBut, repairAnswer, repairList};
+ghost use Rattle.model.specs.Repair.{isStray, repaired, doneBut, repairAnswer, repairList};
+ghost use Rattle.commit.specs.Commit.{Stages, StagesOf};
 ghost use Rattle.delete.specs.Staging.{Added};
 ghost use Rattle.repair.specs.Strays.{bucketOf, Linked, samePart, Found, isMarked, Kept};
 ghost use Rattle.repair.specs.Freeing.{holdsFreed, freedSector, freeingPlan, Mends};
@@ -211,50 +212,61 @@ fn put_freed_sector(
     numbers: &mut [u64],
     img: &[u8],
     g: Geometry,
+    stages: &[u64],
     marks: &[u8],
     t: u64,
 ) -> usize
+    requires { ⌜ Stages g (now stages) ⌝ }
     requires { ⌜ Opened (now img) g ⌝ }
     requires { ⌜ (g .extents ≤ length (now marks)) × (t < tableSectors g) ⌝ }
-    requires { ⌜ ((k + 1) * recordSize ≤ length (now list)) × (k < length (now numbers)) ⌝ }
-    ensures { λ r. ⌜ Added g (now (numbers .entry)) (now (list .entry)) k (freedSector (isMarked (now (marks .entry)) (g .extents)) g (view (now (img .entry))) t) (now (numbers .exit)) (now (list .exit)) r ⌝ }
+    requires { ⌜ ((k + 1) * recordSize ≤ length (now list)) × (k < 640) × (k < length (now numbers)) ⌝ }
+    ensures { λ r. ⌜ Added g (now (stages .entry)) (now (numbers .entry)) (now (list .entry)) k (freedSector (isMarked (now (marks .entry)) (g .extents)) g (view (now (img .entry))) t) (now (numbers .exit)) (now (list .exit)) r ⌝ }
     ensures { λ r. ⌜ (r ≡ k + cond (holdsFreed (isMarked (now (marks .entry)) (g .extents)) t) 1 0) × (r ≤ k + 1) ⌝ }
 {
     if holds_marked(marks, g, t) {
         let s = freed(img, g, marks, t);
-        return commit::put_copy(list, k, g, numbers, k, g.table_sector(t), s);
+        return commit::put_copy(list, k, g, stages, numbers, k, g.table_sector(t), s);
     }
     k
 }
 
 // The copies of all such table sectors, from record 0 on.
-fn put_freed(list: &mut [u8], numbers: &mut [u64], img: &[u8], g: Geometry, marks: &[u8]) -> usize
+fn put_freed(
+    list: &mut [u8],
+    numbers: &mut [u64],
+    img: &[u8],
+    g: Geometry,
+    stages: &[u64],
+    marks: &[u8],
+) -> usize
+    requires { ⌜ Stages g (now stages) ⌝ }
     requires { ⌜ Opened (now img) g ⌝ }
     requires { ⌜ g .extents ≤ length (now marks) ⌝ }
     requires { ⌜ ((countBelow (holdsFreed (isMarked (now marks) (g .extents))) (tableSectors g) + 1) * recordSize ≤ length (now list)) × (tableSectors g ≤ length (now numbers)) ⌝ }
-    ensures { λ r. ⌜ Added g (now (numbers .entry)) (now (list .entry)) 0 (freeingPlan (isMarked (now (marks .entry)) (g .extents)) g (view (now (img .entry))) .targets) (now (numbers .exit)) (now (list .exit)) r ⌝ }
+    ensures { λ r. ⌜ Added g (now (stages .entry)) (now (numbers .entry)) (now (list .entry)) 0 (freeingPlan (isMarked (now (marks .entry)) (g .extents)) g (view (now (img .entry))) .targets) (now (numbers .exit)) (now (list .exit)) r ⌝ }
     ensures { λ r. ⌜ (r ≡ countBelow (holdsFreed (isMarked (now (marks .entry)) (g .extents))) (tableSectors g)) × (r ≤ tableSectors g) ⌝ }
 {
     let n = g.table_sectors();
     let mut j: usize = 0;
     let mut t: u64 = 0;
     while t < n {
-        j = put_freed_sector(list, j, numbers, img, g, marks, t);
+        j = put_freed_sector(list, j, numbers, img, g, stages, marks, t);
         t += 1;
     }
     j
 }
 
 // The whole list, which has room for it.
-fn put_repair(img: &[u8], g: Geometry, marks: &[u8], list: &mut [u8]) -> usize
+fn put_repair(img: &[u8], g: Geometry, stages: &[u64], marks: &[u8], list: &mut [u8]) -> usize
+    requires { ⌜ StagesOf g (view (now img)) (now stages) ⌝ }
     requires { ⌜ Opened (now img) g ⌝ }
     requires { ⌜ g .extents ≤ length (now marks) ⌝ }
     requires { ⌜ recordCount 0 (countBelow (holdsFreed (isMarked (now marks) (g .extents))) (tableSectors g)) * recordSize ≤ length (now list) ⌝ }
     ensures { λ r. ⌜ Emitted (now (list .entry)) 0 (closed (groupsFor (view (now (img .entry))) (some (freeingPlan (isMarked (now (marks .entry)) (g .extents)) g (view (now (img .entry))))))) (now (list .exit)) r ⌝ }
 {
     let mut numbers = [0u64; 1024];
-    let n = put_freed(list, &mut numbers, img, g, marks);
-    commit::put_commit(list, n, img, g, &numbers, n)
+    let n = put_freed(list, &mut numbers, img, g, stages, marks);
+    commit::put_commit(list, n, img, g, stages, &numbers, n)
 }
 
 // ---- files that lack an extent
@@ -328,11 +340,11 @@ fn first_lacking(img: &[u8], g: Geometry, kept: &[u32]) -> Lowest
     Lowest::Nowhere
 }
 
-// ---- a repair of a clean volume whose reserve is free
+// ---- a repair of a clean volume
 
 struct Mended {
-    // the list is too short
-    short: bool,
+    // 13 or 14, or 0
+    number: u64,
     freed: u64,
     length: u64,
     // the lowest file that lacks an extent
@@ -358,24 +370,33 @@ fn mend_in(
     let lacking = first_lacking(img, g, numbers);
     if freed == 0 {
         return Mended {
-            short: false,
+            number: 0,
             freed: 0,
             length: 0,
             lacking,
         };
     }
-    let needed = lists::RECORD_SIZE * delete::records_for(sectors);
-    if needed <= list.len() {
-        put_repair(img, g, marks, list);
+    let mut stages = [0u64; 5];
+    if table::staging(img, g, &mut stages) {
+        let needed = lists::RECORD_SIZE * delete::records_for(sectors);
+        if needed <= list.len() {
+            put_repair(img, g, &stages, marks, list);
+            return Mended {
+                number: 0,
+                freed,
+                length: needed as u64,
+                lacking,
+            };
+        }
         return Mended {
-            short: false,
-            freed,
-            length: needed as u64,
+            number: 14,
+            freed: 0,
+            length: 0,
             lacking,
         };
     }
     Mended {
-        short: true,
+        number: 13,
         freed: 0,
         length: 0,
         lacking,
@@ -443,27 +464,10 @@ fn mend_with(img: &[u8], g: Geometry, list: &mut [u8], room: u64) -> Mended
 
 // ---- the call
 
-// The lowest extent of the reserve that isn't free.
-fn taken_reserve(img: &[u8], g: Geometry) -> Lowest
-    requires { ⌜ Opened (now img) g ⌝ }
-    ensures { λ r. ⌜ r ≡ takenReserve (catalogueOf (view (now (img .entry)))) ⌝ }
-{
-    let n = g.extents;
-    let mut e = g.usable();
-    while e < n {
-        if table::table_file(img, g, Extent(e)) != 65535 {
-            return Lowest::At(e as usize);
-        }
-        e += 1;
-    }
-    Lowest::Nowhere
-}
-
 // Done, with the first fault that remains: what is wrong with the directory stays, every table entry is then a file's, and a file may
 // lack an extent.
 fn remaining(img: &[u8], g: Geometry, lacking: Lowest) -> Verdict
     requires { ⌜ Opened (now img) g ⌝ }
-    requires { ⌜ takenReserve (catalogueOf (view (now img))) ≡ Lowest.Nowhere ⌝ }
     requires { ⌜ lacking ≡ first (fault26 (repaired (catalogueOf (view (now img))))) (catalogueOf (view (now img)) .geometry .files) ⌝ }
     ensures { λ r. ⌜ r ≡ doneBut (faultsIn (fault21 (view (now (img .entry)))) (repaired (catalogueOf (view (now (img .entry)))))) ⌝ }
 {
@@ -501,24 +505,17 @@ pub fn repair(img: &[u8], list: &mut [u8]) -> Repaired
     let v = soundness::clean_verdict(img);
     if v.number == 0 {
         let g = volume::geometry_in(img);
-        if let Lowest::At(e) = taken_reserve(img, g) {
-            return refused(Verdict {
-                number: 7,
-                fault: 25,
-                place: e as u64,
-            });
-        }
         let m = mend_with(img, g, list, 1024);
-        if m.short {
-            return refused(volume::refusal(14));
+        if m.number == 0 {
+            let lacking = m.lacking;
+            let verdict = remaining(img, g, lacking);
+            return Repaired {
+                verdict,
+                freed: m.freed,
+                length: m.length,
+            };
         }
-        let lacking = m.lacking;
-        let verdict = remaining(img, g, lacking);
-        return Repaired {
-            verdict,
-            freed: m.freed,
-            length: m.length,
-        };
+        return refused(volume::refusal(m.number));
     }
     refused(v)
 }

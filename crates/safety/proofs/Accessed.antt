@@ -1,37 +1,40 @@
 -- A READ AND A LIST IN A USER'S WORDS (T-02): what they give, cut or not; a cut one set the access time exactly if its start mark landed; and
 -- however many of them, whole or cut, change nothing of a file or of the root but access times. Assumes nothing.
-use Prim.Native.Nat.{ℕ, _-_, min}
-use mathlib.Core.Path.{_≡_, refl, sym, ap, _∙_, subst}
+use Prim.Native.Nat.{ℕ, _*_, _-_, min}
+use mathlib.Core.Path.{_≡_, refl, sym, ap, ap₂, _∙_, subst}
 use mathlib.Core.Logic.{_≢_, _⊎_, inl, inr}
 use mathlib.Core.Bool.{Bool, true, false, cond, false≢true}
 use mathlib.Core.List.{List, [], _∷_, _++_}
 use mathlib.Core.Option.{Option, none, some, Option·some-injective, Option·none-ne-some}
 use lib.Dec.{eqb}
+use lib.ListN.{length}
 use borrow.Author.Tests.{eqb-true}
 use Rattle.model.specs.Bytes.{bytesFrom}
 use Rattle.model.specs.Search.{equalBytes}
 use Rattle.model.specs.Disk.{view}
 use Rattle.model.specs.Entry.{Entry, fieldsOf}
-use Rattle.model.specs.Catalogue.{Catalogue, catalogueOf}
+use Rattle.model.specs.Catalogue.{Catalogue, catalogueOf, lacksReserve}
 use Rattle.model.specs.Refusals.{done}
-use Rattle.model.specs.WriteList.{Plan, stored, groupsFor, closed}
+use Rattle.model.specs.WriteList.{Plan, stored, groupsFor, closed, recordSize, recordCount}
 use Rattle.model.specs.Cut.{Cut, landed, startMark}
 use Rattle.model.specs.Ledger.{Ledger, File, fileOr, entryOfFile, catalogue, fileOf, Call, summary, check, find, list, read, create, delete, resize, write, rename, Answer, listed, gave}
-use Rattle.model.specs.Ledger.{numberOf, entryFields, accessedEntry, accessedRoot, accessedFile, withFile, step, answer, Feed, whole, cutMarked, cutUnmarked, callOf, fed, ledgerFrom}
+use Rattle.model.specs.Ledger.{numberOf, entryFields, accessedEntry, accessedRoot, accessedFile, withFile, isFrozen, accessRecords, step, answer}
+use Rattle.model.specs.Ledger.{Feed, whole, cutMarked, cutUnmarked, callOf, fed, ledgerFrom}
 use Rattle.model.specs.Run.{volumeAnswer, volumePlan, Fits, steady, calls}
 use Rattle.model.specs.Demand3.{Says}
 use Rattle.safety.specs.Described.{SoundRun}
 use Rattle.safety.specs.Naming.{Contents, fileOn, fileIn}
-use Rattle.safety.specs.Accessing.{rootOn, accessedContents, AfterRead, AfterList, Unset, asks, OnlyAsk, butAccess}
+use Rattle.safety.specs.Accessing.{rootOn, accessedContents, accessLength, AfterRead, AfterList, Unset, asks, OnlyAsk, butAccess}
 use Rattle.safety.specs.Neighbours.{Accepted, AllAccepted}
 use Rattle.safety.proofs.Searches.{same-true, same-differ}
-use Rattle.safety.proofs.OwnWords.{reply-given}
+use Rattle.safety.proofs.OwnWords.{frozen-is, reply-given}
 use Rattle.safety.proofs.Commit.{RecoveredTo}
 use Rattle.safety.proofs.Rep.{catalogue-is}
 use Rattle.safety.proofs.Theorem.{represents, planned-done}
-use Rattle.safety.proofs.Naming.{rooted-other, Found, slotOf, read-found}
+use Rattle.safety.proofs.Naming.{rooted-other, renewed-other, Found, slotOf, read-found}
 use Rattle.safety.proofs.CallFacts.{facts}
 use Rattle.safety.proofs.FileSaid.{renewed-said, found-said, said}
+use Rattle.safety.proofs.NoRoom.{frozen-on, frozen-still}
 use Rattle.safety.proofs.Corollaries.{accepted, says, was, zero-here, done-here}
 use Rattle.safety.proofs.CutWhole.{told-by, kept-file, kept-catalogue}
 
@@ -72,13 +75,33 @@ unset {L₀} {img} {img′} {fs} c h p x r fit planned m e = record {
   root = ap (λ (k : Catalogue). k .root) (kept-catalogue c p x r fit planned m (cut-kept c h (ledgerFrom L₀ fs)) e);
 }
 
+-- ---- the reserve
+
+frozen-said : (L : Ledger) (img : List ℕ) → Says L img → isFrozen L ≡ lacksReserve (catalogueOf (view img))
+frozen-said L img s = frozen-is L ∙ ap lacksReserve (sym (catalogue-is L img s))
+
+length-said : (L : Ledger) (img : List ℕ) → Says L img → accessRecords L * recordSize ≡ accessLength img
+length-said L img s = go (isFrozen L) ∙ ap (λ (b : Bool). cond b 0 4752) (frozen-said L img s)
+  where
+    go : (b : Bool) → cond b 0 (recordCount 0 1) * recordSize ≡ cond b 0 4752
+    go true = refl
+    go false = refl
+
+-- a call that has no plan where the reserve isn't there
+planned-there : (img : List ℕ) (p : Plan) (o : Option Plan) → o ≡ some p → (lacksReserve (catalogueOf (view img)) ≡ true → o ≡ none) → lacksReserve (catalogueOf (view img)) ≡ false
+planned-there img p o e h = go (lacksReserve (catalogueOf (view img))) refl
+  where
+    go : (b : Bool) → lacksReserve (catalogueOf (view img)) ≡ b → lacksReserve (catalogueOf (view img)) ≡ false
+    go true q = absurd (Option·none-ne-some p (sym (h q) ∙ e))
+    go false q = q
+
 -- ---- a read
 
--- what it gives of a file: "min(count, size - offset) bytes", and a list of 9 records
-abbrev readOf : ℕ → ℕ → Contents → Answer
-readOf offset asked x =
+-- what it gives of a file: "min(count, size - offset) bytes", and a list of so many bytes
+abbrev readOf : ℕ → ℕ → ℕ → Contents → Answer
+readOf offset asked len x =
     let n = min asked (x .entry .size - offset) in
-    gave (record { verdict = done; count = n; length = 4752 }) (bytesFrom (x .bytes) offset n)
+    gave (record { verdict = done; count = n; length = len }) (bytesFrom (x .bytes) offset n)
 
 module _ {L₀ : Ledger} {img : List ℕ} {fs : List Feed} {rs : List Answer} (name : List ℕ) (offset asked time room space : ℕ) (file : Contents)
     (r : SoundRun L₀ steady img fs rs) (there : fileOn img name ≡ some file) (fit : Fits (read name offset asked time room space)) where
@@ -88,34 +111,40 @@ module _ {L₀ : Ledger} {img : List ℕ} {fs : List Feed} {rs : List Answer} (n
   abbrev L : Ledger
   L = ledgerFrom L₀ fs
 
-  gives : numberOf (answer c L) ≡ 0 → volumeAnswer c img ≡ readOf offset asked file
+  gives : numberOf (answer c L) ≡ 0 → volumeAnswer c img ≡ readOf offset asked (accessLength img) file
   unfolding step
   gives z =
       facts c .same L img (represents r) fit ∙ reply-given (step c L) refl z
-      ∙ ap (readOf offset asked) (was r name file there (read-found L name offset asked time room space z))
+      ∙ ap₂ (readOf offset asked) (length-said L img (says r)) (was r name file there (read-found L name offset asked time room space z))
 
-  after-read : numberOf (answer c L) ≡ 0 → (img′ : List ℕ) → Says (step c L .done) img′ → AfterRead name time file img img′
+  after-read : lacksReserve (catalogueOf (view img)) ≡ false → numberOf (answer c L) ≡ 0 → (img′ : List ℕ) → Says (step c L .done) img′ → AfterRead name time file img img′
   unfolding step
-  after-read z img′ s =
+  after-read e z img′ s =
       let h = read-found L name offset asked time room space z in
+      let X = withFile L (slotOf L name) (accessedFile time (fileOf L name)) in
+      let t : Says X img′ = subst (λ (b : Bool). Says (cond b L X) img′) (frozen-said L img (says r) ∙ e) s in
       record {
-        file = said (step c L .done) img′ s name ∙ accessed-said L name h time ∙ ap (λ (o : Contents). some (accessedContents time o)) (was r name file there h);
+        file = said X img′ t name ∙ accessed-said L name h time ∙ ap (λ (o : Contents). some (accessedContents time o)) (was r name file there h);
         others = λ n ne. said (step c L .done) img′ s n ∙ facts c .done-other L n (ne, tt) z ∙ sym (said L img (says r) n);
-        root = root-said (step c L .done) img′ s ∙ sym (root-said L img (says r));
+        root = root-said X img′ t ∙ sym (root-said L img (says r));
       }
 
   -- WHAT A READ GIVES that answers 0, also one that is cut then: the file's bytes before the call
   pub read-gives : numberOf (volumeAnswer (read name offset asked time room space) img) ≡ 0
       → volumeAnswer (read name offset asked time room space) img
-      ≡ gave (record { verdict = done; count = min asked (file .entry .size - offset); length = 4752 }) (bytesFrom (file .bytes) offset (min asked (file .entry .size - offset)))
+      ≡ gave (record { verdict = done; count = min asked (file .entry .size - offset); length = accessLength img }) (bytesFrom (file .bytes) offset (min asked (file .entry .size - offset)))
   read-gives z = gives (zero-here r c fit z)
 
-  -- AND LEAVES, carried out whole
-  pub read-done : numberOf (volumeAnswer (read name offset asked time room space) img) ≡ 0
+  -- AND LEAVES, carried out whole where at least K extents are free
+  pub read-done : lacksReserve (catalogueOf (view img)) ≡ false → numberOf (volumeAnswer (read name offset asked time room space) img) ≡ 0
       → AfterRead name time file img (stored (closed (groupsFor (view img) (volumePlan (read name offset asked time room space) img))) img)
-  read-done z =
+  read-done e z =
       let out = stored (closed (groupsFor (view img) (volumePlan c img))) img in
-      after-read (zero-here r c fit z) out (subst (λ (X : Ledger). Says X out) (done-here r c fit z) (says (calls r c fit)))
+      after-read e (zero-here r c fit z) out (subst (λ (X : Ledger). Says X out) (done-here r c fit z) (says (calls r c fit)))
+
+  -- AND WHERE FEWER ARE: "an empty write list and the access time stays"
+  pub read-frozen : lacksReserve (catalogueOf (view img)) ≡ true → volumePlan (read name offset asked time room space) img ≡ none
+  read-frozen e = frozen-still img (frozen-on img .0 e) (read name offset asked time room space)
 
   -- A READ THAT WAS CUT anywhere, after the recovery that was completed: its bytes were given, and its time is set exactly if its start mark landed
   pub read-cut : {img′ : List ℕ} (p : Plan) (x : Cut) → volumePlan (read name offset asked time room space) img ≡ some p
@@ -123,16 +152,22 @@ module _ {L₀ : Ledger} {img : List ℕ} {fs : List Feed} {rs : List Answer} (n
       → (volumeAnswer (read name offset asked time room space) img
       ≡ gave (record { verdict = done; count = min asked (file .entry .size - offset); length = 4752 }) (bytesFrom (file .bytes) offset (min asked (file .entry .size - offset))))
       × (((startMark x ≡ true) × AfterRead name time file img img′) ⊎ ((startMark x ≡ false) × Unset img img′))
-  read-cut {img′} p x planned m = (gives z, go (startMark x) refl)
+  read-cut {img′} p x planned m = (gives z ∙ ap (λ (b : Bool). readOf offset asked (cond b 0 4752) file) there-here, go (startMark x) refl)
     where
+      there-here : lacksReserve (catalogueOf (view img)) ≡ false
+      there-here = planned-there img p _ planned read-frozen
+
       z : numberOf (answer c L) ≡ 0
       z = planned-done r c fit p planned
 
       go : (b : Bool) → startMark x ≡ b → ((startMark x ≡ true) × AfterRead name time file img img′) ⊎ ((startMark x ≡ false) × Unset img img′)
-      go true e = inl (e, after-read z img′ (told-by c p x r fit planned m true e))
+      go true e = inl (e, after-read there-here z img′ (told-by c p x r fit planned m true e))
       go false e = inr (e, unset c refl p x r fit planned m e)
 
 -- ---- a list
+
+abbrev listOf : ℕ → Entry → Answer
+listOf len e = listed (record { verdict = done; fields = fieldsOf e; length = len }) (e .name)
 
 module _ {L₀ : Ledger} {img : List ℕ} {fs : List Feed} {rs : List Answer} (i time room space : ℕ) (entry : Entry)
     (r : SoundRun L₀ steady img fs rs) (there : catalogueOf (view img) .entries i ≡ some entry) (fit : Fits (list i time room space)) where
@@ -142,43 +177,53 @@ module _ {L₀ : Ledger} {img : List ℕ} {fs : List Feed} {rs : List Answer} (i
   abbrev M : Ledger
   M = ledgerFrom L₀ fs
 
-  names : numberOf (answer q M) ≡ 0 → volumeAnswer q img ≡ listed (record { verdict = done; fields = fieldsOf entry; length = 4752 }) (entry .name)
+  names : numberOf (answer q M) ≡ 0 → volumeAnswer q img ≡ listOf (accessLength img) entry
   unfolding step entryFields fieldsOf catalogue
   names z =
       facts q .same M img (represents r) fit ∙ reply-given (step q M) refl z
-      ∙ ap (λ (e : Entry). listed (record { verdict = done; fields = fieldsOf e; length = 4752 }) (e .name)) (entry-said (M .slots i) entry (sym (says r .directory i) ∙ there))
+      ∙ ap₂ listOf (length-said M img (says r)) (entry-said (M .slots i) entry (sym (says r .directory i) ∙ there))
 
-  after-list : numberOf (answer q M) ≡ 0 → (img′ : List ℕ) → Says (step q M .done) img′ → AfterList time img img′
+  after-list : lacksReserve (catalogueOf (view img)) ≡ false → numberOf (answer q M) ≡ 0 → (img′ : List ℕ) → Says (step q M .done) img′ → AfterList time img img′
   unfolding step
-  after-list z img′ s = record {
-    files = λ n. said (step q M .done) img′ s n ∙ facts q .done-other M n tt z ∙ sym (said M img (says r) n);
-    root = root-said (step q M .done) img′ s ∙ ap (accessedRoot time) (sym (root-said M img (says r)));
-  }
+  after-list e z img′ s =
+      let X : Ledger = record { geometry = M .geometry; root = accessedRoot time (M .root); slots = M .slots } in
+      let t : Says X img′ = subst (λ (b : Bool). Says (cond b M X) img′) (frozen-said M img (says r) ∙ e) s in
+      record {
+        files = λ n. said (step q M .done) img′ s n ∙ facts q .done-other M n tt z ∙ sym (said M img (says r) n);
+        root = root-said X img′ t ∙ ap (accessedRoot time) (sym (root-said M img (says r)));
+      }
 
   -- WHAT A LIST GIVES that answers 0, also one that is cut then: the entry before the call
   pub list-gives : numberOf (volumeAnswer (list i time room space) img) ≡ 0
-      → volumeAnswer (list i time room space) img ≡ listed (record { verdict = done; fields = fieldsOf entry; length = 4752 }) (entry .name)
+      → volumeAnswer (list i time room space) img ≡ listed (record { verdict = done; fields = fieldsOf entry; length = accessLength img }) (entry .name)
   list-gives z = names (zero-here r q fit z)
 
-  -- AND LEAVES, carried out whole
-  pub list-done : numberOf (volumeAnswer (list i time room space) img) ≡ 0
+  -- AND LEAVES, carried out whole where at least K extents are free
+  pub list-done : lacksReserve (catalogueOf (view img)) ≡ false → numberOf (volumeAnswer (list i time room space) img) ≡ 0
       → AfterList time img (stored (closed (groupsFor (view img) (volumePlan (list i time room space) img))) img)
-  list-done z =
+  list-done e z =
       let out = stored (closed (groupsFor (view img) (volumePlan q img))) img in
-      after-list (zero-here r q fit z) out (subst (λ (X : Ledger). Says X out) (done-here r q fit z) (says (calls r q fit)))
+      after-list e (zero-here r q fit z) out (subst (λ (X : Ledger). Says X out) (done-here r q fit z) (says (calls r q fit)))
+
+  -- AND WHERE FEWER ARE: no list
+  pub list-frozen : lacksReserve (catalogueOf (view img)) ≡ true → volumePlan (list i time room space) img ≡ none
+  list-frozen e = frozen-still img (frozen-on img .0 e) (list i time room space)
 
   -- A LIST THAT WAS CUT anywhere, after the recovery that was completed: the name was copied, and the root's time is set exactly if its start mark landed
   pub list-cut : {img′ : List ℕ} (p : Plan) (x : Cut) → volumePlan (list i time room space) img ≡ some p
       → RecoveredTo (stored (landed x (groupsFor (view img) (some p))) img) img′
       → (volumeAnswer (list i time room space) img ≡ listed (record { verdict = done; fields = fieldsOf entry; length = 4752 }) (entry .name))
       × (((startMark x ≡ true) × AfterList time img img′) ⊎ ((startMark x ≡ false) × Unset img img′))
-  list-cut {img′} p x planned m = (names z, go (startMark x) refl)
+  list-cut {img′} p x planned m = (names z ∙ ap (λ (b : Bool). listOf (cond b 0 4752) entry) there-here, go (startMark x) refl)
     where
+      there-here : lacksReserve (catalogueOf (view img)) ≡ false
+      there-here = planned-there img p _ planned list-frozen
+
       z : numberOf (answer q M) ≡ 0
       z = planned-done r q fit p planned
 
       go : (b : Bool) → startMark x ≡ b → ((startMark x ≡ true) × AfterList time img img′) ⊎ ((startMark x ≡ false) × Unset img img′)
-      go true e = inl (e, after-list z img′ (told-by q p x r fit planned m true e))
+      go true e = inl (e, after-list there-here z img′ (told-by q p x r fit planned m true e))
       go false e = inr (e, unset q refl p x r fit planned m e)
 
 -- ---- however many of them
@@ -189,6 +234,10 @@ Alike X Y = ((n : List ℕ) → butAccess (fileIn X n) ≡ butAccess (fileIn Y n
 
 alike-is : (X Y : Ledger) → X ≡ Y → Alike X Y
 alike-is X Y e = ((λ n. ap (λ (Z : Ledger). butAccess (fileIn Z n)) e), ap (λ (Z : Ledger). accessedRoot 0 (Z .root)) e)
+
+alike-either : (b : Bool) (L X : Ledger) → Alike X L → Alike (cond b L X) L
+alike-either true L X h = alike-is L L refl
+alike-either false L X h = h
 
 read-file : (L : Ledger) (m : List ℕ) → Found L m → (time : ℕ) (n : List ℕ)
     → ((m ≢ n) → fileIn (withFile L (slotOf L m) (accessedFile time (fileOf L m))) n ≡ fileIn L n)
@@ -207,13 +256,14 @@ read-file L m h time n other = go (equalBytes m n) refl
     go false e = ap butAccess (other (same-differ m n e))
 
 done-alike : (c : Call) → asks c ≡ true → (L : Ledger) → numberOf (answer c L) ≡ 0 → Alike (step c L .done) L
-unfolding step accessedRoot
+unfolding step accessedRoot accessedEntry
 done-alike summary h L z = alike-is L L refl
 done-alike check h L z = alike-is L L refl
 done-alike (find name) h L z = alike-is L L refl
-done-alike (list i time room space) h L z = ((λ n. ap butAccess (rooted-other L (accessedRoot time (L .root)) n)), refl)
+done-alike (list i time room space) h L z = alike-either (isFrozen L) L _ ((λ n. ap butAccess (rooted-other L (accessedRoot time (L .root)) n)), refl)
 done-alike (read name offset count time room space) h L z =
-    ((λ n. read-file L name (read-found L name offset count time room space z) time n (λ ne. facts (read name offset count time room space) .done-other L n (ne, tt) z)), refl)
+    let f = read-found L name offset count time room space z in
+    alike-either (isFrozen L) L _ ((λ n. read-file L name f time n (λ ne. renewed-other L name n ne f (accessedFile time (fileOf L name)) refl)), refl)
 done-alike (create name id mode time room) h L z = absurd (false≢true h)
 done-alike (delete name time room) h L z = absurd (false≢true h)
 done-alike (resize name size time room) h L z = absurd (false≢true h)

@@ -3,7 +3,7 @@
 use Prim.Native.Nat.{ℕ, _+_, _*_, _≤_, _<_}
 use mathlib.Core.Path.{_≡_, refl, sym, ap, _∙_, subst}
 use mathlib.Core.Logic.{_≢_, _⊎_, inl, inr, ⊎-elim, _↔_}
-use mathlib.Core.Bool.{Bool, true, false, cond, not, _&&_, _||_, true≢false, false≢true}
+use mathlib.Core.Bool.{Bool, true, false, cond, not, _&&_, true≢false, false≢true}
 use mathlib.Core.List.{List, [], _∷_, _++_}
 use native.Mathlib.Omega.{arith}
 use native.Mathlib.Decide.{decLt}
@@ -28,7 +28,7 @@ use Rattle.laws.proofs.Search.{allBelow-at, anyBelow-no, none-at}
 use Rattle.laws.proofs.Refusals.{image-passed}
 use Rattle.safety.specs.Room.{geometryOn}
 use Rattle.safety.specs.AnyJournal.{InMetadata, GoodEntries, recoveryNumber, recoveredBy, Replayed, StillWaits, CutRecoveries, none, oneMore, AnyJournal}
-use Rattle.safety.proofs.Searches.{not-no}
+use Rattle.safety.proofs.Searches.{or-cases, not-no}
 use Rattle.safety.proofs.Apply.{over, apply, over-here, over-miss, over-skip, over-none, apply-append, All, all-append, all-map, InImage, stored-view, stored-closed, length-stored}
 use Rattle.safety.proofs.Superblock.{length-withJournalLength, journalLength-with, state-clean, Volume, volume-with, volume-long, volume-bounds, volume-accepted, Recovers, recovers-clean}
 use Rattle.safety.proofs.Superblock.{when-done, when-none, byRoom, answers}
@@ -258,10 +258,6 @@ module _ (img : List ℕ) (n room : ℕ) (st : stateOn (view img) ≡ Waiting n)
       })
 
 -- ---- when it answers 0
-
-or-cases : (a b : Bool) → (a || b) ≡ true → (a ≡ true) ⊎ (b ≡ true)
-or-cases true b e = inl refl
-or-cases false b e = inr e
 
 in-range : (a b t : ℕ) → (leb a t && ltb t b) ≡ true → (a ≤ t) × (t < b)
 in-range a b t e = (leb-true a t (and-left _ (ltb t b) e), ltb-true t b (and-right (leb a t) _ e))

@@ -211,30 +211,35 @@ kept-miss [] ws j h = refl
 kept-miss (b ∷ m) [] j h = refl
 kept-miss (b ∷ m) (w ∷ ws) j h = keep-head (eqb j (w .sector)) b w ws (kept m ws) j h refl (kept-miss m ws j)
 
--- ---- consecutive sectors, written in order
+-- ---- sectors of their own, written in order
 
 pub tabulate-next {ℓ} : {A : Type ℓ} (f : ℕ → A) (n : ℕ) → tabulate f 0 (suc n) ≡ tabulate f 0 n ++ (f n ∷ [])
 unfolding tabulate
 tabulate-next f n = rw zero-add
 
-module _ (a : ℕ) (f : ℕ → List ℕ) where
-  abbrev writes : ℕ → Group
-  writes n = tabulate (λ k. sectorWrite (a + k) (f k)) 0 n
+-- what stands at the k-th of them
+pub placed-at : (at : ℕ → ℕ) (f : ℕ → List ℕ) (n k : ℕ) (x : List ℕ) → ((j : ℕ) → j < n → at j ≡ at k → j ≡ k) → k < n
+    → over (tabulate (λ i. sectorWrite (at i) (f i)) 0 n) (at k) x ≡ f k
+placed-at at f zero k x own h = absurd (not-suc-le-zero h)
+placed-at at f (suc n) k x own h =
+    ap (λ (ws : Group). over ws (at k) x) (tabulate-next (λ i. sectorWrite (at i) (f i)) n)
+    ∙ over-append (tabulate (λ i. sectorWrite (at i) (f i)) 0 n) (sectorWrite (at n) (f n) ∷ []) (at k) x
+    ∙ go (decLt k n) (placed-at at f n k x (λ j l e. own j (omega arith) e))
+  where
+    go : Dec (k < n) → (k < n → over (tabulate (λ i. sectorWrite (at i) (f i)) 0 n) (at k) x ≡ f k)
+        → over (sectorWrite (at n) (f n) ∷ []) (at k) (over (tabulate (λ i. sectorWrite (at i) (f i)) 0 n) (at k) x) ≡ f k
+    go (yes l) t = over-skip (sectorWrite (at n) (f n)) [] (at k) _ (λ e. let q = own n (omega arith) (sym e) in omega arith) ∙ over-none (at k) _ ∙ t l
+    go (no l) t =
+        let e : k ≡ n = omega arith in
+        rw e (over-here (sectorWrite (at n) (f n)) [] _ ∙ over-none (at n) (f n))
 
+-- consecutive sectors
+module _ (a : ℕ) (f : ℕ → List ℕ) where
   pub tabulate-miss : (n j : ℕ) → (a ≤ j → j < a + n → ⊥) → hits (tabulate (λ k. sectorWrite (a + k) (f k)) 0 n) j ≡ false
   tabulate-miss n j h = all-miss j _ (all-tab0 (λ w. j ≢ w .sector) (λ k. sectorWrite (a + k) (f k)) n (λ k l e. h (omega arith) (omega arith)))
 
   pub tabulate-at : (n k : ℕ) (x : List ℕ) → k < n → over (tabulate (λ i. sectorWrite (a + i) (f i)) 0 n) (a + k) x ≡ f k
-  tabulate-at zero k x h = absurd (not-suc-le-zero h)
-  tabulate-at (suc n) k x h =
-      ap (λ (ws : Group). over ws (a + k) x) (tabulate-next (λ i. sectorWrite (a + i) (f i)) n)
-      ∙ over-append (writes n) (sectorWrite (a + n) (f n) ∷ []) (a + k) x ∙ go (decLt k n) (tabulate-at n k x)
-    where
-      go : Dec (k < n) → (k < n → over (writes n) (a + k) x ≡ f k) → over (sectorWrite (a + n) (f n) ∷ []) (a + k) (over (writes n) (a + k) x) ≡ f k
-      go (yes l) t = over-skip (sectorWrite (a + n) (f n)) [] (a + k) _ (λ e. omega arith) ∙ over-none (a + k) _ ∙ t l
-      go (no l) t =
-          let e : k ≡ n = omega arith in
-          rw e (over-here (sectorWrite (a + n) (f n)) [] _ ∙ over-none (a + n) (f n))
+  tabulate-at n k x h = placed-at (λ i. a + i) f n k x (λ j l e. omega arith) h
 
 -- ---- carrying out
 

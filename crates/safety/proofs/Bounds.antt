@@ -1,13 +1,12 @@
--- A geometry within the bounds is one that commits can use, and it has a usable extent; an empty file needs no extent. Assumes nothing.
+-- A geometry within the bounds is one that commits can use; an empty file needs no extent. Assumes nothing.
 use Prim.Native.Nat.{ℕ, _+_, _*_, _-_, _/_, _≤_, _<_}
 use mathlib.Core.Path.{_≡_}
 use native.Mathlib.Omega.{arith}
 use native.Mathlib.Nat.{mul-le-mul, div-eq-of-lt, suc-mul, lt-mul-div-succ, mul-comm}
 use native.Mathlib.Numerals.{add-one}
 use Rattle.model.specs.declared.Geometry.{Geometry}
-use Rattle.model.specs.Geometry.{extentSectors, mostTargets, reserveExtents, usable, extentsFor}
+use Rattle.model.specs.Geometry.{extentSectors, mostTargets, reserveExtents, extentsFor}
 use Rattle.model.specs.Opened.{Bounded}
-use Rattle.model.proofs.Areas.{reserve-small}
 use Rattle.safety.proofs.Plan.{UsableGeometry}
 
 -- t / s, rounded up, times s
@@ -19,9 +18,6 @@ rounded-up t s h =
     omega arith
 
 module _ (g : Geometry) (b : Bounded g) where
-  pub usable-some : 0 < usable g
-  usable-some = let r : reserveExtents g < g .extents = reserve-small g b in omega arith
-
   -- the reserve has room for a copy of each of the most targets, and their count is a waiting one's
   pub copies-fit : (n : ℕ) → n ≤ mostTargets g → n ≤ reserveExtents g * extentSectors g
   copies-fit n h = let r = rounded-up (mostTargets g) (extentSectors g) (omega (arith, b .extent-low)) in omega arith
@@ -34,9 +30,5 @@ module _ (g : Geometry) (b : Bounded g) where
 
   pub usable-geometry : UsableGeometry g
   usable-geometry =
-      let r : reserveExtents g < g .extents = reserve-small g b in
       let s : g .extents * extentSectors g ≤ 65535 * 4294967295 = mul-le-mul (b .extents-high) (b .extent-high) in
-      record {
-        within = omega arith;
-        small = omega (arith, b .files-high, b .extents-high);
-      }
+      record { wide = omega (arith, b .extent-low); small = omega (arith, b .files-high, b .extents-high) }

@@ -7,7 +7,8 @@ use mathlib.Core.List.{List}
 use mathlib.Core.Option.{none}
 use lib.Dec.{eqb, ltb}
 use borrow.Author.Tests.{eqb-true}
-use Rattle.model.specs.Ledger.{Ledger, fileOf, Call, summary, check, find, list, read, create, delete, resize, write, numberOf, partlyWritten, step, answer, Feed, whole, cutMarked, cutUnmarked}
+use Rattle.model.specs.Ledger.{Ledger, fileOf, Call, summary, check, find, list, read, create, delete, resize, write}
+use Rattle.model.specs.Ledger.{numberOf, partlyWritten, step, answer, Feed, whole, cutMarked, cutUnmarked, isFrozen}
 use Rattle.model.specs.Ledger.{rename, accessedEntry, accessedFile, callOf, fed}
 use Rattle.model.specs.Run.{onVolume, volumeAnswer, volumePlan, Fits}
 use Rattle.safety.specs.Naming.{Spares, fileIn}
@@ -46,6 +47,11 @@ reads c same none-planned done cut = record {
     either L img true h = subst (λ (X : Ledger). Rep X img) (sym (done L)) h
     either L img false h = h
 
+-- a call that changes nothing where the volume is frozen
+either-other : (b : Bool) (L X : Ledger) (n : List ℕ) → fileIn X n ≡ fileIn L n → fileIn (cond b L X) n ≡ fileIn L n
+either-other true L X n e = refl
+either-other false L X n e = e
+
 pub facts : (c : Call) → CallFacts c
 unfolding onVolume step accessedEntry
 facts summary = reads summary summary-same (λ img. refl) (λ L. refl) (λ L mask. refl)
@@ -54,13 +60,14 @@ facts (find name) = reads (find name) (λ L img h. find-same L img h name) (λ i
 facts (list i time room space) = record {
   same = λ L img h f. list-same L img h i time room space;
   effect = λ L img h f. list-effect L img h i time room space (f .2);
-  done-other = λ L n ne e. rooted-other L _ n;
+  done-other = λ L n ne e. either-other (isFrozen L) L _ n (rooted-other L _ n);
   cut-other = λ L n ne e mask. refl;
 }
 facts (read name offset count time room space) = record {
   same = λ L img h f. read-same L img h name offset count time room space;
   effect = λ L img h f. read-effect L img h name offset count time room space (f .2);
-  done-other = λ L n ne e. renewed-other L name n (ne .0) (read-found L name offset count time room space e) (accessedFile time (fileOf L name)) refl;
+  done-other = λ L n ne e. either-other (isFrozen L) L _ n
+      (renewed-other L name n (ne .0) (read-found L name offset count time room space e) (accessedFile time (fileOf L name)) refl);
   cut-other = λ L n ne e mask. refl;
 }
 facts (create name id mode time room) = record {

@@ -10,7 +10,7 @@ use lib.ListN.{length, getD}
 use borrow.Author.Tests.{not-true, not-false}
 use Rattle.model.specs.declared.Geometry.{Geometry}
 use Rattle.model.specs.declared.State.the-variants.{Clean}
-use Rattle.model.specs.Geometry.{superblockAt, extentSectors, reserveExtents, journalAt, dataAt, reserveAt, volumeSectors}
+use Rattle.model.specs.Geometry.{superblockAt, journalAt, dataAt, volumeSectors}
 use Rattle.model.specs.Disk.{Disk, view}
 use Rattle.model.specs.Search.{anyBelow}
 use Rattle.model.specs.WriteList.{Record, sectorWrite, barrier, barrierNumber, stored, Plan, Group, groupsOf, closed}
@@ -30,8 +30,8 @@ use Rattle.safety.proofs.Journal.{length-entriesIn, rising-lt}
 use Rattle.safety.proofs.Superblock.{length-withJournalLength, journalLength-with, state-clean, Volume, volume-with, volume-long, Recovers, when-done, when-some, when-none, recovers-clean}
 use Rattle.safety.proofs.Superblock.{Slices, slices-clean, slice-done, slice-some, slice-none}
 use Rattle.laws.proofs.Areas.{metadata-below}
-use Rattle.safety.proofs.Plan.{UsableGeometry, WellFormed, Metadata, UsableSector, Whole, volume-is, A, A-is, copyWrites, journalWrites, copyContents, journalContents}
-use Rattle.safety.proofs.Plan.{journal-few, A-zero, mark, clear, committed, final, Pending, recovers-pending, entry-writes, pending-volume, pending-waits, slices-pending}
+use Rattle.safety.proofs.Plan.{UsableGeometry, WellFormed, Metadata, DataSector, Whole, stageOn, A, A-is, copyWrites, journalWrites, copyContents, journalContents}
+use Rattle.safety.proofs.Plan.{stagesOn, staged, journal-few, A-zero, mark, clear, committed, final, Pending, recovers-pending, entry-writes, pending-volume, pending-waits, slices-pending}
 
 -- an image on which a plan is carried out: its superblock says clean
 pub record Ready (g : Geometry) (img : List ℕ) : Type 0 where
@@ -43,17 +43,17 @@ abbrev pub partOf : ℕ → List Bool → Group → Group
 partOf zero m a = kept m a
 partOf (suc k) m a = a
 
-length-journalContents : (g : Geometry) (p : Plan) (j : ℕ) → length (journalContents g p j) ≡ 512
+length-journalContents : (g : Geometry) (d : Disk) (p : Plan) (j : ℕ) → length (journalContents g d p j) ≡ 512
 unfolding journalContents journalSector
-length-journalContents g p j = length-entriesIn _ _ (32 * j) _
+length-journalContents g d p j = length-entriesIn _ _ (32 * j) _
 
 module _ (g : Geometry) (img0 : List ℕ) (p : Plan) where
   abbrev pub groups : List Group
-  groups = groupsOf g (view img0) p
+  groups = groupsOf g (stagesOn (view img0) p) (view img0) p
 
   -- the uncut image
   abbrev pub uncut : List ℕ
-  uncut = stored (closed (groupsOf g (view img0) p)) img0
+  uncut = stored (closed (groupsOf g (stagesOn (view img0) p) (view img0) p)) img0
 
   -- an image that is the committed one but for the targets
   abbrev pub Waits : List ℕ → Type 0
@@ -63,7 +63,7 @@ module _ (g : Geometry) (img0 : List ℕ) (p : Plan) where
     waits : Waits img → Interrupted img
     finished : img ≡ uncut → Interrupted img
 
-module _ (g : Geometry) (img0 : List ℕ) (p : Plan) (geo : UsableGeometry g) (ok : WellFormed g p) (ready : Ready g img0) where
+module _ (g : Geometry) (img0 : List ℕ) (p : Plan) (geo : UsableGeometry g) (ok : WellFormed g (view img0) p) (ready : Ready g img0) where
   abbrev n : ℕ
   n = length img0
 
@@ -94,37 +94,35 @@ module _ (g : Geometry) (img0 : List ℕ) (p : Plan) (geo : UsableGeometry g) (o
   all-in-image P f [] h q = tt
   all-in-image P f (w ∷ ws) h q = (in-image w (f w (h .0)) (q .0), all-in-image P f ws (h .1) (q .1))
 
-  A-in-image : All (InImage n) (A g p)
+  A-in-image : All (InImage n) (A g (view img0) p)
   unfolding copyContents
   A-in-image =
-      let e : volumeSectors g ≡ reserveAt g + reserveExtents g * extentSectors g = volume-is g geo in
-      let few : length (p .targets) ≤ reserveExtents g * extentSectors g = ok .few in
-      let sectors : journalSectors (length (p .targets)) ≤ 32 = journal-few g p geo ok in
-      subst (All (InImage n)) (sym (A-is g p))
-      (all-append (InImage n) (p .dataSectors ++ copyWrites g p) (journalWrites g p)
-      (all-append (InImage n) (p .dataSectors) (copyWrites g p)
-      (all-in-image (UsableSector g) (λ w u. omega (arith, u .1)) (p .dataSectors) (ok .usable) (ok .wholeData))
-      (all-tab0 (InImage n) (λ k. sectorWrite (reserveAt g + k) (copyContents g p k)) (length (p .targets))
-      (λ k h. in-image _ (omega arith) (all-at Whole (p .targets) k _ (ok .wholeTargets) h))))
-      (all-tab0 (InImage n) (λ j. sectorWrite (journalAt g + j) (journalContents g p j)) (journalSectors (length (p .targets)))
-      (λ j h. in-image _ (omega arith) (length-journalContents g p j))))
+      let sectors : journalSectors (length (p .targets)) ≤ 32 = journal-few g d0 p geo ok in
+      subst (All (InImage n)) (sym (A-is g d0 p))
+      (all-append (InImage n) (p .dataSectors ++ copyWrites g d0 p) (journalWrites g d0 p)
+      (all-append (InImage n) (p .dataSectors) (copyWrites g d0 p)
+      (all-in-image (λ w. DataSector g (w .sector)) (λ w u. u .1) (p .dataSectors) (ok .inData) (ok .wholeData))
+      (all-tab0 (InImage n) (λ k. sectorWrite (stageOn d0 p k) (copyContents g d0 p k)) (length (p .targets))
+      (λ k h. in-image _ (staged g d0 p geo ok k h .1) (all-at Whole (p .targets) k _ (ok .wholeTargets) h))))
+      (all-tab0 (InImage n) (λ j. sectorWrite (journalAt g + j) (journalContents g d0 p j)) (journalSectors (length (p .targets)))
+      (λ j h. in-image _ (omega arith) (length-journalContents g d0 p j))))
 
   C-in-image : All (InImage n) C
   C-in-image = all-in-image (Metadata g) (λ w h. let l : w .sector < dataAt g = metadata-below g (w .sector) h in omega arith) C (ok .metadata) (ok .wholeTargets)
 
   pub groups-in-image : All (InImage n) (joined (groups g img0 p))
   unfolding groupsOf
-  groups-in-image = all-append (InImage n) (A g p) _ A-in-image (super-in-image (length C), all-append (InImage n) C _ C-in-image (super-in-image 0, tt))
+  groups-in-image = all-append (InImage n) (A g (view img0) p) _ A-in-image (super-in-image (length C), all-append (InImage n) C _ C-in-image (super-in-image 0, tt))
 
-  pub part-in-image : (k : ℕ) (m : List Bool) → All (InImage n) (partOf k m (A g p))
-  part-in-image zero m = all-kept (InImage n) m (A g p) A-in-image
+  pub part-in-image : (k : ℕ) (m : List Bool) → All (InImage n) (partOf k m (A g (view img0) p))
+  part-in-image zero m = all-kept (InImage n) m (A g (view img0) p) A-in-image
   part-in-image (suc k) m = A-in-image
 
   -- ---- disks
 
-  behind : (x : Group) → apply (A g p ++ ((mk ∷ []) ++ x)) d0 ≡ apply x (committed g d0 p)
+  behind : (x : Group) → apply (A g (view img0) p ++ ((mk ∷ []) ++ x)) d0 ≡ apply x (committed g d0 p)
   unfolding committed
-  behind x = apply-append (A g p) ((mk ∷ []) ++ x) d0 ∙ apply-append (mk ∷ []) x (apply (A g p) d0)
+  behind x = apply-append (A g (view img0) p) ((mk ∷ []) ++ x) d0 ∙ apply-append (mk ∷ []) x (apply (A g (view img0) p) d0)
 
   final-is : apply (joined (groups g img0 p)) d0 ≡ final g d0 p
   unfolding groupsOf final
@@ -141,12 +139,12 @@ module _ (g : Geometry) (img0 : List ℕ) (p : Plan) (geo : UsableGeometry g) (o
   ended = record { long = length-uncut; shows = uncut-shows }
 
   -- group A and the start mark landed
-  marked : Waits g img0 p (stored (A g p ++ (mk ∷ [])) img0)
+  marked : Waits g img0 p (stored (A g (view img0) p ++ (mk ∷ [])) img0)
   marked =
-      let in-all = all-append (InImage n) (A g p) (mk ∷ []) A-in-image (super-in-image (length C), tt) in
+      let in-all = all-append (InImage n) (A g (view img0) p) (mk ∷ []) A-in-image (super-in-image (length C), tt) in
       record {
-        long = length-stored (A g p ++ (mk ∷ [])) img0;
-        shows = λ j e. ap (λ (d : Disk). d j) (stored-view (A g p ++ (mk ∷ [])) img0 n refl in-all ∙ behind [] ∙ apply-nil (committed g d0 p));
+        long = length-stored (A g (view img0) p ++ (mk ∷ [])) img0;
+        shows = λ j e. ap (λ (d : Disk). d j) (stored-view (A g (view img0) p ++ (mk ∷ [])) img0 n refl in-all ∙ behind [] ∙ apply-nil (committed g d0 p));
       }
 
   -- a completed recovery of an image that waits
@@ -167,26 +165,26 @@ module _ (g : Geometry) (img0 : List ℕ) (p : Plan) (geo : UsableGeometry g) (o
   cut-marked (suc (suc k)) m e =
       let rest = landedOf k m (C ∷ (cl ∷ []) ∷ []) in
       subst (Interrupted g img0 p)
-      (sym (stored-append (A g p) ((mk ∷ []) ++ rest) img0 ∙ stored-append (mk ∷ []) rest (stored (A g p) img0)
-      ∙ ap (stored rest) (sym (stored-append (A g p) (mk ∷ []) img0)))) (recovery-cuts k m (stored (A g p ++ (mk ∷ [])) img0) marked)
+      (sym (stored-append (A g (view img0) p) ((mk ∷ []) ++ rest) img0 ∙ stored-append (mk ∷ []) rest (stored (A g (view img0) p) img0)
+      ∙ ap (stored rest) (sym (stored-append (A g (view img0) p) (mk ∷ []) img0)))) (recovery-cuts k m (stored (A g (view img0) p ++ (mk ∷ [])) img0) marked)
 
   -- and not landed: nothing but a part of group A
-  pub cut-unmarked : (k : ℕ) (m : List Bool) → markedBy k m ≡ false → landedOf k m (groups g img0 p) ≡ partOf k m (A g p)
+  pub cut-unmarked : (k : ℕ) (m : List Bool) → markedBy k m ≡ false → landedOf k m (groups g img0 p) ≡ partOf k m (A g (view img0) p)
   unfolding landedOf groupsOf
   cut-unmarked zero m e = refl
   cut-unmarked (suc zero) m e =
       let f : kept m (mk ∷ []) ≡ [] = kept-one m mk ∙ ap (λ (b : Bool). cond b (mk ∷ []) []) e in
-      rw f (append-nil (A g p))
+      rw f (append-nil (A g (view img0) p))
   cut-unmarked (suc (suc k)) m e = absurd (true≢false e)
 
-  part-zero : (k : ℕ) (m : List Bool) → hits (partOf k m (A g p)) 0 ≡ false
-  part-zero zero m = kept-miss m (A g p) 0 (A-zero g p geo ok)
-  part-zero (suc k) m = A-zero g p geo ok
+  part-zero : (k : ℕ) (m : List Bool) → hits (partOf k m (A g (view img0) p)) 0 ≡ false
+  part-zero zero m = kept-miss m (A g (view img0) p) 0 (A-zero g d0 p geo ok)
+  part-zero (suc k) m = A-zero g d0 p geo ok
 
   -- the image with that part, and the uncut one, are ready again
-  pub ready-part : (k : ℕ) (m : List Bool) → Ready g (stored (partOf k m (A g p)) img0)
+  pub ready-part : (k : ℕ) (m : List Bool) → Ready g (stored (partOf k m (A g (view img0) p)) img0)
   ready-part k m =
-      let ws = partOf k m (A g p) in
+      let ws = partOf k m (A g (view img0) p) in
       let z : view (stored ws img0) superblockAt ≡ view img0 superblockAt =
       ap (λ (d : Disk). d 0) (stored-view ws img0 n refl (part-in-image k m)) ∙ apply-miss ws d0 0 (part-zero k m) in
       record {
@@ -210,7 +208,7 @@ module _ (g : Geometry) (img0 : List ℕ) (p : Plan) (geo : UsableGeometry g) (o
   unfolding Pending
   waits-recovers img w =
       subst (λ (l : ℕ). Recovers l (view img) (C ∷ (cl ∷ []) ∷ [])) (sym (w .long))
-      (recovers-pending g p geo ok d0 (view img) (w .shows) n (ready .volume) (length-view img0 superblockAt))
+      (recovers-pending g d0 p geo ok (view img) (w .shows) n (ready .volume) (length-view img0 superblockAt))
 
   -- ---- slices
 
@@ -225,14 +223,14 @@ module _ (g : Geometry) (img0 : List ℕ) (p : Plan) (geo : UsableGeometry g) (o
     unfolding Pending
     waits-slices budget =
         subst (λ (l : ℕ). Slices l (view img) budget (cond left (copied g (view img) budget (length C)) (cl ∷ []) ∷ [])) (sym (w .long))
-        (slices-pending g p geo ok d0 (view img) (w .shows) n (ready .volume) (length-view img0 superblockAt) budget)
+        (slices-pending g d0 p geo ok (view img) (w .shows) n (ready .volume) (length-view img0 superblockAt) budget)
 
     -- what is left differs
     pub last-differs : (budget room : ℕ) → isLast (slice budget room) (view img) ≡ true → left ≡ false
     unfolding isLast Pending
     last-differs budget room e =
-        let v = pending-volume g p geo ok d0 (view img) (w .shows) n (ready .volume) (length-view img0 superblockAt) in
-        let st = pending-waits g p geo ok d0 (view img) (w .shows) n (ready .volume) (length-view img0 superblockAt) in
+        let v = pending-volume g d0 p geo ok (view img) (w .shows) n (ready .volume) (length-view img0 superblockAt) in
+        let st = pending-waits g d0 p geo ok (view img) (w .shows) n (ready .volume) (length-view img0 superblockAt) in
         not-true left (sym (λ i. not (someDiffer (v .geometry i) (view img) (st i))) ∙ e)
 
     -- a slice copies targets, and no others
@@ -241,7 +239,7 @@ module _ (g : Geometry) (img0 : List ℕ) (p : Plan) (geo : UsableGeometry g) (o
     copied-all P h budget = all-concatenated P (copiedEntry g (view img) budget) (length C) (λ k l. go k l (isCopied g (view img) budget k))
       where
         go : (k : ℕ) → k < length C → (b : Bool) → All P (cond b (entryWrite g (view img) k ∷ []) [])
-        go k l true = (subst P (sym (entry-writes g p geo ok d0 (view img) (w .shows) k l)) (all-at P C k barrier h l), tt)
+        go k l true = (subst P (sym (entry-writes g d0 p geo ok (view img) (w .shows) k l)) (all-at P C k barrier h l), tt)
         go k l false = tt
 
     -- no two of them for one sector
@@ -256,7 +254,7 @@ module _ (g : Geometry) (img0 : List ℕ) (p : Plan) (geo : UsableGeometry g) (o
         one k false = tt
 
         sector-is : (k : ℕ) → k < length C → entryWrite g (view img) k .sector ≡ (getD C k barrier) .sector
-        sector-is k l = ap (λ (v : Record). v .sector) (entry-writes g p geo ok d0 (view img) (w .shows) k l)
+        sector-is k l = ap (λ (v : Record). v .sector) (entry-writes g d0 p geo ok (view img) (w .shows) k l)
 
         two : (j k : ℕ) → j < k → k < length C → (a b : Bool)
             → All (λ v. All (λ w. v .sector ≢ w .sector) (cond b (entryWrite g (view img) k ∷ []) [])) (cond a (entryWrite g (view img) j ∷ []) [])
@@ -275,7 +273,7 @@ module _ (g : Geometry) (img0 : List ℕ) (p : Plan) (geo : UsableGeometry g) (o
     stands : left ≡ false → All (λ v. view img (v .sector) ≡ v .contents) C
     unfolding differs Pending
     stands e = all-by (λ v. view img (v .sector) ≡ v .contents) C barrier (λ k l. subst (λ (v : Record). view img (v .sector) ≡ v .contents)
-        (entry-writes g p geo ok d0 (view img) (w .shows) k l)
+        (entry-writes g d0 p geo ok (view img) (w .shows) k l)
         (same-true _ _ (not-false _ (none-at (differs g (view img)) (length C) e k l))))
 
     targets-stand : left ≡ false → stored C img ≡ img
@@ -327,7 +325,7 @@ pub ready-recovered : (g : Geometry) {img out : List ℕ} → Ready g img → Re
 ready-recovered g {img} h (completed r e l) = ap (λ (gs : List Group). stored (closed gs) img) (ready-none g img h r) ∙ stored-none img
 ready-recovered g {img} h (interrupted r ne x m) = absurd (ne (ready-none g img h r))
 
-module _ (g : Geometry) (img0 : List ℕ) (p : Plan) (geo : UsableGeometry g) (ok : WellFormed g p) (ready : Ready g img0) where
+module _ (g : Geometry) (img0 : List ℕ) (p : Plan) (geo : UsableGeometry g) (ok : WellFormed g (view img0) p) (ready : Ready g img0) where
   pub waits-done : (img : List ℕ) → Waits g img0 p img → (r : Recovery) → isDone (verdictBy r (length img) (view img)) ≡ true → isLast r (view img) ≡ true
       → stored (closed (listedBy r (length img) (view img))) img ≡ uncut g img0 p
   waits-done img w (slice budget room) e l =
@@ -361,10 +359,10 @@ module _ (g : Geometry) (img0 : List ℕ) (p : Plan) (geo : UsableGeometry g) (o
   -- THE COMMIT THEOREM: with the start mark landed the image is in the end the uncut one, else the old one with the landed part
   -- of group A
   pub commit : (x : Cut) {out : List ℕ} → RecoveredTo (stored (landed x (groups g img0 p)) img0) out
-      → out ≡ cond (startMark x) (uncut g img0 p) (stored (partOf (x .before) (x .mask) (A g p)) img0)
+      → out ≡ cond (startMark x) (uncut g img0 p) (stored (partOf (x .before) (x .mask) (A g (view img0) p)) img0)
   commit x {out} m = go (startMark x) refl
     where
-      go : (b : Bool) → startMark x ≡ b → out ≡ cond b (uncut g img0 p) (stored (partOf (x .before) (x .mask) (A g p)) img0)
+      go : (b : Bool) → startMark x ≡ b → out ≡ cond b (uncut g img0 p) (stored (partOf (x .before) (x .mask) (A g (view img0) p)) img0)
       go true e = interrupted-recovered m (cut-marked g img0 p geo ok ready (x .before) (x .mask) e)
       go false e =
           let f = cut-unmarked g img0 p geo ok ready (x .before) (x .mask) e in

@@ -3,7 +3,7 @@ use Prim.Native.Nat.{ℕ, _*_, _^_, _<_}
 use mathlib.Core.Path.{_≡_, refl, sym, ap, _∙_, subst}
 use mathlib.Core.Logic.{_≢_}
 use mathlib.Core.Bool.{true, false, cond, _&&_, _||_, false≢true}
-use mathlib.Core.List.{List, [], _∷_}
+use mathlib.Core.List.{List, [], _∷_, _++_}
 use mathlib.Core.Option.{Option, none, some, Option·some-injective}
 use native.Mathlib.Omega.{arith}
 use lib.Dec.{eqb}
@@ -16,9 +16,9 @@ use Rattle.model.specs.Disk.{view}
 use Rattle.model.specs.Root.{rootIn, updatedRootSector}
 use Rattle.model.specs.Entry.{badName, badNewName, isOccupied, newEntrySector}
 use Rattle.model.specs.Table.{tableSectorOf}
-use Rattle.model.specs.Catalogue.{Catalogue, catalogueOf, fileNamed, freeEntry, isFree, hasName, hasId, fileBytes}
+use Rattle.model.specs.Catalogue.{Catalogue, catalogueOf, fileNamed, freeEntry, lacksReserve, isFree, hasName, hasId, fileBytes}
 use Rattle.model.specs.Faults.{fault21}
-use Rattle.model.specs.Refusals.{Conditions}
+use Rattle.model.specs.Refusals.{Conditions, verdictOf}
 use Rattle.model.specs.WriteList.{Plan, Record, sectorWrite, groupsFor, listLength, recordSize}
 use Rattle.model.specs.Create.{createConditions, createPlan, createCount, createDecision}
 use Rattle.model.specs.Ledger.{Ledger, File, entryOfFile, catalogue, create, newEntry, updatedRoot, step, answer}
@@ -30,14 +30,14 @@ use Rattle.safety.proofs.Searches.{place-found, place-none, or-left-no,
 use Rattle.safety.proofs.Apply.{over-here, over-skip, over-none}
 use Rattle.safety.proofs.Plan.{UsableGeometry, WellFormed, metadata-directory}
 use Rattle.safety.proofs.Commit.{Ready, uncut, ready-uncut}
-use Rattle.laws.proofs.WriteList.{length-groups}
+use Rattle.laws.proofs.WriteList.{plan-needs}
 use Rattle.safety.proofs.Frame.{Outside, Shows, done-shows}
-use Rattle.safety.proofs.Bounds.{copies-fit, count-waits, no-extent}
+use Rattle.safety.proofs.Bounds.{no-extent}
 use Rattle.safety.proofs.Rep.{Rep, Timely, timely, rep-geometry}
-use Rattle.safety.proofs.Changing.{Passed, Carries, effect-changing, Decides, same-changing}
-use Rattle.safety.proofs.Preserved.{out-front, out-table, out-data, slotIn, entry-is, table-keep, part-keeps}
+use Rattle.safety.proofs.Changing.{Passed, last-is, Carries, effect-changing, Decides, same-changing}
+use Rattle.safety.proofs.Preserved.{out-front, out-table, out-data, slotIn, entry-is, table-keep, free-said, bytes-keep, targets-fit, part-keeps}
 use Rattle.safety.proofs.Fields.{length-updatedRootSector, root-updated, length-newEntry, new-occupied, new-entry, occupied-mark}
-use Rattle.safety.proofs.Rewritten.{Rewrites, all-kept, rep-replaced}
+use Rattle.safety.proofs.Rewritten.{Rewrites, rep-replaced}
 use Rattle.safety.proofs.NewFile.{newFile, created, disjoint-created, table-created, admissible-new}
 use Rattle.safety.proofs.Induction.{Effect}
 
@@ -66,17 +66,27 @@ module _ (L : Ledger) (img : List ℕ) (rep : Rep L img) (name : List ℕ) (id m
   p = createPlan (catalogue L) (view img) name id mode time
 
   size : listLength (groupsFor (view img) (some p)) ≡ createCount * recordSize
-  unfolding groupsFor createPlan
-  size = length-groups _ (view img) p
+  unfolding createPlan
+  size = plan-needs (view img) p
 
   decides : Decides L img (create name id mode time room) conditions (λ x. some (plan x)) room createCount
   unfolding onVolume createDecision step createConditions catalogue
-  decides = record { volume = refl; reply = refl; judges = record { conditions = rw (time-is L time, new-name-is L name, named-is L name, ids-is L id, slot-is L); refusing = refl; size = size } }
+  decides = record {
+    volume = refl;
+    reply = refl;
+    judges = record {
+      conditions = ap (λ (cs : Conditions). verdictOf (conditions (catalogue L) ++ cs)) (last-is L (some p) room createCount refl)
+          ∙ rw (time-is L time, new-name-is L name, named-is L name, ids-is L id, slot-is L);
+      refusing = refl;
+      size = size;
+    };
+  }
 
   pub create-same : volumeAnswer (create name id mode time room) img ≡ answer (create name id mode time room) L
   create-same = same-changing L img rep _ _ _ room createCount decides
 
-  module _ (hi : id < 2 ^ 64) (hm : mode < 2 ^ 32) (ht : time < 2 ^ 64) (passed : Passed (createConditions (catalogue L) name id time)) where
+  module _ (hi : id < 2 ^ 64) (hm : mode < 2 ^ 32) (ht : time < 2 ^ 64) (passed : Passed (createConditions (catalogue L) name id time))
+      (there : lacksReserve (catalogue L) ≡ false) where
     -- ---- what the conditions say
 
     fitting : Timely L time
@@ -118,22 +128,14 @@ module _ (L : Ledger) (img : List ℕ) (rep : Rep L img) (name : List ℕ) (id m
     geo : UsableGeometry (L .geometry)
     geo = rep-geometry L img rep
 
-    fits : WellFormed (L .geometry) p
+    fits : WellFormed (L .geometry) (view img) p
     unfolding createPlan catalogue
     fits =
         let l : i < L .geometry .files = free .0 in
-        record {
-          nonempty = omega arith;
-          few = copies-fit (L .geometry) (rep .bounded) _ (omega arith);
-          journalled = count-waits (L .geometry) (rep .bounded) _ (omega arith);
-          metadata = (metadata-directory (L .geometry) 1 (omega arith) (omega arith), (metadata-directory (L .geometry) (entryAt i) (omega arith) (omega arith), tt));
-          rising = (omega arith, (omega arith, tt));
-          usable = tt;
-          own = tt;
-          short = omega arith;
-          wholeData = tt;
-          wholeTargets = (length-updatedRootSector (L .geometry .edition) time (view img rootAt) ∙ length-view img 1, (length-newEntry (L .geometry .edition) name id mode time, tt));
-        }
+        targets-fit L img rep there _ (omega arith) (omega arith)
+        (metadata-directory (L .geometry) 1 (omega arith) (omega arith), (metadata-directory (L .geometry) (entryAt i) (omega arith) (omega arith), tt))
+        (omega arith, (omega arith, tt))
+        (length-updatedRootSector (L .geometry .edition) time (view img rootAt) ∙ length-view img 1, (length-newEntry (L .geometry .edition) name id mode time, tt))
 
     -- ---- the sectors of the new image
 
@@ -143,19 +145,19 @@ module _ (L : Ledger) (img : List ℕ) (rep : Rep L img) (name : List ℕ) (id m
     abbrev w2 : Record
     w2 = sectorWrite (entryAt i) (newEntrySector (L .geometry .edition) name id mode time)
 
-    module _ (out : List ℕ) (ready : Ready (L .geometry) out) (shows : Shows (L .geometry) (w1 ∷ w2 ∷ []) img out) where
+    module _ (out : List ℕ) (ready : Ready (L .geometry) out) (shows : Shows (L .geometry) (catalogueOf (view img)) (w1 ∷ w2 ∷ []) img out) where
       at-root : view out rootAt ≡ updatedRootSector (L .geometry .edition) time (view img rootAt)
       at-root =
-          shows 1 (out-front (L .geometry) geo 1 (omega arith)) (λ e. omega arith)
+          shows 1 (out-front (L .geometry) 1 (omega arith)) (λ e. omega arith)
           ∙ over-here w1 (w2 ∷ []) _ ∙ over-skip w2 [] 1 _ (λ e. omega arith) ∙ over-none 1 _
 
       at-entry : view out (entryAt i) ≡ newEntrySector (L .geometry .edition) name id mode time
       at-entry =
           let l : i < L .geometry .files = free .0 in
-          shows (entryAt i) (out-front (L .geometry) geo (entryAt i) (omega arith)) (λ e. omega arith)
+          shows (entryAt i) (out-front (L .geometry) (entryAt i) (omega arith)) (λ e. omega arith)
           ∙ over-skip w1 (w2 ∷ []) (entryAt i) _ (λ e. omega arith) ∙ over-here w2 [] _ ∙ over-none (entryAt i) _
 
-      at-other : (j : ℕ) → Outside (L .geometry) j → j ≢ 0 → j ≢ 1 → j ≢ entryAt i → view out j ≡ view img j
+      at-other : (j : ℕ) → Outside (L .geometry) (catalogueOf (view img)) j → j ≢ 0 → j ≢ 1 → j ≢ entryAt i → view out j ≡ view img j
       at-other j o n0 n1 ni =
           shows j o n0 ∙ over-skip w1 (w2 ∷ []) j _ n1 ∙ over-skip w2 [] j _ ni ∙ over-none j _
 
@@ -172,7 +174,7 @@ module _ (L : Ledger) (img : List ℕ) (rep : Rep L img) (name : List ℕ) (id m
       table-same e =
           let l : i < L .geometry .files = free .0 in
           table-keep (L .geometry) (view img) (view out) (rep .ready .volume .geometry) (ready .volume .geometry) e
-          (λ q. at-other (tableSectorOf (L .geometry) e) (out-table (L .geometry) geo e q) (λ z. omega arith) (λ z. omega arith) (λ z. omega arith))
+          (λ q. at-other (tableSectorOf (L .geometry) e) (out-table (L .geometry) e q) (λ z. omega arith) (λ z. omega arith) (λ z. omega arith))
           ∙ rep .says .table e ∙ sym (table-created L i name id mode time empty e)
 
       bytes-new : (x : File) → some (newFile L i name id mode time) ≡ some x → fileBytes (catalogueOf (view out)) (view out) i 0 (x .entry .size) ≡ x .bytes
@@ -199,11 +201,11 @@ module _ (L : Ledger) (img : List ℕ) (rep : Rep L img) (name : List ℕ) (id m
                 ∙ root-updated (L .geometry .edition) time (view img rootAt) (length-view img rootAt) fitting ∙ ap (updatedRoot time) (rep .says .root);
             mark = mark-new;
             entry = entry-new;
-            entries = λ k q ne. at-other (entryAt k) (out-front (L .geometry) geo (entryAt k) (omega arith)) (λ z. omega arith) (λ z. omega arith) (λ z. ne (omega arith));
+            entries = λ k q ne. at-other (entryAt k) (out-front (L .geometry) (entryAt k) (omega arith)) (λ z. omega arith) (λ z. omega arith) (λ z. ne (omega arith));
             table = table-same;
             bytes = bytes-new;
-            kept = λ k x ne e b q. all-kept L img out rep
-                (λ j u v. at-other j (out-data (L .geometry) geo j u v) (λ z. omega arith) (λ z. omega arith) (λ z. omega arith)) k _;
+            kept = λ k x ne e b q. bytes-keep L img out rep (catalogueOf (view img)) (free-said L img rep)
+                (λ j u v. at-other j (out-data (L .geometry) j u v) (λ z. omega arith) (λ z. omega arith) (λ z. omega arith)) k x e b q;
             admissible = admissible-new L i name id mode time empty (rep .bounded) good some-id new-name new-id not-root (rep .faultless);
             disjoint = disjoint-created L i name id mode time empty (rep .disjoint);
             sized = sized-new;
@@ -215,10 +217,10 @@ module _ (L : Ledger) (img : List ℕ) (rep : Rep L img) (name : List ℕ) (id m
       fits = fits;
       done = subst (λ (x : Lowest). Rep (created L (indexOf x) name id mode time) (uncut (L .geometry) img p)) (sym (slot-is L))
           (rep-replaced L img rep (updatedRoot time (L .root)) i (some (newFile L i name id mode time)) _
-          (rewrites _ (ready-uncut (L .geometry) img p geo fits (rep .ready)) (done-shows (L .geometry) p geo fits img (rep .ready))));
+          (rewrites _ (ready-uncut (L .geometry) img p geo fits (rep .ready)) (done-shows (L .geometry) img p geo fits (rep .ready))));
       partly = λ k m. part-keeps L img p rep fits refl k m;
     }
 
   -- what create does
   pub create-effect : (id < 2 ^ 64) × (mode < 2 ^ 32) × (time < 2 ^ 64) → Effect Rep (create name id mode time room) L img
-  create-effect f = effect-changing L img rep _ _ _ room createCount decides (λ passed. carries (f .0) (f .1) (f .2) passed)
+  create-effect f = effect-changing L img rep _ _ _ room createCount decides (λ passed there. carries (f .0) (f .1) (f .2) passed there)

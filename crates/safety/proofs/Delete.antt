@@ -2,19 +2,20 @@
 use Prim.Native.Nat.{ℕ, suc, _+_, _*_, _^_, _≤_, _<_}
 use mathlib.Core.Path.{_≡_, refl, sym, ap, _∙_, subst}
 use mathlib.Core.Logic.{_≢_}
-use mathlib.Core.List.{List, [], _∷_}
+use mathlib.Core.List.{List, [], _∷_, _++_}
 use mathlib.Core.Option.{none, some}
 use native.Mathlib.Omega.{arith}
+use mathlib.Core.Bool.{false}
 use lib.ListN.{length}
-use borrow.Author.Tests.{not-false}
+use borrow.Author.Tests.{not-false, lt-ltb}
 use Rattle.model.specs.declared.Lowest.{Lowest}
 use Rattle.model.specs.Bytes.{zeroSector}
 use Rattle.model.specs.Search.{isAt, indexOf}
 use Rattle.model.specs.Geometry.{rootAt, entryAt, journalAt, tableAt, tableSectors}
 use Rattle.model.specs.Disk.{view}
 use Rattle.model.specs.Root.{rootIn, updatedRootSector}
-use Rattle.model.specs.Catalogue.{Catalogue, fileNamed, hasName, sectorsFrom}
-use Rattle.model.specs.Refusals.{Conditions}
+use Rattle.model.specs.Catalogue.{Catalogue, catalogueOf, fileNamed, lacksReserve, hasName, sectorsFrom}
+use Rattle.model.specs.Refusals.{Conditions, verdictOf}
 use Rattle.model.specs.WriteList.{Plan, Record, Group, sectorWrite, groupsFor, listLength, recordSize, recordCount}
 use Rattle.model.specs.Find.{nameConditions}
 use Rattle.model.specs.Delete.{deleteConditions, deletePlan, deleteDecision}
@@ -27,12 +28,11 @@ use Rattle.safety.proofs.Searches.{place-found}
 use Rattle.safety.proofs.Apply.{over, over-here, over-skip, over-none, All}
 use Rattle.safety.proofs.Plan.{UsableGeometry, WellFormed, metadata-directory}
 use Rattle.safety.proofs.Commit.{Ready, uncut, ready-uncut}
-use Rattle.laws.proofs.WriteList.{length-groups}
+use Rattle.laws.proofs.WriteList.{plan-needs}
 use Rattle.safety.proofs.Frame.{Shows, done-shows}
-use Rattle.safety.proofs.Bounds.{copies-fit, count-waits}
 use Rattle.safety.proofs.Rep.{Rep, Timely, timely, rep-geometry}
-use Rattle.safety.proofs.Changing.{Passed, Carries, effect-changing, Decides, same-changing}
-use Rattle.safety.proofs.Preserved.{part-keeps}
+use Rattle.safety.proofs.Changing.{Passed, last-is, Carries, effect-changing, Decides, same-changing}
+use Rattle.safety.proofs.Preserved.{targets-fit, part-keeps}
 use Rattle.safety.proofs.Fields.{length-updatedRootSector, root-updated}
 use Rattle.safety.proofs.FreedTable.{freed, length-freed, freed-few, freed-metadata, freed-whole, freed-rising, before-table}
 use Rattle.safety.proofs.FreedSlot.{rep-freed}
@@ -67,17 +67,30 @@ module _ (L : Ledger) (img : List ℕ) (rep : Rep L img) (name : List ℕ) (time
   records = freedRecords L name 0 2
 
   size : listLength (groupsFor (view img) (some p)) ≡ freedRecords L name 0 2 * recordSize
-  unfolding groupsFor deletePlan freedRecords
+  unfolding deletePlan freedRecords
   size =
       rw (named-is L name)
-      (length-groups _ (view img) p
+      (plan-needs (view img) p
       ∙ ap (λ n. recordCount 0 n * recordSize)
       (let e : length table-writes ≡ sectorsFrom (catalogue L) i 0 = length-freed L img i 0 in
       let q : suc (suc (length table-writes)) ≡ 2 + sectorsFrom (catalogue L) i 0 = omega arith in q))
 
+  some-records : 0 < freedRecords L name 0 2
+  unfolding freedRecords
+  some-records = omega arith
+
   decides : Decides L img (delete name time room) conditions (λ x. some (plan x)) room records
   unfolding onVolume deleteDecision step deleteConditions nameConditions catalogue
-  decides = record { volume = refl; reply = refl; judges = record { conditions = rw (time-is L time, name-is L name, named-is L name); refusing = refl; size = size } }
+  decides = record {
+    volume = refl;
+    reply = refl;
+    judges = record {
+      conditions = ap (λ (cs : Conditions). verdictOf (conditions (catalogue L) ++ cs)) (last-is L (some p) room records (sym (lt-ltb 0 records some-records)))
+          ∙ rw (time-is L time, name-is L name, named-is L name);
+      refusing = refl;
+      size = size;
+    };
+  }
 
   pub delete-same : volumeAnswer (delete name time room) img ≡ answer (delete name time room) L
   delete-same = same-changing L img rep _ _ _ room records decides
@@ -85,7 +98,7 @@ module _ (L : Ledger) (img : List ℕ) (rep : Rep L img) (name : List ℕ) (time
   geo : UsableGeometry (L .geometry)
   geo = rep-geometry L img rep
 
-  module _ (ht : time < 2 ^ 64) (passed : Passed (deleteConditions (catalogue L) name time)) where
+  module _ (ht : time < 2 ^ 64) (passed : Passed (deleteConditions (catalogue L) name time)) (there : lacksReserve (catalogue L) ≡ false) where
     fitting : Timely L time
     unfolding deleteConditions
     fitting = timely L time (passed .0) ht
@@ -94,23 +107,15 @@ module _ (L : Ledger) (img : List ℕ) (rep : Rep L img) (name : List ℕ) (time
     unfolding deleteConditions nameConditions fileNamed catalogue
     within = place-found (λ k. hasName name (c .entries k)) (L .geometry .files) (not-false (isAt (fileNamed c name)) (passed .1 .1 .0)) .0
 
-    fits : WellFormed (L .geometry) p
+    fits : WellFormed (L .geometry) (view img) p
     unfolding deletePlan catalogue
     fits =
         let l : i < L .geometry .files = within in
         let m : length table-writes ≤ tableSectors (L .geometry) = freed-few L img i 0 in
-        record {
-          nonempty = omega arith;
-          few = copies-fit (L .geometry) (rep .bounded) _ (omega arith);
-          journalled = count-waits (L .geometry) (rep .bounded) _ (omega arith);
-          metadata = (metadata-directory (L .geometry) 1 (omega arith) (omega arith), (metadata-directory (L .geometry) (entryAt i) (omega arith) (omega arith), freed-metadata L img i 0));
-          rising = (omega arith, (omega arith, freed-rising L img i 0 (suc (entryAt i)) (omega arith)));
-          usable = tt;
-          own = tt;
-          short = omega arith;
-          wholeData = tt;
-          wholeTargets = (length-updatedRootSector (L .geometry .edition) time (view img rootAt) ∙ length-view img 1, (length-zeroSector, freed-whole L img i 0));
-        }
+        targets-fit L img rep there _ (omega arith) (omega arith)
+        (metadata-directory (L .geometry) 1 (omega arith) (omega arith), (metadata-directory (L .geometry) (entryAt i) (omega arith) (omega arith), freed-metadata L img i 0))
+        (omega arith, (omega arith, freed-rising L img i 0 (suc (entryAt i)) (omega arith)))
+        (length-updatedRootSector (L .geometry .edition) time (view img rootAt) ∙ length-view img 1, (length-zeroSector, freed-whole L img i 0))
 
     -- ---- the new image
 
@@ -123,9 +128,9 @@ module _ (L : Ledger) (img : List ℕ) (rep : Rep L img) (name : List ℕ) (time
     low : All (λ w. w .sector < tableAt (L .geometry)) (w1 ∷ w2 ∷ [])
     low = let l : i < L .geometry .files = within in (omega arith, (omega arith, tt))
 
-    shows : Shows (L .geometry) (w1 ∷ w2 ∷ table-writes) img out
+    shows : Shows (L .geometry) (catalogueOf (view img)) (w1 ∷ w2 ∷ table-writes) img out
     unfolding deletePlan catalogue
-    shows = done-shows (L .geometry) p geo fits img (rep .ready)
+    shows = done-shows (L .geometry) img p geo fits (rep .ready)
 
     at : (j : ℕ) → j < journalAt (L .geometry) → j ≢ 0 → view out j ≡ over (w1 ∷ w2 ∷ []) j (view img j)
     at = before-table L img i 0 rep (w1 ∷ w2 ∷ []) low out ready shows
@@ -151,4 +156,4 @@ module _ (L : Ledger) (img : List ℕ) (rep : Rep L img) (name : List ℕ) (time
 
   -- what delete does
   pub delete-effect : time < 2 ^ 64 → Effect Rep (delete name time room) L img
-  delete-effect ht = effect-changing L img rep _ _ _ room records decides (λ passed. carries ht passed)
+  delete-effect ht = effect-changing L img rep _ _ _ room records decides (λ passed there. carries ht passed there)

@@ -14,7 +14,7 @@ use Rattle.model.specs.Disk.{view}
 use Rattle.model.specs.Edition.{badTime}
 use Rattle.model.specs.Catalogue.{catalogueOf}
 use Rattle.model.specs.Refusals.{Conditions, verdictOf, andThen, refusal}
-use Rattle.model.specs.WriteList.{Plan, groupsFor, listLength, decided}
+use Rattle.model.specs.WriteList.{Plan, planConditions, decided}
 use Rattle.model.specs.Summary.{checkAnswer}
 use Rattle.model.specs.Listing.{listConditions, listDecision}
 use Rattle.model.specs.Read.{readConditions, readDecision}
@@ -23,7 +23,7 @@ use Rattle.model.specs.Delete.{deleteConditions, deleteDecision}
 use Rattle.model.specs.Resize.{resizeConditions, resizeDecision}
 use Rattle.model.specs.Write.{writeConditions, writeDecision}
 use Rattle.model.specs.Rename.{renameConditions, renameDecision}
-use Rattle.model.specs.Ledger.{Ledger, Call, summary, check, find, list, read, create, delete, resize, write, rename, numberOf, fileOf, zeroBytes, step, answer, Answer}
+use Rattle.model.specs.Ledger.{Ledger, Call, summary, check, find, list, read, create, delete, resize, write, rename, numberOf, fileOf, zeroBytes, isFrozen, step, answer, Answer}
 use Rattle.model.specs.Ledger.{Feed, whole, cutMarked, cutUnmarked, afterWrite, afterRename, fed, ledgerFrom}
 use Rattle.model.specs.Run.{onVolume, volumeAnswer, arguments, steady}
 use Rattle.laws.proofs.Booleans.{and-false}
@@ -45,8 +45,8 @@ module _ (img : List ℕ) (ok : checkAnswer (length img) (view img) .verdict .nu
   first-8 : (b : Bool) → b ≡ true → (cs : Conditions) (plan : Option Plan) (room : ℕ) → decided (length img) (view img) ((b, refusal 8) ∷ cs) plan room .verdict .number ≡ 8
   unfolding checkAnswer verdictOf
   first-8 b h cs plan room =
-      ap (λ (v : Verdict). v .number) (own-is img [] ok ((b, refusal 8) ∷ cs) plan room)
-      ∙ ap (λ (t : Bool). andThen (cond t (refusal 8) (verdictOf cs)) (verdictOf ((ltb room (listLength (groupsFor (view img) plan)), refusal 14) ∷ [])) .number) h
+      ap (λ (v : Verdict). v .number) (own-is img ok ((b, refusal 8) ∷ cs) plan room)
+      ∙ ap (λ (t : Bool). andThen (cond t (refusal 8) (verdictOf cs)) (verdictOf (planConditions (view img) plan room)) .number) h
 
   pub wide-refused : (c : Call) → badTime (geometryOn img .edition) (arguments c .time) ≡ true → numberOf (volumeAnswer c img) ≡ 8
   unfolding onVolume listDecision readDecision createDecision deleteDecision resizeDecision writeDecision renameDecision listConditions readConditions createConditions
@@ -74,8 +74,8 @@ unfolding step afterWrite afterRename
 done-geometry summary L = refl
 done-geometry check L = refl
 done-geometry (find name) L = refl
-done-geometry (list k time room space) L = refl
-done-geometry (read name offset count time room space) L = refl
+done-geometry (list k time room space) L = either (isFrozen L) L _ L refl refl
+done-geometry (read name offset count time room space) L = either (isFrozen L) L _ L refl refl
 done-geometry (create name id mode time room) L = refl
 done-geometry (delete name time room) L = refl
 done-geometry (resize name size time room) L = either (ltb size (fileOf L name .entry .size)) _ _ L refl (either (eqb (length (zeroBytes _)) 0) L _ L refl refl)

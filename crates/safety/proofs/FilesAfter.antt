@@ -16,8 +16,10 @@ use Rattle.model.specs.declared.Lowest.the-variants.{At, Nowhere}
 use Rattle.model.specs.Search.{indexOf, equalBytes}
 use Rattle.model.specs.Root.{Root}
 use Rattle.model.specs.Format.{Format}
-use Rattle.model.specs.Ledger.{Ledger, File, fileOr, firstLedger, holdsName, slotNamed, freeSlot, fileOf, Call, summary, check, find, list, read, create, delete, resize, write, rename, numberOf}
-use Rattle.model.specs.Ledger.{newEntry, updatedEntry, updatedRoot, accessedEntry, accessedFile, renamedEntry, renamedFile, withFile, slotsWithout, afterRename, written, afterWrite, partlyWritten}
+use Rattle.model.specs.Ledger.{Ledger, File, fileOr, firstLedger, holdsName, slotNamed, freeSlot, isFrozen, fileOf, Call, summary, check, find, list}
+use Rattle.model.specs.Ledger.{read, create, delete, resize, write, rename, numberOf}
+use Rattle.model.specs.Ledger.{newEntry, updatedEntry, updatedRoot, accessedEntry, accessedFile, accessedRoot, renamedEntry, renamedFile, withFile}
+use Rattle.model.specs.Ledger.{slotsWithout, afterRename, written, afterWrite, partlyWritten}
 use Rattle.model.specs.Ledger.{shrunk, zeroBytes, step, answer, Feed, whole, cutMarked, cutUnmarked, fed, ledgerFrom}
 use Rattle.laws.proofs.Bytes.{length-bytesFrom, length-put}
 use Rattle.laws.proofs.Search.{length-tabulate}
@@ -29,7 +31,7 @@ use Rattle.safety.specs.Neighbours.{Accepted, AllAccepted, Orderly, with
 use Rattle.safety.proofs.Searches.{place-none, same-true, same-differ, is-no}
 use Rattle.safety.proofs.Rep.{Rep, bytes-length}
 use Rattle.safety.proofs.Replaced.{replaced}
-use Rattle.safety.proofs.Naming.{filled, named-hit, slotOf, Found, Fresh, read-found, create-fresh, delete-found, resize-found, write-found, rename-found}
+use Rattle.safety.proofs.Naming.{filled, named-hit, slotOf, Found, Fresh, renewed-other, read-found, create-fresh, delete-found, resize-found, write-found, rename-found}
 use Rattle.safety.proofs.CallFacts.{facts}
 use Rattle.safety.proofs.Described.{sound-represents}
 use Rattle.safety.proofs.FileSaid.{one-name, found-said, renewed-said, created-said, deleted-said, resized-said, written-said, unused, renamed-said, renamed-gone}
@@ -72,17 +74,23 @@ module _ (L : Ledger) where
       ap (λ (b : Bool). cond b L (replaced (record { geometry = L .geometry; root = L .root; slots = slotsWithout L (slotNamed L new) }) (updatedRoot time (L .root)) (slotOf L old)
       (some (renamedFile new time (fileOf L old))))) e
 
-  pub files-after : Orderly L → (c : Call) → numberOf (answer c L) ≡ 0 → (n : List ℕ) → fileIn (step c L .done) n ≡ filesAfter c (fileIn L) n
+  pub files-after : Orderly L → (c : Call) → numberOf (answer c L) ≡ 0 → (n : List ℕ) → fileIn (step c L .done) n ≡ filesAfter (isFrozen L) c (fileIn L) n
   unfolding step accessedEntry
   files-after ok summary z n = refl
   files-after ok check z n = refl
   files-after ok (find name) z n = refl
   files-after ok (list i time room space) z n = facts (list i time room space) .done-other L n tt z
-  files-after ok (read name offset count time room space) z n =
-      let c = read name offset count time room space in
-      let h = read-found L name offset count time room space z in
-      by-change (step c L .done) name h (accessedContents time) (renewed-said L name h (accessedFile time (fileOf L name)) refl)
-      (λ k ne. facts c .done-other L k (ne, tt) z) n
+  files-after ok (read name offset count time room space) z n = go (isFrozen L)
+    where
+      h : Found L name
+      h = read-found L name offset count time room space z
+
+      f : File
+      f = accessedFile time (fileOf L name)
+
+      go : (b : Bool) → fileIn (cond b L (withFile L (slotOf L name) f)) n ≡ cond b (fileIn L) (withNamed (fileIn L) name (Option·map (accessedContents time) (fileIn L name))) n
+      go true = refl
+      go false = by-change (withFile L (slotOf L name) f) name h (accessedContents time) (renewed-said L name h f refl) (λ k ne. renewed-other L name k ne h f refl) n
   files-after ok (create name id mode time room) z n =
       let c = create name id mode time room in
       by-name (step c L .done) name _ (created-said L name (create-fresh L name id mode time room z) id mode time room) (λ k ne. facts c .done-other L k (ne, tt) z) n
@@ -227,10 +235,19 @@ module _ (L : Ledger) (ok : Orderly L) where
   orderly-after summary z = ok
   orderly-after check z = ok
   orderly-after (find name) z = ok
-  orderly-after (list i time room space) z = orderly-rooted _
-  orderly-after (read name offset count time room space) z =
-      let h = read-found L name offset count time room space z in
-      orderly-renewed name h (accessedFile time (fileOf L name)) refl (file-sized L ok name h)
+  orderly-after (list i time room space) z = go (isFrozen L)
+    where
+      go : (b : Bool) → Orderly (cond b L (record { geometry = L .geometry; root = accessedRoot time (L .root); slots = L .slots }))
+      go true = ok
+      go false = orderly-rooted (accessedRoot time (L .root))
+  orderly-after (read name offset count time room space) z = go (isFrozen L)
+    where
+      h : Found L name
+      h = read-found L name offset count time room space z
+
+      go : (b : Bool) → Orderly (cond b L (withFile L (slotOf L name) (accessedFile time (fileOf L name))))
+      go true = ok
+      go false = orderly-renewed name h (accessedFile time (fileOf L name)) refl (file-sized L ok name h)
   orderly-after (create name id mode time room) z = orderly-created name (create-fresh L name id mode time room z) _ id mode time
   orderly-after (delete name time room) z = orderly-freed _ (slotOf L name)
   orderly-after (resize name size time room) z = go (ltb size (fileOf L name .entry .size))

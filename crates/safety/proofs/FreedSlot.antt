@@ -38,7 +38,7 @@ not-owned i (some w) s = go (eqb (w .file) i) refl
 
 module _ (L : Ledger) (img : List ℕ) (rep : Rep L img) (i : ℕ) (root : Root) (same-id : root .id ≡ L .root .id) (front : Group)
     (low : All (λ w. w .sector < tableAt (L .geometry)) front) (out : List ℕ) (ready : Ready (L .geometry) out)
-    (shows : Shows (L .geometry) (front ++ freed L img i 0) img out) (at-root : rootIn (L .geometry .edition) (view out rootAt) ≡ root)
+    (shows : Shows (L .geometry) (catalogueOf (view img)) (front ++ freed L img i 0) img out) (at-root : rootIn (L .geometry .edition) (view out rootAt) ≡ root)
     (at-entry : view out (entryAt i) ≡ zeroSector) (at-others : (k : ℕ) → k < L .geometry .files → k ≢ i → view out (entryAt k) ≡ view img (entryAt k)) where
   entry-free : catalogueOf (view out) .entries i ≡ none
   entry-free =
@@ -77,7 +77,7 @@ module _ (L : Ledger) (img : List ℕ) (rep : Rep L img) (i : ℕ) (root : Root)
     entries = at-others;
     table = λ e. table-after L img i 0 rep front low out ready shows e ∙ sym (table-freed L root i 0 none refl (rep .disjoint) e);
     bytes = λ x e. absurd (Option·none-ne-some x e);
-    kept = λ k x ne e b q. behind-table L img i 0 rep front low out ready shows k _;
+    kept = λ k x ne e b q. behind-table L img i 0 rep front low out ready shows k x e b q;
     admissible = admissible;
     disjoint = disjoint-freed L root i 0 none refl (rep .disjoint);
     sized = λ x e. absurd (Option·none-ne-some x e);

@@ -1,11 +1,11 @@
 -- The table sectors that a delete or a shrinking resize writes: those of `FreedBy` for the extents of file i of offset n or more.
 -- Assumes nothing.
-use Prim.Native.Nat.{ℕ, _+_, _≤_, _<_}
+use Prim.Native.Nat.{ℕ, _+_, _/_, _≤_, _<_}
 use mathlib.Core.Path.{_≡_, refl, ap, _∙_}
 use mathlib.Core.Logic.{_≢_}
 use mathlib.Core.Bool.{Bool, false, cond}
 use mathlib.Core.List.{List, _++_}
-use mathlib.Core.Option.{Option, none}
+use mathlib.Core.Option.{Option, none, some}
 use native.Mathlib.Omega.{arith}
 use lib.ListN.{length}
 use Rattle.model.specs.Geometry.{journalAt, tableAt, dataAt, tableSectors}
@@ -13,15 +13,14 @@ use Rattle.model.specs.Disk.{view}
 use Rattle.model.specs.Catalogue.{Owner, catalogueOf, ownedFrom, holdsFrom, sectorsFrom, sectorOf}
 use Rattle.model.specs.WriteList.{Group}
 use Rattle.model.specs.Delete.{freedSector, freedSectors}
-use Rattle.model.specs.Ledger.{Ledger, catalogue}
+use Rattle.model.specs.Ledger.{Ledger, File, catalogue}
 use Rattle.safety.proofs.Apply.{over, hits, over-append, over-miss, All, all-map, all-miss}
 use Rattle.safety.proofs.Journal.{Rising}
 use Rattle.safety.proofs.Plan.{Metadata, Whole}
 use Rattle.safety.proofs.Commit.{Ready}
 use Rattle.safety.proofs.Frame.{Shows}
-use Rattle.safety.proofs.Rep.{Rep, rep-geometry}
-use Rattle.safety.proofs.Preserved.{out-front, out-data}
-use Rattle.safety.proofs.Rewritten.{all-kept}
+use Rattle.safety.proofs.Rep.{Rep}
+use Rattle.safety.proofs.Preserved.{out-front, out-data, free-said, bytes-keep}
 use Rattle.safety.proofs.FreedBy as by
 
 module _ (L : Ledger) (img : List ℕ) (i n : ℕ) where
@@ -58,23 +57,24 @@ module _ (L : Ledger) (img : List ℕ) (i n : ℕ) where
 
   -- on an image that shows these writes behind others, which lie in front of the table
   module _ (rep : Rep L img) (front : Group) (low : All (λ w. w .sector < tableAt (L .geometry)) front) (out : List ℕ) (ready : Ready (L .geometry) out)
-      (shows : Shows (L .geometry) (front ++ freed) img out) where
+      (shows : Shows (L .geometry) (catalogueOf (view img)) (front ++ freed) img out) where
     front-miss : (j : ℕ) → tableAt (L .geometry) ≤ j → hits front j ≡ false
     front-miss j h = all-miss j front (all-map (λ w. w .sector < tableAt (L .geometry)) (λ w. j ≢ w .sector) (λ w l e. omega arith) front low)
 
     pub before-table : (j : ℕ) → j < journalAt (L .geometry) → j ≢ 0 → view out j ≡ over front j (view img j)
     before-table j l ne =
-        shows j (out-front (L .geometry) (rep-geometry L img rep) j l) ne ∙ over-append front freed j _ ∙ over-miss freed j _ (freed-miss j (λ a b. omega arith))
+        shows j (out-front (L .geometry) j l) ne ∙ over-append front freed j _ ∙ over-miss freed j _ (freed-miss j (λ a b. omega arith))
 
-    pub behind-table : (k s : ℕ) → view out (sectorOf (catalogue L) k s) ≡ view img (sectorOf (catalogue L) k s)
-    behind-table = all-kept L img out rep (λ j u v.
-        shows j (out-data (L .geometry) (rep-geometry L img rep) j u v) (λ e. omega arith) ∙ over-append front freed j _
+    pub behind-table : (k : ℕ) (f : File) → L .slots k ≡ some f → (b : ℕ) → b < f .entry .size
+        → view out (sectorOf (catalogue L) k (b / 512)) ≡ view img (sectorOf (catalogue L) k (b / 512))
+    behind-table = bytes-keep L img out rep (catalogueOf (view img)) (free-said L img rep) (λ j u v.
+        shows j (out-data (L .geometry) j u v) (λ e. omega arith) ∙ over-append front freed j _
         ∙ over-miss freed j _ (freed-miss j (λ a b. omega arith)) ∙ over-miss front j _ (front-miss j (omega arith)))
 
     at-table : (t : ℕ) → t < tableSectors (L .geometry)
         → view out (tableAt (L .geometry) + t) ≡ over (by.freed (L .geometry) img picks) (tableAt (L .geometry) + t) (view img (tableAt (L .geometry) + t))
     at-table t l =
-        shows (tableAt (L .geometry) + t) (record { journal = λ x y. omega arith; reserve = λ x y. omega arith }) (λ e. omega arith)
+        shows (tableAt (L .geometry) + t) (record { journal = λ x y. omega arith; reserve = λ k h q. omega (arith, q .0) }) (λ e. omega arith)
         ∙ over-append front freed (tableAt (L .geometry) + t) _
         ∙ ap (over freed (tableAt (L .geometry) + t)) (over-miss front (tableAt (L .geometry) + t) _ (front-miss (tableAt (L .geometry) + t) (omega arith)))
         ∙ ap (λ (ws : Group). over ws (tableAt (L .geometry) + t) (view img (tableAt (L .geometry) + t))) freed-is

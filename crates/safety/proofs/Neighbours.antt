@@ -18,7 +18,8 @@ use lib.ListN.{length}
 use borrow.Author.Tests.{eq-eqb}
 use Rattle.model.specs.Search.{equalBytes}
 use Rattle.model.specs.Root.{Root}
-use Rattle.model.specs.Ledger.{Ledger, firstLedger, Call, summary, check, find, list, read, create, delete, resize, write, rename, Answer, numberOf, updatedRoot, accessedRoot, slotNamed, fileOf}
+use Rattle.model.specs.Ledger.{Ledger, firstLedger, Call, summary, check, find, list, read, create, delete, resize, write, rename, Answer}
+use Rattle.model.specs.Ledger.{numberOf, updatedRoot, accessedRoot, accessedFile, slotNamed, isFrozen, fileOf}
 use Rattle.model.specs.Ledger.{withFile, withSlot, slotsWithout, renamedFile, afterRename, written, afterWrite, shrunk, zeroBytes, step, answer, Feed, whole, fed, ledgerFrom, answersFrom}
 use Rattle.model.specs.Run.{arguments, steady}
 use Rattle.laws.proofs.Booleans.{or-left, or-right, or-none}
@@ -35,6 +36,7 @@ use Rattle.safety.proofs.FileSaid.{said}
 use Rattle.safety.proofs.Corollaries.{says}
 use Rattle.safety.proofs.Saving.{none-named}
 use Rattle.safety.proofs.Accessed.{root-said}
+use Rattle.safety.proofs.FrozenKept.{frozen-kept}
 use Rattle.safety.proofs.FilesAfter.{files-after, orderly-represented, orderly-after, orderly-first, orderly-sound, orderly-fed}
 
 -- ---- lists of names
@@ -147,35 +149,38 @@ rename-local old new time = either-local (λ files. withNamed (withNamed files o
           λ i. cond (equalBytes new n) (f (a i)) (cond (equalBytes old n) none (b i));
     }
 
-pub call-local : (c : Call) → Local (filesAfter c) (arguments c .files)
-call-local summary = nothing-local []
-call-local check = nothing-local []
-call-local (find name) = nothing-local []
-call-local (list i time room space) = nothing-local []
-call-local (read name offset count time room space) = named-local name (Option·map (accessedContents time))
-call-local (create name id mode time room) = named-local name (λ o. some (newContents name id mode time))
-call-local (delete name time room) = named-local name (λ o. none)
-call-local (resize name size time room) = named-local name (Option·map (resizedContents size time))
-call-local (write name offset bytes time room) =
+pub call-local : (frozen : Bool) (c : Call) → Local (filesAfter frozen c) (arguments c .files)
+call-local frozen summary = nothing-local []
+call-local frozen check = nothing-local []
+call-local frozen (find name) = nothing-local []
+call-local frozen (list i time room space) = nothing-local []
+call-local frozen (read name offset count time room space) =
+    let f = Option·map (accessedContents time) in
+    either-local (λ files. withNamed files name (f (files name))) (name ∷ []) (named-local name f) frozen
+call-local frozen (create name id mode time room) = named-local name (λ o. some (newContents name id mode time))
+call-local frozen (delete name time room) = named-local name (λ o. none)
+call-local frozen (resize name size time room) = named-local name (Option·map (resizedContents size time))
+call-local frozen (write name offset bytes time room) =
     let f = Option·map (writtenContents offset bytes time) in
     either-local (λ files. withNamed files name (f (files name))) (name ∷ []) (named-local name f) (eqb (length bytes) 0)
-call-local (rename old new time room) = rename-local old new time
+call-local frozen (rename old new time room) = rename-local old new time
 
--- of several calls, the latest first
-abbrev filesBy : List Call → Files → Files
-filesBy [] files = files
-filesBy (c ∷ cs) files = filesAfter c (filesBy cs files)
+-- of several calls, the latest first, on a ledger that is frozen or isn't
+module _ (frozen : Bool) where
+  abbrev filesBy : List Call → Files → Files
+  filesBy [] files = files
+  filesBy (c ∷ cs) files = filesAfter frozen c (filesBy cs files)
 
-block-local : (cs : List Call) → Local (filesBy cs) (namesIn cs)
-block-local [] = nothing-local []
-block-local (c ∷ cs) =
-    both (filesBy cs) (filesAfter c) (namesIn (c ∷ cs))
-    (wider (filesBy cs) (namesIn cs) (namesIn (c ∷ cs)) (block-local cs) (λ n. among-back n (arguments c .files) (namesIn cs)))
-    (wider (filesAfter c) (arguments c .files) (namesIn (c ∷ cs)) (call-local c) (λ n. among-front n (arguments c .files) (namesIn cs)))
+  block-local : (cs : List Call) → Local (filesBy cs) (namesIn cs)
+  block-local [] = nothing-local []
+  block-local (c ∷ cs) =
+      both (filesBy cs) (filesAfter frozen c) (namesIn (c ∷ cs))
+      (wider (filesBy cs) (namesIn cs) (namesIn (c ∷ cs)) (block-local cs) (λ n. among-back n (arguments c .files) (namesIn cs)))
+      (wider (filesAfter frozen c) (arguments c .files) (namesIn (c ∷ cs)) (call-local frozen c) (λ n. among-front n (arguments c .files) (namesIn cs)))
 
-files-joined : (ds cs : List Call) (files : Files) → filesBy (ds ++ cs) files ≡ filesBy ds (filesBy cs files)
-files-joined [] cs files = refl
-files-joined (d ∷ ds) cs files = ap (filesAfter d) (files-joined ds cs files)
+  files-joined : (ds cs : List Call) (files : Files) → filesBy (ds ++ cs) files ≡ filesBy ds (filesBy cs files)
+  files-joined [] cs files = refl
+  files-joined (d ∷ ds) cs files = ap (filesAfter frozen d) (files-joined ds cs files)
 
 -- ---- the root but for its times: calls raise its version so many times, whatever it is, and change nothing else
 
@@ -223,8 +228,16 @@ unfolding step afterRename updatedRoot accessedRoot
 root-by summary L = refl
 root-by check L = refl
 root-by (find name) L = refl
-root-by (list i time room space) L = refl
-root-by (read name offset count time room space) L = refl
+root-by (list i time room space) L = go (isFrozen L)
+  where
+    go : (b : Bool) → rootButTimes (cond b L (record { geometry = L .geometry; root = accessedRoot time (L .root); slots = L .slots }) .root) ≡ rootButTimes (L .root)
+    go true = refl
+    go false = refl
+root-by (read name offset count time room space) L = go (isFrozen L)
+  where
+    go : (b : Bool) → rootButTimes (cond b L (withFile L (slotOf L name) (accessedFile time (fileOf L name))) .root) ≡ rootButTimes (L .root)
+    go true = refl
+    go false = refl
 root-by (create name id mode time room) L = refl
 root-by (delete name time room) L = refl
 root-by (resize name size time room) L = ap rootButTimes (go (ltb size (fileOf L name .entry .size)))
@@ -251,22 +264,28 @@ module _ (L₀ : Ledger) (fs : List Feed) (ok : Orderly (ledgerFrom L₀ fs)) wh
   abbrev after : List Call → Ledger
   after cs = ledgerFrom L₀ (wholes cs ++ fs)
 
+  -- frozen or not, it stays so
+  abbrev frozen : Bool
+  frozen = isFrozen (ledgerFrom L₀ fs)
+
   -- what the block made of it
   record Made (cs : List Call) : Type 0 where
     orderly : Orderly (after cs)
-    files : fileIn (after cs) ≡ filesBy cs (fileIn (ledgerFrom L₀ fs))
+    stays : isFrozen (after cs) ≡ frozen
+    files : fileIn (after cs) ≡ filesBy frozen cs (fileIn (ledgerFrom L₀ fs))
     root : rootButTimes (after cs .root) ≡ raisedBy (raisesIn cs) (rootButTimes (ledgerFrom L₀ fs .root))
 
   made : (cs : List Call) → AllZero cs (answersFrom L₀ (wholes cs ++ fs)) → Made cs
   unfolding ledgerFrom answersFrom
-  made [] z = record { orderly = ok; files = refl; root = refl }
+  made [] z = record { orderly = ok; stays = refl; files = refl; root = refl }
   made (c ∷ cs) z =
       let h = made cs (z .1) in
       let M = after cs in
       let e : fed (whole c) M ≡ step c M .done = ap (λ (b : Bool). cond b (step c M .done) M) (eq-eqb (numberOf (answer c M)) 0 (z .0)) in
       record {
         orderly = subst Orderly (sym e) (orderly-after M (h .orderly) c (z .0));
-        files = ap fileIn e ∙ fun-ext (files-after M (h .orderly) c (z .0)) ∙ ap (filesAfter c) (h .files);
+        stays = ap isFrozen e ∙ frozen-kept M c (z .0) ∙ h .stays;
+        files = ap fileIn e ∙ fun-ext (files-after M (h .orderly) c (z .0)) ∙ (λ i. filesAfter (h .stays i) c (h .files i));
         root = ap (λ (X : Ledger). rootButTimes (X .root)) e ∙ root-by c M ∙ ap (raisedBy (raises c)) (h .root) ∙ sym (raised-sum (raises c) (raisesIn cs) _);
       }
 
@@ -278,9 +297,9 @@ module _ (L₀ : Ledger) (fs : List Feed) (ok : Orderly (ledgerFrom L₀ fs)) wh
         let F = fileIn (ledgerFrom L₀ fs) in
         record {
           files = λ n.
-              ap (λ (x : Files). x n) (a .files ∙ files-joined ds cs F)
-              ∙ exchange (filesBy cs) (filesBy ds) (namesIn cs) (namesIn ds) (block-local cs) (block-local ds) away F n
-              ∙ sym (ap (λ (x : Files). x n) (b .files ∙ files-joined cs ds F));
+              ap (λ (x : Files). x n) (a .files ∙ files-joined frozen ds cs F)
+              ∙ exchange (filesBy frozen cs) (filesBy frozen ds) (namesIn cs) (namesIn ds) (block-local frozen cs) (block-local frozen ds) away F n
+              ∙ sym (ap (λ (x : Files). x n) (b .files ∙ files-joined frozen cs ds F));
           root = a .root ∙ ap (λ (k : ℕ). raisedBy k (rootButTimes (ledgerFrom L₀ fs .root))) (raises-exchanged ds cs) ∙ sym (b .root);
         }
 

@@ -8,17 +8,16 @@ use native.Mathlib.Omega.{arith}
 use lib.Dec.{eqb, leb}
 use borrow.Author.Tests.{le-ltb, eqb-true}
 use Rattle.model.specs.Search.{allBelow}
-use Rattle.model.specs.Geometry.{usable, extentBytes, extentsFor}
+use Rattle.model.specs.Geometry.{extentBytes, extentsFor}
 use Rattle.model.specs.Entry.{badName}
 use Rattle.model.specs.Catalogue.{Catalogue, Owner, isFree, hasName, hasId, ownedFrom}
 use Rattle.model.specs.Faults.{holdsOf, fault25, exact}
 use Rattle.model.specs.Ledger.{Ledger, File, fileOr, entryOfFile, catalogue, withRootUpdated, newEntry, updatedRoot}
 use Rattle.model.specs.Opened.{Bounded}
 use Rattle.laws.proofs.Search.{allBelow-yes}
-use Rattle.safety.proofs.Searches.{or-left-no, among-or-right}
 use Rattle.safety.proofs.Bounds.{no-extent}
 use Rattle.safety.proofs.Rep.{NoFaults, Disjoint}
-use Rattle.safety.proofs.Replaced.{among-and, table-by, disjoint-by, Admissible}
+use Rattle.safety.proofs.Replaced.{never-free, table-by, disjoint-by, Admissible}
 
 module _ (L : Ledger) (i : ℕ) (name : List ℕ) (id mode time : ℕ) where
   abbrev pub newFile : File
@@ -53,14 +52,14 @@ module _ (L : Ledger) (i : ℕ) (name : List ℕ) (id mode time : ℕ) where
       unfolding catalogue fault25
       none-owned e l = go (c .table e) (h .f25 e l)
         where
-          go : (o : Option Owner) → holdsOf o (λ w. isFree (c .entries (w .file)) || leb (usable (L .geometry)) e) ≡ false → ownedFrom i 0 o ≡ false
+          go : (o : Option Owner) → holdsOf o (λ w. isFree (c .entries (w .file))) ≡ false → ownedFrom i 0 o ≡ false
           go none q = refl
           go (some w) q = at-file (eqb (w .file) i) refl
             where
               at-file : (b : Bool) → eqb (w .file) i ≡ b → (b && leb 0 (w .offset)) ≡ false
               at-file true z =
                   absurd (true≢false (sym (ap (λ (x : ℕ). isFree (entryOfFile (L .slots x))) (eqb-true (w .file) i z) ∙ ap (λ (x : Option File). isFree (entryOfFile x)) empty)
-                  ∙ or-left-no (isFree (c .entries (w .file))) _ q))
+                  ∙ q))
               at-file false z = refl
 
       exact-new : exact (catalogue created) i (extentsFor (L .geometry) 0) ≡ true
@@ -70,22 +69,15 @@ module _ (L : Ledger) (i : ℕ) (name : List ℕ) (id mode time : ℕ) where
           ∙ allBelow-yes (λ e. not (ownedFrom i 0 (catalogue created .table e))) (L .geometry .extents)
           (λ e l. ap (λ (o : Option Owner). not (ownedFrom i 0 o)) (table-created e) ∙ ap not (none-owned e l))
 
-      owned-new : (e : ℕ) → e < L .geometry .extents → holdsOf (catalogue created .table e) (λ w. eqb (w .file) i && leb (usable (L .geometry)) e) ≡ false
-      unfolding fault25 catalogue
-      owned-new e l =
-          ap (λ (o : Option Owner). holdsOf o (λ w. eqb (w .file) i && leb (usable (L .geometry)) e)) (table-created e)
-          ∙ among-and (c .table e) (λ w. eqb (w .file) i) (λ w. leb (usable (L .geometry)) e)
-          (among-or-right (c .table e) (λ w. isFree (c .entries (w .file))) (λ w. leb (usable (L .geometry)) e) (h .f25 e l))
-
       pub admissible-new : Admissible L (updatedRoot time (L .root)) i (some newFile)
       unfolding updatedRoot newEntry
       admissible-new = record {
         root-id = refl;
-        entry = ap₂ (λ a b. a || b) good (le-ltb (usable (L .geometry) * extentBytes (L .geometry)) 0 (omega arith));
+        entry = ap₂ (λ a b. a || b) good (le-ltb (L .geometry .extents * extentBytes (L .geometry)) 0 (omega arith));
         id = ap₂ (λ a b. a || b) some-id not-root;
         names = λ k l ne. new-name k l;
         ids = λ k l ne. new-id k l;
         others = λ t tn ti e. ap t (table-created e);
-        owned = owned-new;
+        owned = λ e l. never-free (catalogue created .table e) (λ w. eqb (w .file) i);
         exactly = ap not exact-new;
       }

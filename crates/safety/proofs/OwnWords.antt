@@ -1,32 +1,35 @@
 -- The ledger's own words say what the calls' say: what it looks up in its slots is what a call finds in its catalogue, and its conditions
 -- and answers are a call's. Each call cites them at its head. Assumes nothing.
-use Prim.Native.Nat.{ℕ, zero, suc}
+use Prim.Native.Nat.{ℕ, zero, suc, _+_, _≤_}
 use mathlib.Core.Path.{_≡_, refl, sym, ap, ap₂, _∙_}
 use mathlib.Core.Logic.{_≢_}
 use mathlib.Core.Bool.{Bool, true, false, cond, not, _&&_, _||_}
 use mathlib.Core.List.{List, [], _∷_, _++_}
 use mathlib.Core.Option.{Option, none, some}
 use native.Mathlib.Omega.{arith}
+use native.Mathlib.Decide.{decLe}
 use lib.Dec.{eqb, leb, ltb}
 use lib.ListN.{length, getD}
-use borrow.Author.Tests.{eqb-true, eqb-false, ne-eqb, le-ltb}
+use borrow.Author.Tests.{eqb-true, eqb-false, ne-eqb, le-leb, lt-leb, lt-ltb, le-ltb}
 use Rattle.model.specs.declared.Lowest.{Lowest}
 use Rattle.model.specs.declared.Lowest.the-variants.{At, Nowhere}
 use Rattle.model.specs.declared.Verdict.{Verdict}
 use Rattle.model.specs.Bytes.{bytesFrom}
 use Rattle.model.specs.Search.{anyBelow, tabulate, isAt, indexOf}
-use Rattle.model.specs.Geometry.{FileNumber, ExtentNumber, usable}
+use Rattle.model.specs.Geometry.{FileNumber, ExtentNumber, reserveExtents}
 use Rattle.model.specs.Edition.{firstEdition, secondEdition, layoutOf, badTime}
 use Rattle.model.specs.Entry.{hasZero, badName, isTypable, badNewName}
-use Rattle.model.specs.Catalogue.{entryOr, fileNamed, freeEntry, freeExtent, entryOf, hasName, hasId, isFree}
+use Rattle.model.specs.Catalogue.{entryOr, fileNamed, freeEntry, freeExtent, freeExtents, lacksReserve, entryOf, hasName, hasId, isFree}
 use Rattle.model.specs.Refusals.{Conditions, verdictOf, isDone, refusal}
 use Rattle.model.specs.Find.{nameConditions}
 use Rattle.model.specs.Write.{touchedSectors}
 use Rattle.model.specs.Resize.{zeros}
-use Rattle.model.specs.Ledger.{Ledger, File, fileOr, entryOfFile, holderOf, ownerFrom, catalogue, holdsName, holdsId, slotNamed, freeSlot, unheldExtent, fileOf, Answer, summarized, checked, found}
+use Rattle.model.specs.Ledger.{Ledger, File, fileOr, entryOfFile, holderOf, ownerFrom, catalogue, holdsName, holdsId}
+use Rattle.model.specs.Ledger.{slotNamed, freeSlot, unheldExtent, unheldExtents, isFrozen, fileOf, Answer, summarized, checked, found}
 use Rattle.model.specs.Ledger.{listed, gave, changed, numberOf, numbered, refused, Refusals, lowest, unfitTime, nameBound, unfitName, unfitNewName, spannedSectors, zeroBytes, Step, answerBy}
 use Rattle.laws.proofs.Booleans.{not-and, not-leb}
-use Rattle.laws.proofs.Search.{first-ext, anyBelow-ext}
+use Rattle.laws.proofs.Search.{first-ext, anyBelow-ext, countBelow-ext}
+use Rattle.laws.proofs.Staging.{free-count}
 
 -- ---- what it looks up
 
@@ -61,7 +64,25 @@ module _ (L : Ledger) where
 
   pub unheld-is : unheldExtent L ≡ freeExtent (catalogue L)
   unfolding unheldExtent freeExtent catalogue
-  unheld-is = first-ext _ _ (usable (L .geometry)) (λ e l. unheld-if L e (holderOf L e))
+  unheld-is = first-ext _ _ (L .geometry .extents) (λ e l. unheld-if L e (holderOf L e))
+
+  pub unheld-count : unheldExtents L ≡ length (freeExtents (catalogue L))
+  unfolding unheldExtents catalogue
+  unheld-count = countBelow-ext _ _ (L .geometry .extents) (λ e l. unheld-if L e (holderOf L e)) ∙ sym (free-count (catalogue L) (L .geometry .extents))
+
+  pub frozen-is : isFrozen L ≡ lacksReserve (catalogue L)
+  unfolding isFrozen lacksReserve catalogue
+  frozen-is = ap (λ n. ltb n (reserveExtents (L .geometry))) unheld-count
+
+  pub few-is : leb (unheldExtents L) (reserveExtents (L .geometry)) ≡ ltb (length (freeExtents (catalogue L))) (reserveExtents (L .geometry) + 1)
+  few-is = ap (λ n. leb n (reserveExtents (L .geometry))) unheld-count ∙ go (length (freeExtents (catalogue L))) (reserveExtents (L .geometry))
+    where
+      go : (n k : ℕ) → leb n k ≡ ltb n (k + 1)
+      go n k = choose (decLe n k)
+        where
+          choose : Dec (n ≤ k) → leb n k ≡ ltb n (k + 1)
+          choose (yes h) = le-leb n k h ∙ sym (lt-ltb n (k + 1) (omega arith))
+          choose (no h) = lt-leb n k (omega arith) ∙ sym (le-ltb n (k + 1) (omega arith))
 
   pub ids-is : (id : ℕ) → anyBelow (λ i. holdsId id (L .slots i)) (L .geometry .files) ≡ anyBelow (λ i. hasId id (catalogue L .entries i)) (L .geometry .files)
   unfolding catalogue

@@ -1,5 +1,5 @@
 -- The pigeonhole principle: m different numbers below n are fewer than n if some number below n is not among them. So the extents that a
--- file has are fewer than the usable ones where one of these is free. Assumes nothing.
+-- file has are fewer than the volume's where one of these is free. Assumes nothing.
 use Prim.Native.Nat.{ℕ, zero, suc, _+_, _≤_, _<_}
 use mathlib.Core.Path.{_≡_, refl, ap, _∙_}
 use mathlib.Core.Logic.{_≢_}

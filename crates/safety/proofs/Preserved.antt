@@ -1,49 +1,49 @@
 -- What is preserved where sectors are: the catalogue slot by slot, files' bytes, entry marks, and the whole invariant. So a plan
 -- without data sectors that was cut before its start mark changes nothing that is said. Assumes nothing.
-use Prim.Native.Nat.{ℕ, zero, suc, _+_, _*_, _/_, _%_, _≤_, _<_}
-use mathlib.Core.Path.{_≡_, refl, sym, ap, ap₂, _∙_, subst, fun-ext}
+use Prim.Native.Nat.{ℕ, zero, suc, _+_, _-_, _/_, _%_, _≤_, _<_}
+use mathlib.Core.Path.{_≡_, refl, sym, ap, ap₂, _∙_, fun-ext}
 use mathlib.Core.Bool.{Bool, true, false, cond, not, _&&_, _||_}
 use mathlib.Core.List.{List, []}
-use mathlib.Core.Option.{Option, none, some}
+use mathlib.Core.Option.{Option, none, some, Option·some-injective, Option·none-ne-some}
 use native.Mathlib.Omega.{arith}
-use native.Mathlib.Nat.{mod-lt, mul-le-mul-right, suc-mul}
+use native.Mathlib.Nat.{zero-add, div-add-mod}
 use lib.Dec.{eqb, ltb}
-use lib.ListN.{getD}
+use lib.ListN.{length, getD, length-drop}
 use borrow.Author.Tests.{ltb-true}
 use Rattle.model.specs.declared.Geometry.{Geometry}
 use Rattle.model.specs.Bytes.{numberIn}
-use Rattle.model.specs.Search.{first, indexOf}
-use Rattle.model.specs.Geometry.{superblockAt, extentSectors, usable, entryAt, journalAt, dataAt, reserveAt}
+use Rattle.model.specs.Geometry.{superblockAt, extentSectors, mostTargets, reserveExtents, entryAt, journalAt, dataAt, extentsFor}
 use Rattle.model.specs.Disk.{Disk, view}
 use Rattle.model.specs.WriteList.{stored, Plan, Group}
 use Rattle.model.specs.Superblock.{geometryIn}
 use Rattle.model.specs.Root.{rootIn}
 use Rattle.model.specs.Entry.{entryField, freeMark, Entry, entryIn, isOccupied}
 use Rattle.model.specs.Table.{freeFile, tableField, tableEntryStart, tableSectorOf, tableFile, tableOffset}
-use Rattle.model.specs.Catalogue.{Catalogue, Owner, catalogueOf, isPart, extentOf, sectorOf, fileByte, fileBytes}
+use Rattle.model.specs.Catalogue.{Catalogue, Owner, catalogueOf, isFree, freeExtents, lacksReserve, stagingExtents, extentOf, sectorOf, fileByte, fileBytes}
 use Rattle.model.specs.Faults.{fault21}
-use Rattle.model.specs.Opened.{Bounded}
-use Rattle.model.specs.Ledger.{Ledger}
+use Rattle.model.specs.Ledger.{Ledger, File, entryOfFile, catalogue}
 use Rattle.laws.proofs.Search.{tabulate-ext}
-use Rattle.safety.proofs.Searches.{index-lt}
-use Rattle.safety.proofs.Apply.{over, over-none, kept-nil}
-use Rattle.safety.proofs.Plan.{UsableGeometry, WellFormed, A}
+use Rattle.laws.proofs.Staging.{free, free-rises, staging-at, InExtent, one-extent}
+use Rattle.safety.proofs.Apply.{over, over-none, kept-nil, All}
+use Rattle.safety.proofs.Journal.{Rising}
+use Rattle.safety.proofs.Plan.{Metadata, Whole, Unstaged, WellFormed, A}
 use Rattle.safety.proofs.Commit.{Ready, partOf, ready-part}
 use Rattle.safety.proofs.Frame.{Outside, part-at}
-use Rattle.safety.proofs.Bounds.{usable-some}
-use Rattle.safety.proofs.Rep.{Rep, says-of, disk-geometry, rep-geometry, no-mark-fault}
+use Rattle.safety.proofs.Bounds.{copies-fit, count-waits}
+use Rattle.safety.proofs.Rep.{Rep, says-of, cat-is, disk-geometry, rep-geometry, no-mark-fault}
+use Rattle.safety.proofs.Extents.{owner, free-unowned, extent-owned, sector-held, rest-lt}
 
--- ---- areas lie outside journal and reserve
+-- ---- areas lie outside journal and staging extents
 
-module _ (g : Geometry) (geo : UsableGeometry g) where
-  pub out-front : (j : ℕ) → j < journalAt g → Outside g j
-  out-front j h = record { journal = λ a b. omega arith; reserve = λ a b. omega arith }
+module _ (g : Geometry) {c : Catalogue} where
+  pub out-front : (j : ℕ) → j < journalAt g → Outside g c j
+  out-front j h = record { journal = λ a b. omega arith; reserve = λ k l s. omega (arith, s .0) }
 
-  pub out-table : (e : ℕ) → e < g .extents → Outside g (tableSectorOf g e)
-  out-table e h = record { journal = λ a b. omega arith; reserve = λ a b. omega arith }
+  pub out-table : (e : ℕ) → e < g .extents → Outside g c (tableSectorOf g e)
+  out-table e h = record { journal = λ a b. omega arith; reserve = λ k l s. omega (arith, s .0) }
 
-  pub out-data : (j : ℕ) → dataAt g ≤ j → j < reserveAt g → Outside g j
-  out-data j h k = record { journal = λ a b. omega arith; reserve = λ a b. omega arith }
+  pub out-data : (j : ℕ) → dataAt g ≤ j → Unstaged g c j → Outside g c j
+  out-data j h u = record { journal = λ a b. omega arith; reserve = u }
 
 -- ---- the catalogue, slot by slot
 
@@ -97,18 +97,67 @@ module _ (g : Geometry) (d d′ : Disk) (eg : geometryIn (d superblockAt) ≡ g)
           ap₂ (ownerBy true) (file-keep g d d′ e (h l)) (offset-keep g d d′ e (h l))
       go false q = refl
 
+-- ---- the entry of a file
+
+-- what the sector of an occupied slot says
+occupied-slot : (edition : ℕ) (b : Bool) (s : List ℕ) (e : Entry) → cond (b && isOccupied s) (some (entryIn edition s)) none ≡ some e
+    → (b ≡ true) × (isOccupied s ≡ true) × (entryIn edition s ≡ e)
+occupied-slot edition true s e q = go (isOccupied s) refl q
+  where
+    go : (o : Bool) → isOccupied s ≡ o → cond o (some (entryIn edition s)) none ≡ some e → (true ≡ true) × (isOccupied s ≡ true) × (entryIn edition s ≡ e)
+    go true p r = (refl, p, Option·some-injective (entryIn edition s) e r)
+    go false p r = absurd (Option·none-ne-some e r)
+occupied-slot edition false s e q = absurd (Option·none-ne-some e q)
+
+module _ (L : Ledger) (img : List ℕ) (rep : Rep L img) (i : ℕ) (f : File) (has : L .slots i ≡ some f) where
+  pub entry-of : catalogue L .entries i ≡ some (f .entry)
+  unfolding catalogue
+  entry-of = ap entryOfFile has
+
+  pub occupied : (ltb i (L .geometry .files) ≡ true) × (isOccupied (view img (entryAt i)) ≡ true) × (entryIn (L .geometry .edition) (view img (entryAt i)) ≡ f .entry)
+  occupied =
+      occupied-slot (L .geometry .edition) (ltb i (L .geometry .files)) (view img (entryAt i)) (f .entry)
+      (sym (entry-is (L .geometry) (view img) (view img) (rep .ready .volume .geometry) (rep .ready .volume .geometry) i) ∙ rep .says .directory i ∙ entry-of)
+
+  -- an occupied slot is one of the directory's
+  pub slot-within : i < L .geometry .files
+  slot-within = ltb-true i (L .geometry .files) (occupied .0)
+
 -- ---- where a file's bytes stand
 
-pub sector-data : (c : Catalogue) (i s : ℕ) → Bounded (c .geometry) → (dataAt (c .geometry) ≤ sectorOf c i s) × (sectorOf c i s < reserveAt (c .geometry))
-unfolding sectorOf extentOf
-sector-data c i s h =
-    let g = c .geometry in
-    let p : ℕ → Bool = λ e. isPart i (s / extentSectors g) (c .table e) in
-    let l : indexOf (first p (usable g)) < usable g = index-lt p (usable g) (usable-some g h) in
-    let r : s % extentSectors g < extentSectors g = mod-lt s (omega (arith, h .extent-low)) in
-    let m : suc (indexOf (first p (usable g))) * extentSectors g ≤ usable g * extentSectors g = mul-le-mul-right (extentSectors g) l in
-    let q : suc (indexOf (first p (usable g))) * extentSectors g ≡ indexOf (first p (usable g)) * extentSectors g + extentSectors g = suc-mul (indexOf (first p (usable g))) (extentSectors g) in
-    (omega arith, omega arith)
+-- what catalogue c says is free is free in the ledger
+abbrev pub FreeIn : Catalogue → Ledger → Type 0
+FreeIn c L = (e : ℕ) → isFree (c .table e) ≡ true → isFree (catalogue L .table e) ≡ true
+
+-- the staging extents are free, also where they are fewer than the reserve
+pub staging-free : (c : Catalogue) (k : ℕ) → k < length (stagingExtents c) → isFree (c .table (getD (stagingExtents c) k 0)) ≡ true
+unfolding stagingExtents
+staging-free c k h =
+    let n = length (freeExtents c) - reserveExtents (c .geometry) in
+    ap (free c) (staging-at c k) ∙ free-rises c (c .geometry .extents) .passes _ (omega (arith, length-drop n (freeExtents c)))
+
+module _ (L : Ledger) (img : List ℕ) (rep : Rep L img) where
+  pub free-said : FreeIn (catalogueOf (view img)) L
+  free-said e h = sym (ap isFree (rep .says .table e)) ∙ h
+
+  module _ (c : Catalogue) (frees : FreeIn c L) where
+    -- a sector of a file's extent is none of a staging extent
+    pub held-unstaged : (e i o j : ℕ) → catalogue L .table e ≡ owner i o → InExtent (L .geometry) e j → Unstaged (L .geometry) c j
+    held-unstaged e i o j q h k l s =
+        let z = one-extent (L .geometry) (getD (stagingExtents c) k 0) e j s h in
+        free-unowned (catalogue L .table e) i o (frees e (ap (free c) (sym z) ∙ staging-free c k l)) q
+
+    -- so the sectors of a file's bytes
+    pub sector-data : (i : ℕ) (f : File) → L .slots i ≡ some f → (b : ℕ) → b < f .entry .size
+        → (dataAt (L .geometry) ≤ sectorOf (catalogue L) i (b / 512)) × Unstaged (L .geometry) c (sectorOf (catalogue L) i (b / 512))
+    unfolding sectorOf catalogue
+    sector-data i f has b l =
+        let g = L .geometry in
+        let s = b / 512 in
+        let o = s / extentSectors g in
+        let h : o < extentsFor g (f .entry .size) = sector-held g (rep .bounded) (f .entry .size) s (omega (arith, div-add-mod b 512)) in
+        let q = extent-owned (catalogue L) (rep .faultless) i (f .entry) (slot-within L img rep i f has) (entry-of L img rep i f has) o h in
+        (omega arith, held-unstaged (extentOf (catalogue L) i o) i o (sectorOf (catalogue L) i s) q (omega arith, omega (arith, rest-lt g (rep .bounded) s)))
 
 pub bytes-keep-at : (c : Catalogue) (d d′ : Disk) (i off n : ℕ) → ((k : ℕ) → k < n → d′ (sectorOf c i ((off + k) / 512)) ≡ d (sectorOf c i ((off + k) / 512)))
     → fileBytes c d′ i off n ≡ fileBytes c d i off n
@@ -117,26 +166,25 @@ bytes-keep-at c d d′ i off n h =
     tabulate-ext (λ k. getD (d′ (sectorOf c i (k / 512))) (k % 512) 0) (λ k. getD (d (sectorOf c i (k / 512))) (k % 512) 0) off off n
     (λ k l. ap (λ (s : List ℕ). getD s ((off + k) % 512) 0) (h k l))
 
-pub bytes-keep : (c : Catalogue) (d d′ : Disk) (i off n : ℕ) → Bounded (c .geometry)
-    → ((j : ℕ) → dataAt (c .geometry) ≤ j → j < reserveAt (c .geometry) → d′ j ≡ d j) → fileBytes c d′ i off n ≡ fileBytes c d i off n
-bytes-keep c d d′ i off n b h =
-    bytes-keep-at c d d′ i off n (λ k l. let q = sector-data c i ((off + k) / 512) b in h (sectorOf c i ((off + k) / 512)) (q .0) (q .1))
+-- a file's bytes, where no sector of the data area but staged copies changed
+pub bytes-keep : (L : Ledger) (img img′ : List ℕ) (rep : Rep L img) (c : Catalogue) → FreeIn c L
+    → ((j : ℕ) → dataAt (L .geometry) ≤ j → Unstaged (L .geometry) c j → view img′ j ≡ view img j)
+    → (i : ℕ) (f : File) → L .slots i ≡ some f → (b : ℕ) → b < f .entry .size
+    → view img′ (sectorOf (catalogue L) i (b / 512)) ≡ view img (sectorOf (catalogue L) i (b / 512))
+bytes-keep L img img′ rep c frees h i f has b l = let q = sector-data L img rep c frees i f has b l in h (sectorOf (catalogue L) i (b / 512)) (q .0) (q .1)
 
 pub marks-keep : (d d′ : Disk) (i : ℕ) → d′ (entryAt i) ≡ d (entryAt i) → fault21 d′ i ≡ fault21 d i
 unfolding fault21
 marks-keep d d′ i e = ap (λ (s : List ℕ). not (eqb (numberIn s (entryField .mark)) freeMark || isOccupied s)) e
 
--- THE FRAME: an image that shows the same sectors outside journal and reserve says the same
+-- THE FRAME: an image that shows the same sectors outside journal and staging extents says the same
 module _ (L : Ledger) (img img′ : List ℕ) (rep : Rep L img) (ready : Ready (L .geometry) img′)
-    (keeps : (j : ℕ) → Outside (L .geometry) j → view img′ j ≡ view img j) where
+    (keeps : (j : ℕ) → Outside (L .geometry) (catalogueOf (view img)) j → view img′ j ≡ view img j) where
   abbrev g : Geometry
   g = L .geometry
 
-  geo : UsableGeometry (L .geometry)
-  geo = rep-geometry L img rep
-
   same-zero : view img′ superblockAt ≡ view img 0
-  same-zero = keeps 0 (out-front g geo 0 (omega arith))
+  same-zero = keeps 0 (out-front g 0 (omega arith))
 
   same-cat : catalogueOf (view img′) ≡ catalogueOf (view img)
   unfolding catalogueOf
@@ -145,39 +193,56 @@ module _ (L : Ledger) (img img′ : List ℕ) (rep : Rep L img) (ready : Ready (
       let eg′ : geometryIn (view img′ superblockAt) ≡ g = ready .volume .geometry in
       λ i. record {
         geometry = ap geometryIn same-zero i;
-        root = ap₂ (λ (x : Geometry) (s : List ℕ). rootIn (x .edition) s) (ap geometryIn same-zero) (keeps 1 (out-front g geo 1 (omega arith))) i;
-        entries = fun-ext (λ k. entries-keep g (view img) (view img′) eg eg′ k (λ l. keeps (entryAt k) (out-front g geo (entryAt k) (omega arith)))) i;
-        table = fun-ext (λ e. table-keep g (view img) (view img′) eg eg′ e (λ l. keeps (tableSectorOf g e) (out-table g geo e l))) i;
+        root = ap₂ (λ (x : Geometry) (s : List ℕ). rootIn (x .edition) s) (ap geometryIn same-zero) (keeps 1 (out-front g 1 (omega arith))) i;
+        entries = fun-ext (λ k. entries-keep g (view img) (view img′) eg eg′ k (λ l. keeps (entryAt k) (out-front g (entryAt k) (omega arith)))) i;
+        table = fun-ext (λ e. table-keep g (view img) (view img′) eg eg′ e (λ l. keeps (tableSectorOf g e) (out-table g e l))) i;
       }
 
   pub rep-keep : Rep L img′
-  rep-keep =
-      let eg : catalogueOf (view img) .geometry ≡ g = disk-geometry L img rep in
-      record {
-        ready = ready;
-        bounded = rep .bounded;
-        faultless = rep .faultless;
-        disjoint = rep .disjoint;
-        sized = rep .sized;
-        says = says-of L img′ ready (ap (rootIn (g .edition)) (keeps 1 (out-front g geo 1 (omega arith))) ∙ rep .says .root)
-            (λ i l. marks-keep (view img) (view img′) i (keeps (entryAt i) (out-front g geo (entryAt i) (omega arith))) ∙ no-mark-fault L img (rep .says) i l)
-            (λ i. ap (λ (c : Catalogue). c .entries i) same-cat ∙ rep .says .directory i)
-            (λ e. ap (λ (c : Catalogue). c .table e) same-cat ∙ rep .says .table e)
-            (λ i f e.
-            ap (λ (c : Catalogue). fileBytes c (view img′) i 0 (f .entry .size)) same-cat
-            ∙ bytes-keep (catalogueOf (view img)) (view img) (view img′) i 0 (f .entry .size) (subst Bounded (sym eg) (rep .bounded))
-            (λ j p q. keeps j (out-data g geo j (subst (λ (x : Geometry). dataAt x ≤ j) eg p) (subst (λ (x : Geometry). j < reserveAt x) eg q)))
-            ∙ rep .says .bytes i f e);
-      }
+  rep-keep = record {
+    ready = ready;
+    bounded = rep .bounded;
+    faultless = rep .faultless;
+    disjoint = rep .disjoint;
+    sized = rep .sized;
+    says = says-of L img′ ready (ap (rootIn (g .edition)) (keeps 1 (out-front g 1 (omega arith))) ∙ rep .says .root)
+        (λ i l. marks-keep (view img) (view img′) i (keeps (entryAt i) (out-front g (entryAt i) (omega arith))) ∙ no-mark-fault L img (rep .says) i l)
+        (λ i. ap (λ (c : Catalogue). c .entries i) same-cat ∙ rep .says .directory i)
+        (λ e. ap (λ (c : Catalogue). c .table e) same-cat ∙ rep .says .table e)
+        (λ i f e.
+        ap (λ (c : Catalogue). fileBytes c (view img′) i 0 (f .entry .size)) (same-cat ∙ cat-is L img rep)
+        ∙ bytes-keep-at (catalogue L) (view img) (view img′) i 0 (f .entry .size) (λ b l. rw zero-add
+        (bytes-keep L img img′ rep (catalogueOf (view img)) (free-said L img rep) (λ j p q. keeps j (out-data g j p q)) i f e b l))
+        ∙ ap (λ (c : Catalogue). fileBytes c (view img) i 0 (f .entry .size)) (sym (cat-is L img rep)) ∙ rep .says .bytes i f e);
+  }
+
+-- a plan without data sectors, where the reserve is there
+pub targets-fit : (L : Ledger) (img : List ℕ) → Rep L img → lacksReserve (catalogue L) ≡ false → (ts : Group) → 0 < length ts → length ts ≤ mostTargets (L .geometry)
+    → All (Metadata (L .geometry)) ts → Rising 0 ts → All Whole ts → WellFormed (L .geometry) (view img) (record { dataSectors = []; targets = ts })
+targets-fit L img rep there ts nonempty most metadata rising whole = record {
+  geometry = disk-geometry L img rep;
+  there = ap lacksReserve (cat-is L img rep) ∙ there;
+  nonempty = nonempty;
+  few = copies-fit (L .geometry) (rep .bounded) (length ts) most;
+  journalled = count-waits (L .geometry) (rep .bounded) (length ts) most;
+  metadata = metadata;
+  rising = rising;
+  inData = tt;
+  unstaged = tt;
+  own = tt;
+  short = omega arith;
+  wholeData = tt;
+  wholeTargets = whole;
+}
 
 -- so a plan without data sectors that was cut before its start mark changes nothing that is said
 over-nil : (k : ℕ) (m : List Bool) (j : ℕ) (x : List ℕ) → over (partOf k m []) j x ≡ x
 over-nil zero m j x = ap (λ (l : Group). over l j x) (kept-nil m) ∙ over-none j x
 over-nil (suc k) m j x = over-none j x
 
-pub part-keeps : (L : Ledger) (img : List ℕ) (p : Plan) → Rep L img → WellFormed (L .geometry) p → p .dataSectors ≡ [] → (k : ℕ) (m : List Bool)
-    → Rep L (stored (partOf k m (A (L .geometry) p)) img)
+pub part-keeps : (L : Ledger) (img : List ℕ) (p : Plan) → Rep L img → WellFormed (L .geometry) (view img) p → p .dataSectors ≡ [] → (k : ℕ) (m : List Bool)
+    → Rep L (stored (partOf k m (A (L .geometry) (view img) p)) img)
 part-keeps L img p rep ok e k m =
     let s = rep-geometry L img rep in
-    rep-keep L img (stored (partOf k m (A (L .geometry) p)) img) rep (ready-part (L .geometry) img p s ok (rep .ready) k m)
-    (λ j o. part-at (L .geometry) p s ok img (rep .ready) k m j o ∙ ap (λ (f : Group). over (partOf k m f) j (view img j)) e ∙ over-nil k m j (view img j))
+    rep-keep L img (stored (partOf k m (A (L .geometry) (view img) p)) img) rep (ready-part (L .geometry) img p s ok (rep .ready) k m)
+    (λ j o. part-at (L .geometry) img p s ok (rep .ready) k m j o ∙ ap (λ (f : Group). over (partOf k m f) j (view img j)) e ∙ over-nil k m j (view img j))

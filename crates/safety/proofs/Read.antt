@@ -1,10 +1,11 @@
 -- What read has to show: the ledger's answer and the file's bytes. (Its effect stands in `Access`.) Assumes nothing.
 use Prim.Native.Nat.{ℕ, zero, suc, _+_, _*_, _≤_}
 use mathlib.Core.Path.{_≡_, refl, sym, ap, ap₂, _∙_}
-use mathlib.Core.Bool.{Bool, true, false, cond, false≢true}
+use mathlib.Core.Bool.{Bool, true, false, cond, _&&_, false≢true}
 use mathlib.Core.List.{List, [], _∷_, _++_}
 use mathlib.Core.Option.{Option, none, some}
 use native.Mathlib.Omega.{arith}
+use lib.Dec.{ltb}
 use lib.ListN.{length}
 use borrow.Author.Tests.{ltb-false, not-false}
 use Rattle.model.specs.declared.BytesRead.{BytesRead}
@@ -12,18 +13,18 @@ use Rattle.model.specs.declared.Verdict.{Verdict}
 use Rattle.model.specs.Bytes.{bytesFrom}
 use Rattle.model.specs.Search.{tabulate, isAt, indexOf}
 use Rattle.model.specs.Disk.{Disk, view}
-use Rattle.model.specs.Catalogue.{Catalogue, catalogueOf, hasName, fileNamed, entryOf, entryOr, fileByte, fileBytes}
-use Rattle.model.specs.Refusals.{Conditions, verdictOf, given, isDone}
-use Rattle.model.specs.WriteList.{Plan, groupsFor, listLength, recordSize, recordCount, Decision, ownVerdict}
-use Rattle.model.specs.Read.{readCount, sizeNamed, readConditions, readPlan, readDecision, notRead, readOf, readAnswer, readGives}
-use Rattle.model.specs.Ledger.{Ledger, File, fileOr, entryOfFile, catalogue, read, gave, numbered, refused, step, answer}
+use Rattle.model.specs.Catalogue.{Catalogue, catalogueOf, lacksReserve, hasName, fileNamed, entryOf, entryOr, fileByte, fileBytes}
+use Rattle.model.specs.Refusals.{Conditions, verdictOf, given, isDone, refusal}
+use Rattle.model.specs.WriteList.{Plan, groupsFor, listLength, recordSize, recordCount, Decision, isPlanned}
+use Rattle.model.specs.Read.{readCount, sizeNamed, readConditions, readPlan, readPlanned, readDecision, notRead, readOf, readAnswer, readGives}
+use Rattle.model.specs.Ledger.{Ledger, File, fileOr, entryOfFile, catalogue, read, gave, numbered, refused, accessRecords, step, answer}
 use Rattle.model.specs.Run.{volumeAnswer, onVolume}
 use Rattle.laws.proofs.Search.{getD-tab0}
 use Rattle.laws.proofs.WriteList.{plan-needs}
-use Rattle.safety.proofs.OwnWords.{named-is, entry-is, file-is, entry-named, time-is, name-is, answers}
+use Rattle.safety.proofs.OwnWords.{named-is, entry-is, file-is, entry-named, time-is, name-is, frozen-is, answers}
 use Rattle.safety.proofs.Searches.{place-found}
 use Rattle.safety.proofs.Rep.{Rep, cat-is}
-use Rattle.safety.proofs.Changing.{Passed, passed-by, earlier-done, Judges, decision-is, own-is, given-is}
+use Rattle.safety.proofs.Changing.{Passed, passed-by, earlier-done, Judges, own, decision-is, own-is, given-is}
 
 bytesFrom-tabulate : (f : ℕ → ℕ) (size off n : ℕ) → off + n ≤ size → bytesFrom (tabulate f 0 size) off n ≡ tabulate f off n
 unfolding bytesFrom tabulate
@@ -47,6 +48,20 @@ pub size-is : (o : Option File) → entryOr (entryOfFile o) .size ≡ fileOr o .
 size-is none = refl
 size-is (some f) = refl
 
+-- a plan with the access time, none where the reserve isn't there: it never lacks the reserve, and its list's length
+pub access-never : (b : Bool) (p : Plan) → (isPlanned (cond b none (some p)) && b) ≡ false
+access-never true p = refl
+access-never false p = refl
+
+pub access-size : (L : Ledger) (d : Disk) (p : Plan) → recordCount (length (p .dataSectors)) (length (p .targets)) ≡ recordCount 0 1
+    → listLength (groupsFor d (cond (lacksReserve (catalogue L)) none (some p))) ≡ accessRecords L * recordSize
+unfolding groupsFor
+access-size L d p e = go (lacksReserve (catalogue L)) ∙ ap (λ (b : Bool). cond b 0 (recordCount 0 1) * recordSize) (sym (frozen-is L))
+  where
+    go : (b : Bool) → listLength (groupsFor d (cond b none (some p))) ≡ cond b 0 (recordCount 0 1) * recordSize
+    go true = refl
+    go false = plan-needs d p ∙ ap (λ n. n * recordSize) e
+
 module _ (L : Ledger) (img : List ℕ) (rep : Rep L img) (name : List ℕ) (offset asked time room space : ℕ) where
   abbrev i : ℕ
   i = indexOf (fileNamed (catalogue L) name)
@@ -61,29 +76,31 @@ module _ (L : Ledger) (img : List ℕ) (rep : Rep L img) (name : List ℕ) (offs
   conditions x = readConditions x name offset asked time room
 
   abbrev plan : Catalogue → Option Plan
-  plan x = some (readPlan x (view img) (indexOf (fileNamed x name)) time)
+  plan x = readPlanned x (view img) (indexOf (fileNamed x name)) time
 
   pub read-judges : Judges L img (read name offset asked time room space) (λ x. readConditions x name offset asked time room)
-      (λ x. some (readPlan x (view img) (indexOf (fileNamed x name)) time)) space (recordCount 0 1)
-  unfolding readConditions sizeNamed step catalogue readPlan
+      (λ x. readPlanned x (view img) (indexOf (fileNamed x name)) time) space (accessRecords L)
+  unfolding readConditions sizeNamed step catalogue readPlanned readPlan verdictOf
   read-judges = record {
-    conditions = rw (time-is L time, name-is L name, named-is L name, entry-named L name);
+    conditions = ap (λ (b : Bool). verdictOf (conditions (catalogue L) ++ ((b, refusal 13) ∷ (ltb space (accessRecords L * recordSize), refusal 14) ∷ [])))
+        (access-never (lacksReserve (catalogue L)) (readPlan (catalogue L) (view img) i time))
+        ∙ rw (time-is L time, name-is L name, named-is L name, entry-named L name);
     refusing = refl;
-    size = plan-needs (view img) (readPlan (catalogue L) (view img) i time);
+    size = access-size L (view img) (readPlan (catalogue L) (view img) i time) refl;
   }
 
   abbrev v : Verdict
-  v = ownVerdict (readConditions (catalogue L) name offset asked time room) space (recordCount 0 1 * recordSize)
+  v = own L img rep (read name offset asked time room space) conditions plan space (accessRecords L)
 
   abbrev answered : Bool → Verdict → BytesRead
-  answered b w = cond b (record { verdict = w; count = n; length = recordCount 0 1 * recordSize }) (notRead w)
+  answered b w = cond b (record { verdict = w; count = n; length = accessRecords L * recordSize }) (notRead w)
 
   answer-is : readAnswer (length img) (view img) name offset asked time room space ≡ answered (isDone v) v
   unfolding readAnswer readDecision readOf
   answer-is =
-      ap (λ (x : Decision). readOf x (view img) name offset asked) (decision-is L img rep (read name offset asked time room space) conditions plan space (recordCount 0 1) read-judges)
+      ap (λ (x : Decision). readOf x (view img) name offset asked) (decision-is L img rep (read name offset asked time room space) conditions plan space (accessRecords L) read-judges)
       ∙ ap (λ (x : Catalogue). given v (record { verdict = v; count = readCount (sizeNamed x name) offset asked; length = listed (isDone v) }) notRead) (cat-is L img rep)
-      ∙ given-is L img rep (read name offset asked time room space) conditions plan space (recordCount 0 1) read-judges
+      ∙ given-is L img rep (read name offset asked time room space) conditions plan space (accessRecords L) read-judges
       (λ m. record { verdict = v; count = n; length = m }) notRead
     where
       listed : Bool → ℕ
@@ -116,7 +133,7 @@ module _ (L : Ledger) (img : List ℕ) (rep : Rep L img) (name : List ℕ) (offs
           sym (bytes-from (catalogueOf (view img)) (view img) i (f .entry .size) offset m h) ∙ ap (λ (b : List ℕ). bytesFrom b offset m) (rep .says .bytes i f there)
 
   -- as the ledger's words say it
-  reply-is : gave (record { verdict = numbered 0; count = n; length = recordCount 0 1 * recordSize }) (bytesFrom (f .bytes) offset n) ≡ step (read name offset asked time room space) L .reply
+  reply-is : gave (record { verdict = numbered 0; count = n; length = accessRecords L * recordSize }) (bytesFrom (f .bytes) offset n) ≡ step (read name offset asked time room space) L .reply
   unfolding sizeNamed step
   reply-is = rw (file-is L name, entry-is L i)
 
@@ -134,4 +151,4 @@ module _ (L : Ledger) (img : List ℕ) (rep : Rep L img) (name : List ℕ) (offs
       ∙ given-bytes (answered (isDone v) v .count) refl ∙ given-none (isDone v))
       ∙ answers (step (read name offset asked time room space) L)
       (λ b w. gave (answered b w) (cond b (bytesFrom (f .bytes) offset n) []))
-      reply-is (λ m. ap (refused m) reply-is) v (own-is L img rep (read name offset asked time room space) conditions plan space (recordCount 0 1) read-judges)
+      reply-is (λ m. ap (refused m) reply-is) v (own-is L img rep (read name offset asked time room space) conditions plan space (accessRecords L) read-judges)

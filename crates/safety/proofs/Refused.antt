@@ -4,7 +4,7 @@ use mathlib.Core.Path.{_≡_, refl, ap, _∙_}
 use mathlib.Core.Logic.{_≢_}
 use mathlib.Core.Bool.{Bool, false, cond}
 use mathlib.Core.List.{List, []}
-use mathlib.Core.Option.{Option, none, some}
+use mathlib.Core.Option.{Option, none}
 use lib.ListN.{length}
 use borrow.Author.Tests.{ne-eqb}
 use Rattle.model.specs.declared.Verdict.{Verdict}
@@ -14,11 +14,11 @@ use Rattle.model.specs.Search.{tabulate, indexOf}
 use Rattle.model.specs.Disk.{Disk, view}
 use Rattle.model.specs.Refusals.{Conditions, verdictOf, andThen, given, isDone, judged}
 use Rattle.model.specs.Catalogue.{catalogueOf, fileNamed, entryOf, fileBytes}
-use Rattle.model.specs.WriteList.{Plan, Decision, groupsFor, listLength, ownVerdict, decided, answerOf, listAfter}
+use Rattle.model.specs.WriteList.{Plan, Decision, groupsFor, planConditions, decided, answerOf, listAfter}
 use Rattle.model.specs.Summary.{checkAnswer}
 use Rattle.model.specs.Find.{nameConditions, notFound, foundBy, findAnswer}
-use Rattle.model.specs.Listing.{notListed, listPlan, listDecision, listedOf, copiedOf, listAnswer, listCopies, listOutput, listingList}
-use Rattle.model.specs.Read.{notRead, readPlan, readDecision, readOf, readAnswer, readGives, readOutput, readList}
+use Rattle.model.specs.Listing.{notListed, listPlanned, listDecision, listedOf, copiedOf, listAnswer, listCopies, listOutput, listingList}
+use Rattle.model.specs.Read.{notRead, readPlanned, readDecision, readOf, readAnswer, readGives, readOutput, readList}
 use Rattle.model.specs.Create.{createDecision, createAnswer, createList}
 use Rattle.model.specs.Delete.{deleteDecision, deleteAnswer, deleteList}
 use Rattle.model.specs.Resize.{resizeDecision, resizeAnswer, resizeList}
@@ -52,7 +52,7 @@ module _ (img : List ℕ) (ne : checkAnswer (length img) (view img) .verdict .nu
   decides : (cs : Conditions) (plan : Option Plan) (room : ℕ) → decided (length img) (view img) cs plan room ≡ record { verdict = judged (length img) (view img); plan = none }
   unfolding decided
   decides cs plan room =
-      let later = ownVerdict cs room (listLength (groupsFor d plan)) in
+      let later = andThen (verdictOf cs) (verdictOf (planConditions d plan room)) in
       (λ i. record { verdict = refused-then v later no i; plan = cond (isDone (refused-then v later no i)) plan none })
       ∙ (λ i. record { verdict = v; plan = cond (no i) plan none })
 
@@ -72,7 +72,7 @@ module _ (img : List ℕ) (ne : checkAnswer (length img) (view img) .verdict .nu
       × (listOutput (length img) (view img) i time out (length list) ≡ out) × (listingList (length img) (view img) i time (length out) list ≡ list)
   unfolding listAnswer listDecision listedOf listOutput listCopies copiedOf listingList
   refuses-list i time out list =
-      let x = decides _ (some (listPlan (catalogueOf d) d time)) (length list) in (
+      let x = decides _ (listPlanned (catalogueOf d) d time) (length list) in (
         ap (λ (y : Decision). listedOf y d i) x ∙ given-refused v _ notListed no,
         ap (λ (y : Decision). put out 0 (copiedOf y d i)) x ∙ ap (put out 0) (given-refused v (entryOf (catalogueOf d) i .name) (λ u. []) no) ∙ put-nil out 0,
         refuses-change _ list x .1,
@@ -85,7 +85,7 @@ module _ (img : List ℕ) (ne : checkAnswer (length img) (view img) .verdict .nu
   unfolding readAnswer readDecision readOf readOutput readGives fileBytes tabulate readList
   refuses-read name offset asked time out list =
       let i = indexOf (fileNamed (catalogueOf d) name) in
-      let x = decides _ (some (readPlan (catalogueOf d) d i time)) (length list) in
+      let x = decides _ (readPlanned (catalogueOf d) d i time) (length list) in
       let e = ap (λ (y : Decision). readOf y d name offset asked) x ∙ given-refused v _ notRead no in
       (e, ap (λ (r : BytesRead). put out 0 (fileBytes (catalogueOf d) d i offset (r .count))) e ∙ put-nil out 0, refuses-change _ list x .1)
 

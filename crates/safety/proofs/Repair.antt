@@ -1,6 +1,6 @@
 -- THE CLAIMS OF REQUEST T-06 about an accepted repair, carried out whole, on an image of bytes.
 --   `keeps-entry`, `keeps-data`, `keeps-bytes`, `keeps-named`   no byte of a file changes, nor its entry: of a file free of faults, and of
---                      every other too
+--                      every other that lacks no extent; nor any byte of an extent that was not free
 --   `keeps-extents`    a file without fault 26 keeps each of its table entries
 --   `keeps-faultless`  the request's words: a file free of faults is the same
 --   `sound-exactly`    the volume is sound afterwards exactly if it had no fault 21 to 24 and no occupied file lacked an extent
@@ -9,60 +9,69 @@
 --   `again-none`, `again-answer`, `again-list`    repairing again gives an empty list
 --   `repair-bytes`, `repair-carried`   the repaired image is that on which the bytes of its list were carried out
 --   `sound-alone`, `run-alone`   a sound volume is left alone, and so is every volume of a run
+--   `repair-13`        T-12: it is refused 13 exactly if it has a target and fewer than K extents are free; `refused-same`: then nothing changes
 -- Assumes nothing.
-use Prim.Native.Nat.{ℕ, _+_, _*_, _-_, _/_, _%_, _≤_, _<_}
+use Prim.Native.Nat.{ℕ, _+_, _*_, _-_, _/_, _%_, _<_}
 use mathlib.Core.Path.{_≡_, refl, sym, ap, _∙_, subst}
-use mathlib.Core.Bool.{Bool, true, false, cond, not, _&&_, _||_, true≢false, false≢true}
+use mathlib.Core.Logic.{_≢_, _↔_}
+use mathlib.Core.Bool.{Bool, true, false, cond, not, _&&_, true≢false, false≢true}
 use mathlib.Core.List.{List}
 use mathlib.Core.Option.{Option, none, some, Option·none-ne-some}
 use native.Mathlib.Omega.{arith}
-use lib.Dec.{leb, ltb}
+use lib.Dec.{ltb}
 use lib.ListN.{length, getD}
-use borrow.Author.Tests.{eqb-true, leb-true, ltb-true, le-ltb, not-false}
+use borrow.Author.Tests.{eqb-true, eq-eqb, ne-eqb, ltb-true, le-ltb, not-false}
 use Rattle.model.specs.declared.Geometry.{Geometry}
 use Rattle.model.specs.declared.Lowest.{Lowest}
 use Rattle.model.specs.declared.Lowest.the-variants.{At, Nowhere}
 use Rattle.model.specs.declared.Soundness.{Soundness}
-use Rattle.model.specs.declared.Soundness.the-variants.{Sound}
+use Rattle.model.specs.declared.Soundness.the-variants.{Sound, Faulty}
+use Rattle.model.specs.declared.State.{State}
+use Rattle.model.specs.declared.State.the-variants.{Clean, Waiting, Damaged, Unfinished}
 use Rattle.model.specs.declared.Verdict.{Verdict}
 use Rattle.model.specs.declared.Checked.{Checked}
 use Rattle.model.specs.Bytes.{bytesFrom}
-use Rattle.model.specs.Search.{first, anyBelow}
-use Rattle.model.specs.Geometry.{superblockAt, entryAt, usable, extentSectors, extentsFor, extentAt, dataAt, reserveAt}
-use Rattle.model.specs.Disk.{view}
+use Rattle.model.specs.Search.{first, anyBelow, countBelow, isAt}
+use Rattle.model.specs.Geometry.{superblockAt, entryAt, extentSectors, extentsFor, extentAt}
+use Rattle.model.specs.Disk.{Disk, view}
 use Rattle.model.specs.Entry.{Entry, entryIn, isOccupied}
 use Rattle.model.specs.Superblock.{geometryIn, stateOn}
-use Rattle.model.specs.Catalogue.{Catalogue, Owner, catalogueOf, isFree, hasName, isPart, entryOf, entryOr, fileNamed, sectorOf, fileByte, fileBytes}
+use Rattle.model.specs.Catalogue.{Catalogue, Owner, catalogueOf, isFree, lacksReserve, hasName, isPart, entryOf, entryOr, fileNamed, extentOf, sectorOf, fileByte, fileBytes}
 use Rattle.model.specs.Faults.{holdsOf, fault21, fault22, fault23, fault24, fault25, fault26, exact, orElse, faultsIn, firstFault}
 use Rattle.model.specs.Refusals.{verdictOf, andThen, isDone, given, done, refusal, imageVerdict, stateNumber, faultVerdict, soundVerdict, judged}
-use Rattle.model.specs.WriteList.{Plan, Group, groupsFor, listLength, listBytes, emit, closed, Decision, listAfter}
+use Rattle.model.specs.WriteList.{Plan, Group, isPlanned, planConditions, stored, groupsFor, listLength, listBytes, emit, closed, Decision, listAfter}
 use Rattle.model.specs.CarryOut.{carryImage}
 use Rattle.model.specs.Summary.{checkAnswer}
 use Rattle.model.specs.Ledger.{Ledger, Feed, Answer, ledgerFrom, answersFrom}
 use Rattle.model.specs.Run.{Phase, steady, RunFrom}
 use Rattle.model.specs.Demand3.{Settled, RecoveryAnswers, SliceAnswers}
 use Rattle.model.specs.Opened.{Bounded}
-use Rattle.model.specs.Repair.{isStray, strays, repaired, takenReserve, repairPlan, repairPlanned, reserveVerdict, repairVerdict, repairDecision, doneBut, repairAnswer, notRepaired, repairList}
-use Rattle.laws.proofs.Booleans.{and-false, or-none}
-use Rattle.laws.proofs.Count.{countBelow-none}
+use Rattle.model.specs.Repair.{isStray, strays, repaired, repairPlan, repairPlanned, repairVerdict, repairDecision, doneBut, repairAnswer, notRepaired, repairList}
+use Rattle.laws.proofs.Booleans.{and-left, and-right, and-yes}
+use Rattle.laws.proofs.Count.{countBelow-none, countBelow-anyBelow}
 use Rattle.laws.proofs.Judged.{judged-sound}
 use Rattle.laws.proofs.Repaired.{strayBy, extent-repaired, stray-again, repaired-again, fault25-repaired, exact-repaired, exact-kept}
-use Rattle.laws.proofs.Search.{Hit, scan-hit, first-none, first-ext, first-missed, allBelow-yes, allBelow-at, anyBelow-no, tabulate-ext}
+use Rattle.laws.proofs.Search.{Hit, scan-hit, first-ext, first-missed, allBelow-yes, allBelow-at, anyBelow-no, tabulate-ext}
+use Rattle.laws.proofs.Seeking.{anyBelow-first}
+use Rattle.laws.proofs.Staging.{InExtent}
 use Rattle.laws.proofs.WriteList.{emit-nil}
 use Rattle.safety.specs.Described.{ledgerOf, SoundAs, SoundRun, SoundDemand3}
 use Rattle.safety.specs.Naming.{contentsAt, fileOn}
-use Rattle.safety.specs.Repairing.{OfBytes, Repairs, repairedImage, Mendable, FreeOfFaults, Same}
+use Rattle.safety.specs.Room.{Frozen}
+use Rattle.safety.specs.Repairing.{OfBytes, Repairs, repairedImage, Complete, Mendable, FreeOfFaults, Same}
+use Rattle.safety.proofs.Searches.{place-found}
 use Rattle.safety.proofs.Superblock.{volume-accepted}
 use Rattle.safety.proofs.Rep.{NoFaults, sound-of}
-use Rattle.safety.proofs.Preserved.{sector-data, marks-keep}
-use Rattle.safety.proofs.Extents.{sector-held}
-use Rattle.safety.proofs.Changing.{earlier-done}
+use Rattle.safety.proofs.Preserved.{marks-keep}
+use Rattle.safety.proofs.Extents.{part-owner, exact-one, sector-held, rest-lt}
+use Rattle.safety.proofs.Commit.{stored-none}
+use Rattle.safety.proofs.Changing.{earlier-done, later-done}
 use Rattle.safety.proofs.Bridge.{emitted-bytes}
-use Rattle.safety.proofs.Changing.{later-done}
 use Rattle.safety.proofs.Passes.{none-found, no-faults}
 use Rattle.safety.proofs.Theorem.{sound-demand3, restarted}
 use Rattle.safety.proofs.Corollaries.{sound}
-use Rattle.safety.proofs.RepairDone.{Passes, Leaves, passes, leaves, carries, long-enough, verdict-done, unstrayed-same}
+use Rattle.safety.proofs.NoRoom.{not-13, last-13, frozen-on}
+use Rattle.safety.proofs.RepairDone.{clean-by, Passes, Leaves, passes, leaves, carries, long-enough, verdict-done, unstrayed-same}
 
 module _ (img : List ℕ) (room : ℕ) (bytes : OfBytes img) (accepted : Repairs img room) where
   abbrev out : List ℕ
@@ -89,55 +98,76 @@ module _ (img : List ℕ) (room : ℕ) (bytes : OfBytes img) (accepted : Repairs
   pub keeps-entry : (i : ℕ) → i < geometryIn (view img superblockAt) .files → view (repairedImage img room) (entryAt i) ≡ view img (entryAt i)
   keeps-entry i l = after .front (entryAt i) (omega arith) (omega arith)
 
-  -- every sector of a usable extent is what it was
-  pub keeps-data : (j : ℕ) → dataAt (geometryIn (view img superblockAt)) ≤ j → j < reserveAt (geometryIn (view img superblockAt)) → view (repairedImage img room) j ≡ view img j
-  keeps-data j a b = after .files j a b
+  -- every sector of an extent that was not free is what it was
+  pub keeps-data : (e j : ℕ) → isFree (catalogueOf (view img) .table e) ≡ false → InExtent (geometryIn (view img superblockAt)) e j → view (repairedImage img room) j ≡ view img j
+  keeps-data e j f h = after .files e j f h
 
   keeps-sector : (i : ℕ) (x : Entry) → c .entries i ≡ some x → (s : ℕ) → 512 * s < x .size → sectorOf (repaired c) i s ≡ sectorOf c i s
   unfolding sectorOf repaired catalogueOf
   keeps-sector i x has s l =
       ap (λ e. extentAt g e + s % extentSectors g) (extent-repaired c i x has (s / extentSectors g) (sector-held g bounded (x .size) s l))
 
-  -- by the index of a file
-  pub keeps-bytes : (i : ℕ) (x : Entry) → catalogueOf (view img) .entries i ≡ some x
+  -- by the index of a file that lacks no extent
+  pub keeps-bytes : (i : ℕ) (x : Entry) → catalogueOf (view img) .entries i ≡ some x → Complete (view img) i x
       → fileBytes (catalogueOf (view (repairedImage img room))) (view (repairedImage img room)) i 0 (x .size) ≡ fileBytes (catalogueOf (view img)) (view img) i 0 (x .size)
-  unfolding fileBytes fileByte catalogueOf
-  keeps-bytes i x has =
+  unfolding fileBytes fileByte catalogueOf sectorOf extentOf
+  keeps-bytes i x has complete =
       ap (λ (k : Catalogue). fileBytes k (view out) i 0 (x .size)) (after .says)
       ∙ tabulate-ext (fileByte (repaired c) (view out) i) (fileByte c (view img) i) 0 0 (x .size) (λ k l. at (0 + k) (omega arith))
     where
       at : (k : ℕ) → k < x .size → fileByte (repaired c) (view out) i k ≡ fileByte c (view img) i k
       at k l =
-          let q = sector-data c i (k / 512) (pass .bounded) in
-          ap (λ s. getD (view out s) (k % 512) 0) (keeps-sector i x has (k / 512) (omega arith))
-          ∙ ap (λ (s : List ℕ). getD s (k % 512) 0) (after .files (sectorOf c i (k / 512)) (q .0) (q .1))
+          let s = k / 512 in
+          let o = s / extentSectors g in
+          let p : ℕ → Bool = λ e. isPart i o (c .table e) in
+          let there : isAt (first p (g .extents)) ≡ true = sym (anyBelow-first p (g .extents)) ∙ complete o (sector-held g bounded (x .size) s (omega arith)) in
+          ap (λ j. getD (view out j) (k % 512) 0) (keeps-sector i x has s (omega arith))
+          ∙ ap (λ (b : List ℕ). getD b (k % 512) 0)
+          (after .files (extentOf c i o) (sectorOf c i s) (ap isFree (part-owner i o (c .table (extentOf c i o)) (place-found p (g .extents) there .1)))
+          (omega arith, omega (arith, rest-lt g bounded s)))
 
   -- by a name: the file is where it was, and its entry and bytes are what they were
-  pub keeps-named : (name : List ℕ) → fileOn (repairedImage img room) name ≡ fileOn img name
+  pub keeps-named : (name : List ℕ)
+      → ((i : ℕ) (x : Entry) → fileNamed (catalogueOf (view img)) name ≡ At i → catalogueOf (view img) .entries i ≡ some x → Complete (view img) i x)
+      → fileOn (repairedImage img room) name ≡ fileOn img name
   unfolding fileOn fileNamed entryOf repaired
-  keeps-named name =
+  keeps-named name complete =
       ap (λ (k : Catalogue). contentsAt (view out) (fileNamed k name)) (after .says)
-      ∙ go (fileNamed c name) (scan-hit (λ i. hasName name (c .entries i)) (c .geometry .files - 0) 0)
+      ∙ go (fileNamed c name) (scan-hit (λ i. hasName name (c .entries i)) (c .geometry .files - 0) 0) refl
     where
       there : (o : Option Entry) → hasName name o ≡ true → o ≡ some (entryOr o)
       there none e = absurd (false≢true e)
       there (some x) e = refl
 
-      go : (r : Lowest) → Hit (λ i. hasName name (c .entries i)) (c .geometry .files - 0) 0 r → contentsAt (view out) r ≡ contentsAt (view img) r
-      go Nowhere h = refl
-      go (At i) h =
+      go : (r : Lowest) → Hit (λ i. hasName name (c .entries i)) (c .geometry .files - 0) 0 r → fileNamed c name ≡ r → contentsAt (view out) r ≡ contentsAt (view img) r
+      go Nowhere h q = refl
+      go (At i) h q =
+          let has = there (c .entries i) (h .2) in
           ap (λ (k : Catalogue). some (record { entry = entryOr (k .entries i); bytes = fileBytes (catalogueOf (view out)) (view out) i 0 (entryOr (k .entries i) .size) })) (after .says)
-          ∙ ap (λ (b : List ℕ). some (record { entry = entryOr (c .entries i); bytes = b })) (keeps-bytes i (entryOr (c .entries i)) (there (c .entries i) (h .2)))
+          ∙ ap (λ (b : List ℕ). some (record { entry = entryOr (c .entries i); bytes = b })) (keeps-bytes i (entryOr (c .entries i)) has (complete i (entryOr (c .entries i)) q has))
 
-  -- and of a file without fault 26 each table entry
+  -- a file without fault 26 has exactly its extents, so it lacks none
+  exact-by : (i : ℕ) (x : Entry) → c .entries i ≡ some x → fault26 c i ≡ false → exact c i (extentsFor (c .geometry) (x .size)) ≡ true
+  unfolding fault26
+  exact-by i x has f = not-false _ (sym (ap (λ (o : Option Entry). holdsOf o (λ y. not (exact c i (extentsFor (c .geometry) (y .size))))) has) ∙ f)
+
+  complete-by : (i : ℕ) (x : Entry) → c .entries i ≡ some x → fault26 c i ≡ false → Complete (view img) i x
+  complete-by i x has f o l = go (anyBelow p (c .geometry .extents)) refl
+    where
+      p : ℕ → Bool
+      p e = isPart i o (c .table e)
+
+      go : (b : Bool) → anyBelow p (c .geometry .extents) ≡ b → b ≡ true
+      go true q = refl
+      go false q = absurd (omega (arith, exact-one c i (extentsFor (c .geometry) (x .size)) (exact-by i x has f) o l, countBelow-none p (c .geometry .extents) q))
+
+  -- and it keeps each table entry
   pub keeps-extents : (i : ℕ) (x : Entry) → catalogueOf (view img) .entries i ≡ some x → fault26 (catalogueOf (view img)) i ≡ false
       → (e : ℕ) → e < catalogueOf (view img) .geometry .extents → (w : Owner) → catalogueOf (view img) .table e ≡ some w → w .file ≡ i
       → catalogueOf (view (repairedImage img room)) .table e ≡ catalogueOf (view img) .table e
-  unfolding fault26 repaired
+  unfolding repaired
   keeps-extents i x has f e l w z q =
-      let ex : exact c i (extentsFor (c .geometry) (x .size)) ≡ true =
-      not-false _ (sym (ap (λ (o : Option Entry). holdsOf o (λ y. not (exact c i (extentsFor (c .geometry) (y .size))))) has) ∙ f) in
-      ap (λ (k : Catalogue). k .table e) (after .says) ∙ ap (λ (b : Bool). cond b none (c .table e)) (exact-kept c i x has ex e l w z q)
+      ap (λ (k : Catalogue). k .table e) (after .says) ∙ ap (λ (b : Bool). cond b none (c .table e)) (exact-kept c i x has (exact-by i x has f) e l w z q)
 
   -- the claim of the request
   pub keeps-faultless : (i : ℕ) (x : Entry) → i < catalogueOf (view img) .geometry .files → catalogueOf (view img) .entries i ≡ some x → FreeOfFaults (view img) i
@@ -146,7 +176,7 @@ module _ (img : List ℕ) (room : ℕ) (bytes : OfBytes img) (accepted : Repairs
   keeps-faultless i x l has f = record {
     entry = keeps-entry i l;
     extents = λ e w m z q. keeps-extents i x has (f .f26) e m w z q ∙ z;
-    bytes = keeps-bytes i x has;
+    bytes = keeps-bytes i x has (complete-by i x has (f .f26));
   }
 
   -- ---- SOUND AFTERWARDS EXACTLY IF
@@ -172,7 +202,7 @@ module _ (img : List ℕ) (room : ℕ) (bytes : OfBytes img) (accepted : Repairs
   unfolding repaired fault22 fault23 fault24 fault26
   mended m =
       sound-of (view out) (repaired c) (after .says) (λ i l. marks-same i l ∙ m .f21 i l)
-      (record { f22 = m .f22; f23 = m .f23; f24 = m .f24; f25 = λ e l. fault25-repaired c e (pass .reserve e); f26 = λ i l. whole i l (c .entries i) refl })
+      (record { f22 = m .f22; f23 = m .f23; f24 = m .f24; f25 = λ e l. fault25-repaired c e; f26 = λ i l. whole i l (c .entries i) refl })
     where
       whole : (i : ℕ) → i < c .geometry .files → (o : Option Entry) → c .entries i ≡ o → holdsOf o (λ x. not (exact (repaired c) i (extentsFor (c .geometry) (x .size)))) ≡ false
       whole i l none z = refl
@@ -255,27 +285,11 @@ module _ (img : List ℕ) (room : ℕ) (bytes : OfBytes img) (accepted : Repairs
     unfolding repairPlanned
     nothing-planned = ap (λ (b : Bool). cond b (some (repairPlan found (view out))) none) nothing-stray
 
-    -- the reserve is free still
-    reserve-free : takenReserve (catalogueOf (view out)) ≡ Nowhere
-    unfolding takenReserve repaired
-    reserve-free =
-        ap takenReserve (after .says)
-        ∙ first-none (λ e. leb (usable (c .geometry)) e && not (isFree (cond (isStray c e) none (c .table e)))) (c .geometry .extents) (λ e l. go e (leb (usable (c .geometry)) e) refl)
-      where
-        dropped : (b : Bool) (t : Option Owner) → t ≡ none → not (isFree (cond b none t)) ≡ false
-        dropped true t z = refl
-        dropped false t z = ap (λ (u : Option Owner). not (isFree u)) z
-
-        go : (e : ℕ) (b : Bool) → leb (usable (c .geometry)) e ≡ b → (b && not (isFree (cond (isStray c e) none (c .table e)))) ≡ false
-        go e true q = dropped (isStray c e) (c .table e) (pass .reserve e (leb-true (usable (c .geometry)) e q))
-        go e false q = refl
-
     verdict-again : repairVerdict (length out) (view out) room′ ≡ done
-    unfolding repairVerdict verdictOf groupsFor
+    unfolding repairVerdict planConditions verdictOf groupsFor
     verdict-again =
         let v = volume-accepted g (length out) (view out) (after .ready .volume) in
-        (λ i. andThen (v i) (andThen (refusal (stateNumber (after .ready .clean i))) (andThen (reserveVerdict (reserve-free i))
-        (cond (ltb room′ (listLength (groupsFor (view out) (nothing-planned i)))) (refusal 14) done))))
+        (λ i. andThen (v i) (andThen (refusal (stateNumber (after .ready .clean i))) (verdictOf (planConditions (view out) (nothing-planned i) room′))))
         ∙ ap (λ (b : Bool). cond b (refusal 14) done) (le-ltb room′ 0 (omega arith))
 
     pub again-none : repairDecision (length (repairedImage img room)) (view (repairedImage img room)) room′ ≡ record { verdict = done; plan = none }
@@ -334,10 +348,10 @@ sound-unstrayed c h inside e l = by (c .table e) refl (h .f25 e l)
     occupied none q = absurd (true≢false q)
     occupied (some x) q = refl
 
-    by : (t : Option Owner) → c .table e ≡ t → holdsOf t (λ w. isFree (c .entries (w .file)) || leb (usable (c .geometry)) e) ≡ false → isStray c e ≡ false
+    by : (t : Option Owner) → c .table e ≡ t → holdsOf t (λ w. isFree (c .entries (w .file))) ≡ false → isStray c e ≡ false
     by none z q = ap (λ (t : Option Owner). holdsOf t (strayBy c e)) z
     by (some w) z q =
-        let has = occupied (c .entries (w .file)) (or-none (isFree (c .entries (w .file))) (leb (usable (c .geometry)) e) q .0) in
+        let has = occupied (c .entries (w .file)) q in
         let x = entryOr (c .entries (w .file)) in
         exact-kept c (w .file) x has
         (not-false _ (sym (ap (λ (o : Option Entry). holdsOf o (λ y. not (exact c (w .file) (extentsFor (c .geometry) (y .size))))) has) ∙ h .f26 (w .file) (inside (w .file) x has)))
@@ -370,24 +384,12 @@ module _ (img : List ℕ) (room : ℕ) (checks : checkAnswer (length img) (view 
   unfolding repairPlanned
   unplanned = ap (λ (b : Bool). cond b (some (repairPlan s (view img))) none) unstrayed
 
-  untaken : takenReserve s ≡ Nowhere
-  unfolding takenReserve fault25
-  untaken =
-      first-none (λ e. leb (usable (s .geometry)) e && not (isFree (s .table e))) (s .geometry .extents)
-      (λ e l. by e (s .table e) (faultless .f25 e l) (leb (usable (s .geometry)) e) refl)
-    where
-      by : (e : ℕ) (t : Option Owner) → holdsOf t (λ w. isFree (s .entries (w .file)) || leb (usable (s .geometry)) e) ≡ false
-          → (b : Bool) → leb (usable (s .geometry)) e ≡ b → (b && not (isFree t)) ≡ false
-      by e none q b z = and-false b
-      by e (some w) q true z = absurd (true≢false (sym z ∙ or-none (isFree (s .entries (w .file))) (leb (usable (s .geometry)) e) q .1))
-      by e (some w) q false z = refl
-
   verdict-alone : repairVerdict (length img) (view img) room ≡ done
-  unfolding repairVerdict judged soundVerdict verdictOf groupsFor
+  unfolding repairVerdict planConditions judged soundVerdict verdictOf groupsFor
   verdict-alone =
       let image = earlier-done (imageVerdict (length img) (view img)) _ judged-done in
       let state = earlier-done (refusal (stateNumber (stateOn (view img)))) _ (later-done (imageVerdict (length img) (view img)) _ judged-done) in
-      (λ i. cond (image i) (cond (state i) (andThen (reserveVerdict (untaken i)) (cond (ltb room (listLength (groupsFor (view img) (unplanned i)))) (refusal 14) done))
+      (λ i. cond (image i) (cond (state i) (verdictOf (planConditions (view img) (unplanned i) room))
       (refusal (stateNumber (stateOn (view img))))) (imageVerdict (length img) (view img)))
       ∙ ap (λ (b : Bool). cond b (refusal 14) done) (le-ltb room 0 (omega arith))
 
@@ -410,3 +412,86 @@ module _ (img : List ℕ) (room : ℕ) (checks : checkAnswer (length img) (view 
 pub run-alone : {L : Ledger} {img : List ℕ} {fs : List Feed} {rs : List Answer} → SoundRun L steady img fs rs → (room : ℕ)
     → repairAnswer (length img) (view img) room ≡ record { verdict = done; freed = 0; length = 0 }
 run-alone {L} {img} r room = sound-alone img room (sound r)
+
+-- ---- T-12: A REPAIR IS REFUSED 13 exactly if the volume is clean, something is to be freed and fewer than K extents are free
+
+module _ (img : List ℕ) (room : ℕ) where
+  abbrev d : Disk
+  d = view img
+
+  number-is : repairAnswer (length img) (view img) room .verdict .number ≡ repairVerdict (length img) (view img) room .number
+  unfolding repairAnswer repairDecision
+  number-is = go (isDone v) refl (faultsIn (fault21 d) (repaired (catalogueOf d))) _ _
+    where
+      v : Verdict
+      v = repairVerdict (length img) (view img) room
+
+      go : (b : Bool) → isDone v ≡ b → (s : Soundness) (freed needed : ℕ)
+          → cond b (record { verdict = doneBut s; freed = freed; length = needed }) (notRepaired v) .verdict .number ≡ v .number
+      go true e Sound freed needed = sym (eqb-true (v .number) 0 e)
+      go true e (Faulty n p) freed needed = sym (eqb-true (v .number) 0 e)
+      go false e s freed needed = refl
+
+  -- 1 to 6
+  abbrev first6 : Verdict
+  first6 = andThen (imageVerdict (length img) (view img)) (refusal (stateNumber (stateOn (view img))))
+
+  lower : first6 .number ≢ 13
+  unfolding imageVerdict
+  lower = go (isDone (imageVerdict (length img) d))
+    where
+      state : (s : State) → stateNumber s ≢ 13
+      state Clean e = let z : _≡_ {A = ℕ} 0 13 = e in omega arith
+      state (Waiting n) e = let z : _≡_ {A = ℕ} 5 13 = e in omega arith
+      state Damaged e = let z : _≡_ {A = ℕ} 6 13 = e in omega arith
+      state Unfinished e = let z : _≡_ {A = ℕ} 4 13 = e in omega arith
+
+      go : (b : Bool) → cond b (refusal (stateNumber (stateOn d))) (imageVerdict (length img) d) .number ≢ 13
+      go true e = state (stateOn d) e
+      go false e = not-13 _ refl e
+
+  then-is : (a b v : Verdict) → andThen a (andThen b v) ≡ andThen (andThen a b) v
+  then-is a b v = go (isDone a) refl
+    where
+      go : (t : Bool) → isDone a ≡ t → cond t (andThen b v) a ≡ andThen (cond t b a) v
+      go true e = refl
+      go false e = sym (ap (λ (t : Bool). cond t v a) e)
+
+  has-target : (isPlanned (repairPlanned (catalogueOf (view img)) (view img)) ≡ true) ↔ (0 < strays (catalogueOf (view img)))
+  unfolding repairPlanned strays
+  has-target = go (anyBelow (isStray (catalogueOf d)) (catalogueOf d .geometry .extents)) refl
+    where
+      go : (b : Bool) → anyBelow (isStray (catalogueOf d)) (catalogueOf d .geometry .extents) ≡ b
+          → (isPlanned (cond b (some (repairPlan (catalogueOf d) d)) none) ≡ true) ↔ (0 < countBelow (isStray (catalogueOf d)) (catalogueOf d .geometry .extents))
+      go true q = (λ e. countBelow-anyBelow (isStray (catalogueOf d)) (catalogueOf d .geometry .extents) q, λ l. refl)
+      go false q = (λ e. absurd (false≢true e), λ l. absurd (omega (arith, countBelow-none (isStray (catalogueOf d)) (catalogueOf d .geometry .extents) q)))
+
+  pub repair-13 : (repairAnswer (length img) (view img) room .verdict .number ≡ 13)
+      ↔ ((imageVerdict (length img) (view img) .number ≡ 0) × (stateOn (view img) ≡ Clean) × (0 < strays (catalogueOf (view img))) × Frozen img)
+  unfolding repairVerdict planConditions
+  repair-13 =
+      let plan = repairPlanned (catalogueOf d) d in
+      let e = number-is ∙ ap (λ (v : Verdict). v .number) (then-is (imageVerdict (length img) d) (refusal (stateNumber (stateOn d))) _) in
+      let q = last-13 first6 (isPlanned plan && lacksReserve (catalogueOf d)) (ltb room (listLength (groupsFor d plan))) lower in (
+        λ z.
+            let h = q .0 (sym e ∙ z) in
+            let zero : isDone first6 ≡ true = eq-eqb (first6 .number) 0 (h .0) in (
+              eqb-true _ 0 (earlier-done (imageVerdict (length img) d) _ zero),
+              clean-by (stateOn d) (later-done (imageVerdict (length img) d) _ zero),
+              has-target .0 (and-left _ _ (h .1)),
+              frozen-on img .0 (and-right (isPlanned plan) _ (h .1)),
+            ),
+        λ h.
+            e ∙ q .1 (
+              ap (λ (b : Bool). cond b (refusal (stateNumber (stateOn d))) (imageVerdict (length img) d) .number) (eq-eqb _ 0 (h .0)) ∙ ap stateNumber (h .1),
+              and-yes (isPlanned plan) _ (has-target .1 (h .2)) (frozen-on img .1 (h .3)),
+            ),
+      )
+
+  -- a repair that is refused, with 13 or another number, changes nothing
+  pub refused-same : repairAnswer (length img) (view img) room .verdict .number ≢ 0 → repairedImage img room ≡ img
+  unfolding repairedImage repairDecision groupsFor
+  refused-same ne =
+      ap (λ (b : Bool). stored (closed (groupsFor d (cond b (repairPlanned (catalogueOf d) d) none))) img)
+      (ne-eqb (repairVerdict (length img) d room .number) 0 (λ z. ne (number-is ∙ z)))
+      ∙ stored-none img

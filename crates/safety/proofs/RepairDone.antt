@@ -1,54 +1,52 @@
--- An accepted repair carried out whole: the volume was clean and its reserve free, and afterwards the catalogue is the repaired one and
--- every sector of root, directory and usable extents what it was. Assumes nothing.
+-- An accepted repair carried out whole: the volume was clean, with its reserve where something is freed, and afterwards the catalogue is the
+-- repaired one and every sector of root, directory and extents that were not free what it was. Assumes nothing.
 use Prim.Native.Nat.{ℕ, zero, suc, _+_, _*_, _/_, _%_, _^_, _≤_, _<_}
 use mathlib.Core.Path.{_≡_, refl, sym, ap, ap₂, _∙_, subst, fun-ext}
 use mathlib.Core.Logic.{_≢_}
 use mathlib.Core.Bool.{Bool, true, false, cond, not, _&&_, true≢false, false≢true}
-use mathlib.Core.List.{List, [], _∷_}
+use mathlib.Core.List.{List, []}
 use mathlib.Core.Option.{Option, none, some, Option·some-injective, Option·none-ne-some}
 use native.Mathlib.Omega.{arith}
 use native.Mathlib.Numerals.{add-one}
 use native.Mathlib.Decide.{decLt}
-use lib.Dec.{eqb, leb, ltb}
+use lib.Dec.{eqb, ltb}
 use lib.ListN.{length, getD, List·getD-eq-default}
-use borrow.Author.Tests.{eqb-true, eq-eqb, le-leb, ltb-true}
+use borrow.Author.Tests.{eqb-true, eq-eqb, ltb-true, ltb-false}
 use Rattle.model.specs.declared.Geometry.{Geometry}
-use Rattle.model.specs.declared.Lowest.{Lowest}
-use Rattle.model.specs.declared.Lowest.the-variants.{At, Nowhere}
 use Rattle.model.specs.declared.State.{State}
 use Rattle.model.specs.declared.State.the-variants.{Clean, Waiting, Damaged, Unfinished}
 use Rattle.model.specs.declared.Verdict.{Verdict}
 use Rattle.model.specs.declared.Repaired.{Repaired}
 use Rattle.model.specs.Bytes.{beAt}
 use Rattle.model.specs.Search.{first, anyBelow, countBelow, indexOf}
-use Rattle.model.specs.Geometry.{superblockAt, entryAt, extentSectors, usable, journalAt, tableAt, dataAt, reserveAt, tableSectors}
+use Rattle.model.specs.Geometry.{superblockAt, entryAt, extentSectors, journalAt, tableAt, dataAt, tableSectors}
 use Rattle.model.specs.Disk.{Disk, view}
 use Rattle.model.specs.Superblock.{geometryIn, stateOn}
 use Rattle.model.specs.Root.{rootIn}
 use Rattle.model.specs.Table.{freeFile, tableSectorOf, tableFile, tableOffset}
-use Rattle.model.specs.Catalogue.{Catalogue, Owner, catalogueOf, isFree}
-use Rattle.model.specs.Refusals.{verdictOf, isDone, refusal, imageVerdict, stateNumber}
-use Rattle.model.specs.WriteList.{Plan, Group, stored, groupsFor, groupsOf, closed, listLength}
+use Rattle.model.specs.Catalogue.{Catalogue, Owner, catalogueOf, isFree, lacksReserve, stagingExtents}
+use Rattle.model.specs.Refusals.{isDone, refusal, imageVerdict, stateNumber}
+use Rattle.model.specs.WriteList.{Plan, Group, stored, groupsFor, groupsOf, closed, listLength, isPlanned, planConditions}
 use Rattle.model.specs.Cut.{Cut, landed, startMark}
 use Rattle.model.specs.Opened.{Bounded}
-use Rattle.model.specs.Repair.{isStray, holdsStray, repaired, takenReserve, repairedSector, repairPlan, repairPlanned, reserveVerdict, repairVerdict, repairDecision, repairAnswer, notRepaired}
+use Rattle.model.specs.Repair.{isStray, holdsStray, repaired, repairedSector, repairPlan, repairPlanned, repairVerdict, repairDecision, repairAnswer, notRepaired}
 use Rattle.laws.proofs.Bytes.{pow-more}
 use Rattle.laws.proofs.Count.{countBelow-anyBelow}
 use Rattle.laws.proofs.Disk.{length-view, getD-view}
 use Rattle.laws.proofs.Refusals.{image-passed, opened}
-use Rattle.laws.proofs.Search.{first-missed, anyBelow-true, none-at}
+use Rattle.laws.proofs.Search.{anyBelow-true, none-at}
 use Rattle.laws.proofs.Seeking.{anyBelow-first}
+use Rattle.laws.proofs.Staging.{free, InExtent, one-extent}
 use Rattle.safety.specs.Repairing.{OfBytes, Repairs, repairedImage}
 use Rattle.safety.proofs.Searches.{place-found}
 use Rattle.safety.proofs.Apply.{over-append, over, over-none, over-miss, kept-nil, length-stored}
-use Rattle.safety.proofs.Plan.{UsableGeometry, WellFormed, A}
+use Rattle.safety.proofs.Plan.{UsableGeometry, WellFormed, stagesOn, A}
 use Rattle.safety.proofs.Commit.{Ready, uncut, partOf, ready-part, ready-uncut, stored-none, RecoveredTo, commit}
 use Rattle.safety.proofs.Frame.{Outside, part-at, done-shows}
 use Rattle.safety.proofs.Bounds.{usable-geometry, copies-fit, count-waits}
 use Rattle.safety.proofs.Bridge.{ListCarries, plan-carries, none-carries}
-use Rattle.safety.proofs.Changing.{earlier-done, later-done}
-use Rattle.safety.proofs.CallLists.{room-enough}
-use Rattle.safety.proofs.Preserved.{out-front, out-table, out-data, entries-keep, table-keep}
+use Rattle.safety.proofs.Changing.{Passed, passed-by, earlier-done, later-done}
+use Rattle.safety.proofs.Preserved.{out-front, out-table, out-data, staging-free, entries-keep, table-keep}
 use Rattle.safety.proofs.FreedBy as by
 
 -- ---- an image of bytes
@@ -60,34 +58,26 @@ beAt-lt s h at (suc w) = let q = pow-more w (beAt s at w) (getD s (at + w) 0) (b
 
 -- ---- what it says that a repair is accepted
 
-clean-by : (s : State) → isDone (refusal (stateNumber s)) ≡ true → s ≡ Clean
+pub clean-by : (s : State) → isDone (refusal (stateNumber s)) ≡ true → s ≡ Clean
 clean-by Clean e = refl
 clean-by (Waiting n) e = absurd (false≢true e)
 clean-by Damaged e = absurd (false≢true e)
 clean-by Unfinished e = absurd (false≢true e)
 
-nowhere-by : (r : Lowest) → isDone (reserveVerdict r) ≡ true → r ≡ Nowhere
-nowhere-by (At e) q = absurd (false≢true q)
-nowhere-by Nowhere q = refl
-
-free-is : (t : Option Owner) → not (isFree t) ≡ false → t ≡ none
-free-is none e = refl
-free-is (some w) e = absurd (true≢false e)
-
--- the volume is clean and lies in the image, and its reserve is free
+-- the volume is clean and lies in the image, and has its reserve where something is freed
 pub record Passes (img : List ℕ) : Type 0 where
   pub ready : Ready (catalogueOf (view img) .geometry) img
   pub bounded : Bounded (catalogueOf (view img) .geometry)
-  pub reserve : (e : ℕ) → usable (catalogueOf (view img) .geometry) ≤ e → catalogueOf (view img) .table e ≡ none
+  pub there : anyBelow (isStray (catalogueOf (view img))) (catalogueOf (view img) .geometry .extents) ≡ true → lacksReserve (catalogueOf (view img)) ≡ false
 
--- ---- what it leaves: a clean volume that says k, and every sector of root, directory and usable extents as it was
+-- ---- what it leaves: a clean volume that says k, and every sector of root, directory and extents that were not free as it was
 
 pub record Leaves (img out : List ℕ) (k : Catalogue) : Type 0 where
   pub ready : Ready (geometryIn (view img superblockAt)) out
   pub long : length out ≡ length img
   pub says : catalogueOf (view out) ≡ k
   pub front : (j : ℕ) → 1 ≤ j → j < journalAt (geometryIn (view img superblockAt)) → view out j ≡ view img j
-  pub files : (j : ℕ) → dataAt (geometryIn (view img superblockAt)) ≤ j → j < reserveAt (geometryIn (view img superblockAt)) → view out j ≡ view img j
+  pub files : (e j : ℕ) → isFree (catalogueOf (view img) .table e) ≡ false → InExtent (geometryIn (view img superblockAt)) e j → view out j ≡ view img j
 
 module _ (img : List ℕ) where
   abbrev d : Disk
@@ -119,9 +109,6 @@ module _ (img : List ℕ) where
   -- ---- what it says that a repair is accepted
 
   module _ (room : ℕ) (bytes : OfBytes img) (accepted : Repairs img room) where
-    abbrev short : Verdict
-    short = verdictOf ((ltb room (listLength (groupsFor d (repairPlanned c d))), refusal 14) ∷ [])
-
     pub verdict-done : isDone (repairVerdict (length img) (view img) room) ≡ true
     unfolding repairAnswer repairDecision
     verdict-done = go (isDone v) refl _ accepted
@@ -147,27 +134,26 @@ module _ (img : List ℕ) where
                 let z : getD (view img superblockAt) k 0 ≡ 0 = List·getD-eq-default (view img superblockAt) 0 e in
                 omega arith
 
+    -- 13 and 14 passed
+    pub plan-passed : Passed (planConditions (view img) (repairPlanned (catalogueOf (view img)) (view img)) room)
+    unfolding repairVerdict planConditions
+    plan-passed =
+        passed-by (planConditions d (repairPlanned c d) room) refl
+        (later-done (refusal (stateNumber (stateOn d))) _ (later-done (imageVerdict (length img) d) _ verdict-done))
+
     pub passes : Passes img
-    unfolding repairVerdict catalogueOf takenReserve
+    unfolding repairVerdict catalogueOf planConditions repairPlanned
     passes =
         let image = earlier-done (imageVerdict (length img) d) _ verdict-done in
         let rest = later-done (imageVerdict (length img) d) _ verdict-done in
         let state = earlier-done (refusal (stateNumber (stateOn d))) _ rest in
-        let free = earlier-done (reserveVerdict (takenReserve c)) short (later-done (refusal (stateNumber (stateOn d))) _ rest) in
         let number = eqb-true (imageVerdict (length img) d .number) 0 image in
         let p = image-passed (length img) d number in
         record {
           ready = record { volume = record { whole = p .whole; marked = p .volume; geometry = refl; fits = p .fits }; clean = clean-by (stateOn d) state };
           bounded = opened img g refl small number .bounded;
-          reserve = λ e l. at e l (nowhere-by (takenReserve c) free) (ltb e (g .extents)) refl;
+          there = λ q. sym (ap (λ (b : Bool). isPlanned (cond b (some (repairPlan c d)) none) && lacksReserve c) q) ∙ plan-passed .0;
         }
-      where
-        at : (e : ℕ) → usable g ≤ e → takenReserve c ≡ Nowhere → (b : Bool) → ltb e (g .extents) ≡ b → c .table e ≡ none
-        at e l q true z =
-            free-is (c .table e)
-            (ap (λ (b : Bool). b && not (isFree (c .table e))) (sym (le-leb (usable g) e l))
-            ∙ first-missed (λ e. leb (usable g) e && not (isFree (c .table e))) (g .extents) q e (ltb-true e (g .extents) z))
-        at e l q false z = past-end e z
 
   -- ---- carried out whole
 
@@ -185,7 +171,13 @@ module _ (img : List ℕ) where
     geo = usable-geometry g (pass .bounded)
 
     unchanged : anyBelow (isStray c) (c .geometry .extents) ≡ false → Leaves img img (repaired (catalogueOf (view img)))
-    unchanged q = record { ready = ready; long = refl; says = sym (unstrayed-same q); front = λ j a b. refl; files = λ j a b. refl }
+    unchanged q = record { ready = ready; long = refl; says = sym (unstrayed-same q); front = λ j a b. refl; files = λ e j f h. refl }
+
+    -- copies are staged in extents that were free
+    held-out : (e j : ℕ) → isFree (c .table e) ≡ false → InExtent g e j → Outside g c j
+    held-out e j f h =
+        out-data g j (omega (arith, h .0))
+        (λ k l s. true≢false (sym (staging-free c k l) ∙ ap (free c) (one-extent g (getD (stagingExtents c) k 0) e j s h) ∙ f))
 
     -- table sectors written
     abbrev p : Plan
@@ -212,17 +204,20 @@ module _ (img : List ℕ) where
           countBelow-anyBelow (by.changed g img (isStray c)) (tableSectors g) (anyBelow-true (by.changed g img (isStray c)) (e / 128) (tableSectors g) (omega (arith, r .0)) h) in
           rw (targets-are, by.length-freed g img (isStray c)) n
 
-      fits : WellFormed g p
-      unfolding repairPlan
+      fits : WellFormed g (view img) p
+      unfolding repairPlan catalogueOf
       fits =
           let few = by.freed-few g img (isStray c) in
           record {
+            geometry = refl;
+            there = pass .there q;
             nonempty = has-target;
             few = rw targets-are (copies-fit g bounded _ (omega arith));
             journalled = rw targets-are (count-waits g bounded _ (omega arith));
             metadata = rw targets-are (by.freed-metadata g img (isStray c));
             rising = rw targets-are (by.freed-rising g img (isStray c) 0 (omega arith));
-            usable = tt;
+            inData = tt;
+            unstaged = tt;
             own = tt;
             short = omega arith;
             wholeData = tt;
@@ -232,20 +227,20 @@ module _ (img : List ℕ) where
       abbrev out : List ℕ
       out = uncut (geometryIn (view img superblockAt)) img (repairPlan (catalogueOf (view img)) (view img))
 
-      shows : (j : ℕ) → Outside g j → j ≢ 0 → view out j ≡ over (by.freed g img (isStray c)) j (view img j)
+      shows : (j : ℕ) → Outside g c j → j ≢ 0 → view out j ≡ over (by.freed g img (isStray c)) j (view img j)
       shows j o ne =
-          done-shows g p geo fits img ready j o ne ∙ over-append (p .dataSectors) (p .targets) j (view img j)
+          done-shows g img p geo fits ready j o ne ∙ over-append (p .dataSectors) (p .targets) j (view img j)
           ∙ ap₂ (λ (t s : Group). over t j (over s j (view img j))) targets-are no-data
           ∙ ap (over (by.freed g img (isStray c)) j) (over-none j (view img j))
 
-      kept : (j : ℕ) → Outside g j → j ≢ 0 → (tableAt g ≤ j → j < dataAt g → ⊥) → view out j ≡ view img j
+      kept : (j : ℕ) → Outside g c j → j ≢ 0 → (tableAt g ≤ j → j < dataAt g → ⊥) → view out j ≡ view img j
       kept j o ne h = shows j o ne ∙ over-miss (by.freed g img (isStray c)) j (view img j) (by.freed-miss g img (isStray c) j h)
 
       repairs : Leaves img out (repaired (catalogueOf (view img)))
       unfolding catalogueOf repaired
       repairs = record {
         ready = again;
-        long = length-stored (closed (groupsOf g (view img) p)) img;
+        long = length-stored (closed (groupsOf g (stagesOn (view img) p) (view img) p)) img;
         says = λ i. record {
           geometry = again .volume .geometry i;
           root = ap₂ (λ (x : Geometry) (s : List ℕ). rootIn (x .edition) s) (again .volume .geometry) (ahead 1 (omega arith) (omega arith)) i;
@@ -253,41 +248,41 @@ module _ (img : List ℕ) where
           table = fun-ext (λ e. by.table-after g img (isStray c) out refl (again .volume .geometry) (λ t l. shows (tableAt g + t) (table-out t l) (λ z. omega arith)) e) i;
         };
         front = ahead;
-        files = λ j a b. kept j (out-data g geo j a b) (λ z. omega arith) (λ u v. omega arith);
+        files = λ e j f h. kept j (held-out e j f h) (λ z. omega (arith, h .0)) (λ u v. omega (arith, h .0));
       }
         where
           again : Ready g out
           again = ready-uncut g img p geo fits ready
 
           ahead : (j : ℕ) → 1 ≤ j → j < journalAt g → view out j ≡ view img j
-          ahead j a b = kept j (out-front g geo j b) (λ z. omega arith) (λ u v. omega arith)
+          ahead j a b = kept j (out-front g j b) (λ z. omega arith) (λ u v. omega arith)
 
-          table-out : (t : ℕ) → t < tableSectors g → Outside g (tableAt g + t)
-          table-out t l = record { journal = λ a b. omega arith; reserve = λ a b. omega arith }
+          table-out : (t : ℕ) → t < tableSectors g → Outside g c (tableAt g + t)
+          table-out t l = record { journal = λ a b. omega arith; reserve = λ k h s. omega (arith, s .0) }
 
       -- a cut, and recoveries until one is completed
       cut : (x : Cut) {end : List ℕ} → RecoveredTo (stored (landed x (groupsFor (view img) (some (repairPlan (catalogueOf (view img)) (view img))))) img) end
-          → end ≡ cond (startMark x) out (stored (partOf (x .before) (x .mask) (A g (repairPlan (catalogueOf (view img)) (view img)))) img)
+          → end ≡ cond (startMark x) out (stored (partOf (x .before) (x .mask) (A g (view img) (repairPlan (catalogueOf (view img)) (view img)))) img)
       unfolding groupsFor
       cut x m = commit g img p geo fits ready x m
 
-      unmarked : (k : ℕ) (m : List Bool) → Leaves img (stored (partOf k m (A g p)) img) (catalogueOf (view img))
+      unmarked : (k : ℕ) (m : List Bool) → Leaves img (stored (partOf k m (A g (view img) p)) img) (catalogueOf (view img))
       unfolding catalogueOf
       unmarked k m = record {
         ready = again;
-        long = length-stored (partOf k m (A g p)) img;
+        long = length-stored (partOf k m (A g (view img) p)) img;
         says = λ i. record {
           geometry = again .volume .geometry i;
-          root = ap₂ (λ (x : Geometry) (s : List ℕ). rootIn (x .edition) s) (again .volume .geometry) (equalBytes 1 (out-front g geo 1 (omega arith))) i;
-          entries = fun-ext (λ j. entries-keep g (view img) (view end) refl (again .volume .geometry) j (λ l. equalBytes (entryAt j) (out-front g geo (entryAt j) (omega arith)))) i;
-          table = fun-ext (λ e. table-keep g (view img) (view end) refl (again .volume .geometry) e (λ l. equalBytes (tableSectorOf g e) (out-table g geo e l))) i;
+          root = ap₂ (λ (x : Geometry) (s : List ℕ). rootIn (x .edition) s) (again .volume .geometry) (equalBytes 1 (out-front g 1 (omega arith))) i;
+          entries = fun-ext (λ j. entries-keep g (view img) (view end) refl (again .volume .geometry) j (λ l. equalBytes (entryAt j) (out-front g (entryAt j) (omega arith)))) i;
+          table = fun-ext (λ e. table-keep g (view img) (view end) refl (again .volume .geometry) e (λ l. equalBytes (tableSectorOf g e) (out-table g e l))) i;
         };
-        front = λ j a b. equalBytes j (out-front g geo j b);
-        files = λ j a b. equalBytes j (out-data g geo j a b);
+        front = λ j a b. equalBytes j (out-front g j b);
+        files = λ e j f h. equalBytes j (held-out e j f h);
       }
         where
           end : List ℕ
-          end = stored (partOf k m (A g p)) img
+          end = stored (partOf k m (A g (view img) p)) img
 
           again : Ready g end
           again = ready-part g img p geo fits ready k m
@@ -296,8 +291,8 @@ module _ (img : List ℕ) where
           nothing zero j x = ap (λ (l : Group). over l j x) (kept-nil m) ∙ over-none j x
           nothing (suc k) j x = over-none j x
 
-          equalBytes : (j : ℕ) → Outside g j → view end j ≡ view img j
-          equalBytes j o = part-at g p geo fits img ready k m j o ∙ ap (λ (l : Group). over (partOf k m l) j (view img j)) no-data ∙ nothing k j (view img j)
+          equalBytes : (j : ℕ) → Outside g c j → view end j ≡ view img j
+          equalBytes j o = part-at g img p geo fits ready k m j o ∙ ap (λ (l : Group). over (partOf k m l) j (view img j)) no-data ∙ nothing k j (view img j)
 
 module _ (img : List ℕ) (room : ℕ) (bytes : OfBytes img) (accepted : Repairs img room) where
   abbrev k : Catalogue
@@ -330,7 +325,7 @@ module _ (img : List ℕ) (room : ℕ) (bytes : OfBytes img) (accepted : Repairs
       by q r b z = subst (λ (o : List ℕ). Leaves img o (cond b (repaired k) k)) (sym (cut img pass q x r ∙ ap (λ (t : Bool). cond t (out img pass q) part) z)) (left b)
         where
           part : List ℕ
-          part = stored (partOf (x .before) (x .mask) (A (g img) (repairPlan k (view img)))) img
+          part = stored (partOf (x .before) (x .mask) (A (g img) (view img) (repairPlan k (view img)))) img
 
           left : (b : Bool) → Leaves img (cond b (out img pass q) part) (cond b (repaired k) k)
           left true = repairs img pass q
@@ -355,8 +350,5 @@ module _ (img : List ℕ) (room : ℕ) (bytes : OfBytes img) (accepted : Repairs
 
   -- 14 passed
   pub long-enough : listLength (groupsFor (view img) (repairPlanned (catalogueOf (view img)) (view img))) ≤ room
-  unfolding repairVerdict verdictOf
-  long-enough =
-      room-enough [] room _
-      (later-done (reserveVerdict (takenReserve k)) _
-      (later-done (refusal (stateNumber (stateOn (view img)))) _ (later-done (imageVerdict (length img) (view img)) _ (verdict-done img room bytes accepted))))
+  unfolding planConditions
+  long-enough = ltb-false room _ (plan-passed img room bytes accepted .1 .0)

@@ -14,7 +14,7 @@ use Rattle.model.specs.declared.Geometry.{Geometry}
 use Rattle.model.specs.declared.Lowest.{Lowest}
 use Rattle.model.specs.declared.Lowest.the-variants.{At, Nowhere}
 use Rattle.model.specs.Search.{first, anyBelow, allBelow, countBelow, isAt, indexOf}
-use Rattle.model.specs.Geometry.{usable, extentBytes, extentsFor}
+use Rattle.model.specs.Geometry.{extentBytes, extentsFor}
 use Rattle.model.specs.Root.{Root}
 use Rattle.model.specs.Entry.{Entry, badName}
 use Rattle.model.specs.Catalogue.{Catalogue, Owner, isFree, hasName, hasId, isPart, ownedFrom}
@@ -41,6 +41,11 @@ ids-swap (some x) (some y) h = eqb-swap (y .id) (x .id) h
 pub among-and {ℓ} : {A : Type ℓ} (o : Option A) (r s : A → Bool) → holdsOf o s ≡ false → holdsOf o (λ a. r a && s a) ≡ false
 among-and none r s h = refl
 among-and (some a) r s h = ap (λ (b : Bool). r a && b) h ∙ and-false (r a)
+
+-- so nothing is asked of an occupied entry as a free one
+pub never-free {ℓ} : {A : Type ℓ} (o : Option A) (r : A → Bool) → holdsOf o (λ a. r a && false) ≡ false
+never-free none r = refl
+never-free (some a) r = and-false (r a)
 
 -- where there is no fault, two entries have neither name nor id in common; so an entry that keeps both is admissible
 module _ (c : Catalogue) (h : NoFaults c) (i k : ℕ) (li : i < c .geometry .files) (lk : k < c .geometry .files) (ne : k ≢ i) where
@@ -126,16 +131,15 @@ module _ (L : Ledger) (root : Root) (i : ℕ) (f : Option File) where
 
   -- ---- no fault
 
-  -- what is asked of the new slot; of a free one nothing but the last three, which speak of the table
+  -- what is asked of the new slot; of a free one nothing but `others` and `owned`, of an occupied one `owned` asks nothing
   pub record Admissible : Type 0 where
     pub root-id : root .id ≡ L .root .id
-    pub entry : holdsOf (entryOfFile f) (λ e. badName (L .geometry .edition) (e .name) || ltb (usable (L .geometry) * extentBytes (L .geometry)) (e .size)) ≡ false
+    pub entry : holdsOf (entryOfFile f) (λ e. badName (L .geometry .edition) (e .name) || ltb (L .geometry .extents * extentBytes (L .geometry)) (e .size)) ≡ false
     pub id : holdsOf (entryOfFile f) (λ e. eqb (e .id) 0 || eqb (e .id) (L .root .id)) ≡ false
     pub names : (k : ℕ) → k < L .geometry .files → k ≢ i → holdsOf (entryOfFile f) (λ e. hasName (e .name) (catalogue L .entries k)) ≡ false
     pub ids : (k : ℕ) → k < L .geometry .files → k ≢ i → holdsOf (entryOfFile f) (λ e. hasId (e .id) (catalogue L .entries k)) ≡ false
     pub others : OthersKept
-    pub owned : (e : ℕ) → e < L .geometry .extents
-        → holdsOf (catalogue replaced .table e) (λ w. eqb (w .file) i && (isFree (entryOfFile f) || leb (usable (L .geometry)) e)) ≡ false
+    pub owned : (e : ℕ) → e < L .geometry .extents → holdsOf (catalogue replaced .table e) (λ w. eqb (w .file) i && isFree (entryOfFile f)) ≡ false
     pub exactly : holdsOf (entryOfFile f) (λ e. not (exact (catalogue replaced) i (extentsFor (L .geometry) (e .size)))) ≡ false
 
   module _ (a : Admissible) (h : NoFaults (catalogue L)) where
@@ -148,7 +152,7 @@ module _ (L : Ledger) (root : Root) (i : ℕ) (f : Option File) where
     f22 : (k : ℕ) → k < L .geometry .files → fault22 c′ k ≡ false
     unfolding fault22 catalogue
     f22 k l =
-        by-slot (λ (o : Option Entry). holdsOf o (λ e. badName (L .geometry .edition) (e .name) || ltb (usable (L .geometry) * extentBytes (L .geometry)) (e .size)) ≡ false) k
+        by-slot (λ (o : Option Entry). holdsOf o (λ e. badName (L .geometry .edition) (e .name) || ltb (L .geometry .extents * extentBytes (L .geometry)) (e .size)) ≡ false) k
         (λ z. a .entry) (λ ne. h .f22 k l)
 
     f23 : (k : ℕ) → k < L .geometry .files → fault23 c′ k ≡ false
@@ -185,24 +189,24 @@ module _ (L : Ledger) (root : Root) (i : ℕ) (f : Option File) where
     f25 e l = go (c′ .table e) refl
       where
         wrong : Owner → Bool
-        wrong w = isFree (c .entries (w .file)) || leb (usable (L .geometry)) e
+        wrong w = isFree (c .entries (w .file))
 
         old : holdsOf (c′ .table e) (λ w. not (eqb (w .file) i) && wrong w) ≡ false
         old =
             a .others (λ (o : Option Owner). holdsOf o (λ w. not (eqb (w .file) i) && wrong w)) refl (λ w q. ap (λ (b : Bool). not b && wrong w) (eq-eqb (w .file) i q)) e
             ∙ among-and (c .table e) (λ w. not (eqb (w .file) i)) wrong (h .f25 e l)
 
-        go : (o : Option Owner) → c′ .table e ≡ o → holdsOf o (λ w. isFree (c′ .entries (w .file)) || leb (usable (L .geometry)) e) ≡ false
+        go : (o : Option Owner) → c′ .table e ≡ o → holdsOf o (λ w. isFree (c′ .entries (w .file))) ≡ false
         go none q = refl
         go (some w) q = by (eqb (w .file) i) refl
           where
-            by : (b : Bool) → eqb (w .file) i ≡ b → (isFree (c′ .entries (w .file)) || leb (usable (L .geometry)) e) ≡ false
+            by : (b : Bool) → eqb (w .file) i ≡ b → isFree (c′ .entries (w .file)) ≡ false
             by true z =
-                ap (λ (o : Option Entry). isFree o || leb (usable (L .geometry)) e) (ap (c′ .entries) (eqb-true (w .file) i z) ∙ entries-here)
-                ∙ sym (ap (λ (b : Bool). b && (isFree (entryOfFile f) || leb (usable (L .geometry)) e)) z)
-                ∙ sym (ap (λ (o : Option Owner). holdsOf o (λ v. eqb (v .file) i && (isFree (entryOfFile f) || leb (usable (L .geometry)) e))) q) ∙ a .owned e l
+                ap isFree (ap (c′ .entries) (eqb-true (w .file) i z) ∙ entries-here)
+                ∙ sym (ap (λ (b : Bool). b && isFree (entryOfFile f)) z)
+                ∙ sym (ap (λ (o : Option Owner). holdsOf o (λ v. eqb (v .file) i && isFree (entryOfFile f))) q) ∙ a .owned e l
             by false z =
-                ap (λ (o : Option Entry). isFree o || leb (usable (L .geometry)) e) (entries-other (w .file) (eqb-false (w .file) i z))
+                ap isFree (entries-other (w .file) (eqb-false (w .file) i z))
                 ∙ sym (ap (λ (b : Bool). not b && wrong w) z) ∙ sym (ap (λ (o : Option Owner). holdsOf o (λ v. not (eqb (v .file) i) && wrong v)) q) ∙ old
 
     exact-other : (k n : ℕ) → k ≢ i → exact c′ k n ≡ exact c k n

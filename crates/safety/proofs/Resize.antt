@@ -3,7 +3,7 @@
 use Prim.Native.Nat.{ℕ, _+_, _*_, _-_, _/_, _^_, _≤_, _<_}
 use mathlib.Core.Path.{_≡_, refl, sym, ap, _∙_, subst, fun-ext}
 use mathlib.Core.Bool.{Bool, true, false, cond, _&&_}
-use mathlib.Core.List.{List, []}
+use mathlib.Core.List.{List, [], _++_}
 use mathlib.Core.Option.{Option, none, some}
 use native.Mathlib.Omega.{arith}
 use lib.Dec.{eqb, leb, ltb}
@@ -14,9 +14,9 @@ use Rattle.model.specs.Search.{tabulate, isAt, indexOf}
 use Rattle.model.specs.Geometry.{extentsFor}
 use Rattle.model.specs.Disk.{view}
 use Rattle.model.specs.Entry.{badName}
-use Rattle.model.specs.Catalogue.{Catalogue, hasName, fileNamed, entryOf, sectorsFrom}
-use Rattle.model.specs.Refusals.{Conditions}
-use Rattle.model.specs.WriteList.{Plan, groupsFor, listLength, recordSize, recordCount, stored}
+use Rattle.model.specs.Catalogue.{Catalogue, lacksReserve, hasName, fileNamed, entryOf, sectorsFrom}
+use Rattle.model.specs.Refusals.{Conditions, verdictOf}
+use Rattle.model.specs.WriteList.{Plan, groupsFor, listLength, recordSize, recordCount, stored, isPlanned}
 use Rattle.model.specs.Read.{longestTransfer, sizeNamed}
 use Rattle.model.specs.Write.{noRoom, sizeAfter, writePlanned, grows}
 use Rattle.model.specs.Resize.{zeros, shrinkPlan, resizePlanned, resizeConditions, resizeDecision}
@@ -24,14 +24,14 @@ use Rattle.model.specs.Ledger.{Ledger, File, fileOr, entryOfFile, catalogue, re
 use Rattle.model.specs.Run.{volumeAnswer, onVolume}
 use Rattle.laws.proofs.Bytes.{length-bytesFrom}
 use Rattle.laws.proofs.Search.{length-tabulate, getD-tab0}
-use Rattle.safety.proofs.OwnWords.{named-is, unheld-is, file-is, entry-named, time-is, name-is, zeros-are}
+use Rattle.safety.proofs.OwnWords.{named-is, few-is, file-is, entry-named, time-is, name-is, zeros-are}
 use Rattle.safety.proofs.Searches.{place-found, or-right-no}
 use Rattle.safety.proofs.Plan.{A}
 use Rattle.safety.proofs.Commit.{partOf, uncut}
 use Rattle.safety.proofs.Rep.{Rep, Timely, timely, bytes-length}
-use Rattle.safety.proofs.Changing.{Passed, Carries, Carried, effect-changing, Decides, same-changing}
+use Rattle.safety.proofs.Changing.{Passed, last-is, Carries, Carried, effect-changing, Decides, same-changing}
 use Rattle.safety.proofs.Read.{file-there, size-is}
-use Rattle.safety.proofs.Write.{partlyWrittenFile, writing, write-length, Writes, writes-carried}
+use Rattle.safety.proofs.Write.{partlyWrittenFile, writing, write-length, write-planned, Writes, writes-carried}
 use Rattle.safety.proofs.Shrink.{shrink-length, shrink-fits, shrink-done, shrink-partly}
 use Rattle.safety.proofs.Induction.{Effect}
 
@@ -92,13 +92,26 @@ module _ (L : Ledger) (img : List ℕ) (rep : Rep L img) (name : List ℕ) (z ti
       go true = shrink-length L img i z time
       go false = write-length L img i s (zeros (z - s)) time ∙ ap (λ m. writtenRecords L s s m * recordSize) (length-bytesFrom [] 0 (z - s))
 
+  planned : isPlanned (resizePlanned (catalogue L) (view img) i z time) ≡ ltb 0 records
+  unfolding resizePlanned freedRecords
+  planned = rw (entry-named L name) (go (ltb z s))
+    where
+      s : ℕ
+      s = entryOf (catalogue L) i .size
+
+      go : (b : Bool) → isPlanned (cond b (some (shrinkPlan (catalogue L) (view img) i z time)) (writePlanned (catalogue L) i (view img) s (zeros (z - s)) time))
+          ≡ ltb 0 (cond b (freedRecords L name (extentsFor (L .geometry) z) 1) (writtenRecords L s s (z - s)))
+      go true = sym (lt-ltb 0 (freedRecords L name (extentsFor (L .geometry) z) 1) (omega arith))
+      go false = write-planned L img i s (zeros (z - s)) time s ∙ ap (λ m. ltb 0 (writtenRecords L s s m)) (length-bytesFrom [] 0 (z - s))
+
   decides : Decides L img (resize name z time room) conditions plan room records
   unfolding onVolume resizeDecision step resizeConditions sizeNamed noRoom grows catalogue
   decides = record {
     volume = refl;
     reply = refl;
     judges = record {
-      conditions = rw (time-is L time, name-is L name, named-is L name, entry-named L name, unheld-is L);
+      conditions = ap (λ (cs : Conditions). verdictOf (conditions (catalogue L) ++ cs)) (last-is L (plan (catalogue L)) room records planned)
+          ∙ rw (time-is L time, name-is L name, named-is L name, entry-named L name, few-is L);
       refusing = refl;
       size = size;
     };
@@ -148,14 +161,14 @@ module _ (L : Ledger) (img : List ℕ) (rep : Rep L img) (name : List ℕ) (z ti
 
     -- ---- shrinking
 
-    shrinks : z < old .entry .size → Carries L img (resize name z time room) (shrinkPlan (catalogue L) (view img) i z time)
+    shrinks : lacksReserve (catalogue L) ≡ false → z < old .entry .size → Carries L img (resize name z time room) (shrinkPlan (catalogue L) (view img) i z time)
     unfolding step shrinkPlan
-    shrinks less = record {
-      fits = shrink-fits L img i z time rep there (found .0) less fitting;
+    shrinks reserve less = record {
+      fits = shrink-fits L img i z time rep reserve there (found .0) less fitting;
       done = subst (λ (X : Ledger). Rep X (uncut (L .geometry) img (shrinkPlan (catalogue L) (view img) i z time)))
           (sym (done-is ∙ ap (λ (b : Bool). cond b (withFile L i (shrunk L i z time)) (afterWrite L i (old .entry .size) end time)) (lt-ltb z (old .entry .size) less)))
-          (shrink-done L img i z time rep there (found .0) less fitting);
-      partly = λ k m. shrink-partly L img i z time rep there (found .0) less fitting k m;
+          (shrink-done L img i z time rep reserve there (found .0) less fitting);
+      partly = λ k m. shrink-partly L img i z time rep reserve there (found .0) less fitting k m;
     }
 
     -- ---- growing
@@ -196,32 +209,35 @@ module _ (L : Ledger) (img : List ℕ) (rep : Rep L img) (name : List ℕ) (z ti
       grow w e = record {
         fits = w .fits;
         done = subst (λ (X : Ledger). Rep X (uncut (L .geometry) img q)) (sym (after-is false e)) (w .done);
-        partly = λ k m. subst (λ (X : Ledger). Rep X (stored (partOf k m (A (L .geometry) q)) img)) (kept-file _) (w .partly k m);
+        partly = λ k m. subst (λ (X : Ledger). Rep X (stored (partOf k m (A (L .geometry) (view img) q)) img)) (kept-file _) (w .partly k m);
       }
 
-      grows-or-stays : Carried L img (resize name z time room) (writePlanned (catalogue L) i (view img) (old .entry .size) end time)
+      grows-or-stays : (isPlanned (writePlanned (catalogue L) i (view img) (old .entry .size) end time) && lacksReserve (catalogue L)) ≡ false
+          → Carried L img (resize name z time room) (writePlanned (catalogue L) i (view img) (old .entry .size) end time)
       unfolding writePlanned
       grows-or-stays = go (eqb (length end) 0) refl
         where
-          go : (b : Bool) → eqb (length end) 0 ≡ b → Carried L img (resize name z time room) (cond b none (some q))
-          go true e = subst (λ (X : Ledger). Rep X img) (sym (after-is true e)) rep
-          go false e =
+          go : (b : Bool) → eqb (length end) 0 ≡ b → (isPlanned (cond b none (some q)) && lacksReserve (catalogue L)) ≡ false → Carried L img (resize name z time room) (cond b none (some q))
+          go true e r = subst (λ (X : Ledger). Rep X img) (sym (after-is true e)) rep
+          go false e r =
               let l = end-length in
               let m = grown-most in
-              grow (writes-carried L img i (old .entry .size) end time rep there (omega arith) (omega arith) (ap (noRoom (catalogue L) i) size-after ∙ roomy) fitting) e
+              grow (writes-carried L img i (old .entry .size) end time rep r there (omega arith) (omega arith) (ap (noRoom (catalogue L) i) size-after ∙ roomy) fitting) e
 
-    carried : Carried L img (resize name z time room) (resizePlanned (catalogue L) (view img) i z time)
+    abbrev Does : Option Plan → Type 0
+    Does p = (isPlanned p && lacksReserve (catalogue L)) ≡ false → Carried L img (resize name z time room) p
+
+    carried : Does (resizePlanned (catalogue L) (view img) i z time)
     unfolding resizePlanned
     carried =
-        subst (λ (s : ℕ). Carried L img (resize name z time room)
-        (cond (ltb z s) (some (shrinkPlan (catalogue L) (view img) i z time)) (writePlanned (catalogue L) i (view img) s (zeros (z - s)) time)))
+        subst (λ (s : ℕ). Does (cond (ltb z s) (some (shrinkPlan (catalogue L) (view img) i z time)) (writePlanned (catalogue L) i (view img) s (zeros (z - s)) time)))
         (sym size-of) (go (ltb z (old .entry .size)) refl)
       where
         go : (b : Bool) → ltb z (old .entry .size) ≡ b
-            → Carried L img (resize name z time room) (cond b (some (shrinkPlan (catalogue L) (view img) i z time)) (writePlanned (catalogue L) i (view img) (old .entry .size) end time))
-        go true e = shrinks (ltb-true z (old .entry .size) e)
-        go false e = grows-or-stays (ltb-false z (old .entry .size) e)
+            → Does (cond b (some (shrinkPlan (catalogue L) (view img) i z time)) (writePlanned (catalogue L) i (view img) (old .entry .size) end time))
+        go true e r = shrinks r (ltb-true z (old .entry .size) e)
+        go false e r = grows-or-stays (ltb-false z (old .entry .size) e) r
 
   -- what resize does
   pub resize-effect : time < 2 ^ 64 → Effect Rep (resize name z time room) L img
-  resize-effect ht = effect-changing L img rep _ _ _ room records decides (λ passed. carried ht passed)
+  resize-effect ht = effect-changing L img rep _ _ _ room records decides (λ passed never. carried ht passed never)

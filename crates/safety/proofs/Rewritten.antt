@@ -1,7 +1,7 @@
 -- An image of which root, entry i, table sectors and data sectors were rewritten represents the ledger with slot i replaced: what is
 -- left to prove of a call is gathered in `Rewrites`. Assumes nothing.
-use Prim.Native.Nat.{ℕ, _+_, _*_, _/_, _%_, _≤_, _<_}
-use mathlib.Core.Path.{_≡_, refl, sym, ap, ap₂, _∙_, subst, fun-ext}
+use Prim.Native.Nat.{ℕ, _+_, _*_, _/_, _%_, _<_}
+use mathlib.Core.Path.{_≡_, refl, sym, ap, ap₂, _∙_, fun-ext}
 use mathlib.Core.Logic.{_≢_}
 use mathlib.Core.Bool.{Bool, true, false, cond}
 use mathlib.Core.List.{List}
@@ -12,16 +12,15 @@ use borrow.Author.Tests.{eqb-true, eqb-false}
 use native.Mathlib.Nat.{zero-add}
 use Rattle.model.specs.declared.Geometry.{Geometry}
 use Rattle.model.specs.Search.{tabulate, first, indexOf}
-use Rattle.model.specs.Geometry.{extentSectors, usable, rootAt, entryAt, dataAt, reserveAt, extentsFor}
+use Rattle.model.specs.Geometry.{extentSectors, rootAt, entryAt, dataAt, extentsFor}
 use Rattle.model.specs.Disk.{Disk, view}
 use Rattle.model.specs.Root.{Root, rootIn}
 use Rattle.model.specs.Catalogue.{Catalogue, catalogueOf, isPart, extentOf, sectorOf, fileByte, fileBytes}
 use Rattle.model.specs.Faults.{fault21}
 use Rattle.model.specs.Ledger.{Ledger, File, entryOfFile, catalogue}
-use Rattle.model.specs.Opened.{Bounded}
 use Rattle.safety.proofs.Commit.{Ready}
 use Rattle.safety.proofs.Rep.{Rep, says-of, Disjoint, Sized, cat-is, catalogue-geometry, no-mark-fault}
-use Rattle.safety.proofs.Preserved.{entries-keep, marks-keep, sector-data, bytes-keep-at}
+use Rattle.safety.proofs.Preserved.{entries-keep, marks-keep, bytes-keep-at}
 use Rattle.safety.proofs.Replaced.{replaced, entries-other, entries-here, part-other, Admissible, faultless-replaced}
 
 -- where file i's bytes stand depends on the geometry and on which extents are its
@@ -30,7 +29,7 @@ pub bytes-of : (c c′ : Catalogue) (d : Disk) (i off n : ℕ) → c′ .geometr
 unfolding fileBytes fileByte sectorOf extentOf
 bytes-of c c′ d i off n eg et =
     ap₂ (λ (g : Geometry) (t : ℕ → ℕ → Bool). tabulate (λ k.
-    getD (d (dataAt g + indexOf (first (t (k / 512 / extentSectors g)) (usable g)) * extentSectors g + k / 512 % extentSectors g)) (k % 512) 0) off n)
+    getD (d (dataAt g + indexOf (first (t (k / 512 / extentSectors g)) (g .extents)) * extentSectors g + k / 512 % extentSectors g)) (k % 512) 0) off n)
     eg (fun-ext (λ o. fun-ext (λ e. et o e)))
 
 module _ (L : Ledger) (img : List ℕ) (root : Root) (i : ℕ) (f : Option File) (out : List ℕ) where
@@ -52,14 +51,6 @@ module _ (L : Ledger) (img : List ℕ) (root : Root) (i : ℕ) (f : Option File)
     pub admissible : Admissible L root i f
     pub disjoint : Disjoint (replaced L root i f)
     pub sized : (x : File) → f ≡ some x → length (x .extents) ≡ extentsFor (L .geometry) (x .entry .size)
-
--- where no data sector was rewritten
-pub all-kept : (L : Ledger) (img out : List ℕ) → Rep L img → ((j : ℕ) → dataAt (L .geometry) ≤ j → j < reserveAt (L .geometry) → view out j ≡ view img j)
-    → (k s : ℕ) → view out (sectorOf (catalogue L) k s) ≡ view img (sectorOf (catalogue L) k s)
-all-kept L img out rep h k s =
-    let eg = catalogue-geometry L in
-    let q = sector-data (catalogue L) k s (subst Bounded (sym eg) (rep .bounded)) in
-    h (sectorOf (catalogue L) k s) (subst (λ (x : Geometry). dataAt x ≤ sectorOf (catalogue L) k s) eg (q .0)) (subst (λ (x : Geometry). sectorOf (catalogue L) k s < reserveAt x) eg (q .1))
 
 module _ (L : Ledger) (img : List ℕ) (rep : Rep L img) (root : Root) (i : ℕ) (f : Option File) (out : List ℕ) (w : Rewrites L img root i f out) where
   abbrev M : Ledger

@@ -10,8 +10,8 @@ use lib.ListN.{length}
 use Rattle.model.specs.Search.{indexOf, equalBytes}
 use Rattle.model.specs.Disk.{Disk, view}
 use Rattle.model.specs.Catalogue.{Catalogue, catalogueOf, fileNamed}
-use Rattle.model.specs.Refusals.{Conditions, andThen, isDone, judged}
-use Rattle.model.specs.WriteList.{Plan, stored, groupsFor, listLength, ownVerdict, decided}
+use Rattle.model.specs.Refusals.{Conditions, verdictOf, andThen, isDone, judged}
+use Rattle.model.specs.WriteList.{Plan, stored, groupsFor, planConditions, decided}
 use Rattle.model.specs.Cut.{Cut, landed, startMark}
 use Rattle.model.specs.Rename.{renameConditions, renamePlan, renamePlanned, renameDecision}
 use Rattle.model.specs.Ledger.{Ledger, Call, rename, Answer, Feed, step, ledgerFrom}
@@ -29,10 +29,10 @@ rename-kept : (old new : List ℕ) (time room : ℕ) (L : Ledger) (k : List Bool
 unfolding step
 rename-kept old new time room L k = refl
 
--- a rename that has a plan is of two names
+-- no plan, also where it is done; so a rename that has a plan is of two names
 none-decided : (len : ℕ) (d : Disk) (cs : Conditions) (room : ℕ) → decided len d cs none room .plan ≡ none
 unfolding decided
-none-decided len d cs room = go (isDone (andThen (judged len d) (ownVerdict cs room (listLength (groupsFor d none)))))
+none-decided len d cs room = go (isDone (andThen (judged len d) (andThen (verdictOf cs) (verdictOf (planConditions d none room)))))
   where
     go : (b : Bool) → cond {A = Option Plan} b none none ≡ none
     go true = refl

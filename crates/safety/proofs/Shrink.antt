@@ -14,12 +14,12 @@ use borrow.Author.Tests.{lt-leb, eqb-true}
 use Rattle.model.specs.declared.Geometry.{Geometry}
 use Rattle.model.specs.Bytes.{bytesFrom}
 use Rattle.model.specs.Search.{tabulate, first, countBelow, indexOf}
-use Rattle.model.specs.Geometry.{extentSectors, extentBytes, usable, rootAt, entryAt, journalAt, tableAt, dataAt, tableSectors, extentsFor}
+use Rattle.model.specs.Geometry.{extentSectors, extentBytes, rootAt, entryAt, journalAt, tableAt, dataAt, tableSectors, extentsFor}
 use Rattle.model.specs.Disk.{Disk, view}
 use Rattle.model.specs.Root.{rootIn}
 use Rattle.model.specs.Entry.{updatedEntrySector}
-use Rattle.model.specs.Catalogue.{Catalogue, Owner, catalogueOf, isPart, ownedFrom, extentOf, sectorOf, fileByte, fileBytes, sectorsFrom}
-use Rattle.model.specs.Faults.{holdsOf, exact}
+use Rattle.model.specs.Catalogue.{Catalogue, Owner, catalogueOf, lacksReserve, isPart, ownedFrom, extentOf, sectorOf, fileByte, fileBytes, sectorsFrom}
+use Rattle.model.specs.Faults.{exact}
 use Rattle.model.specs.WriteList.{Plan, Record, Group, sectorWrite, stored, groupsFor, listLength, recordSize, recordCount}
 use Rattle.model.specs.Resize.{shrinkPlan}
 use Rattle.model.specs.Ledger.{Ledger, File, fileOr, catalogue, withFile, shrunk, updatedEntry}
@@ -29,16 +29,15 @@ use Rattle.laws.proofs.Search.{allBelow-yes, allBelow-at, tabulate-ext, countBe
 use Rattle.safety.proofs.Apply.{over, over-here, over-skip, over-none, All}
 use Rattle.safety.proofs.Plan.{UsableGeometry, WellFormed, A, metadata-directory}
 use Rattle.safety.proofs.Commit.{Ready, partOf, uncut, ready-uncut}
-use Rattle.laws.proofs.WriteList.{length-groups}
+use Rattle.laws.proofs.WriteList.{plan-needs}
 use Rattle.safety.proofs.Frame.{Shows, done-shows}
-use Rattle.safety.proofs.Bounds.{copies-fit, count-waits}
 use Rattle.safety.proofs.Rep.{Rep, Timely, rep-geometry, cat-is, catalogue-geometry}
-use Rattle.safety.proofs.Preserved.{bytes-keep-at, part-keeps}
+use Rattle.safety.proofs.Preserved.{bytes-keep-at, targets-fit, part-keeps, entry-of}
 use Rattle.safety.proofs.Fields.{length-updatedEntrySector}
-use Rattle.safety.proofs.Replaced.{among-and, replaced, Admissible}
+use Rattle.safety.proofs.Replaced.{replaced, Admissible}
 use Rattle.safety.proofs.Rewritten.{Rewrites, rep-replaced}
 use Rattle.safety.proofs.Extents.{exactly, extents-mono, sector-held}
-use Rattle.safety.proofs.KeptFile.{entry-of, size-small, usable-owned, entry-updated, mark-updated, admissible-kept}
+use Rattle.safety.proofs.KeptFile.{size-small, entry-updated, mark-updated, admissible-kept}
 use Rattle.safety.proofs.Read.{bytes-from}
 use Rattle.safety.proofs.FreedFile.{table-freed, disjoint-freed, others-freed}
 use Rattle.safety.proofs.FreedTable.{freed, length-freed, freed-few, freed-metadata, freed-whole, freed-rising, before-table, behind-table, table-after}
@@ -68,10 +67,6 @@ beyond-freed i n t = go (ownedFrom i n t) refl
     go true e = refl
     go false e = e
 
-among-freed : (b : Bool) (t : Option Owner) (p : Owner → Bool) → holdsOf t p ≡ false → holdsOf (cond b none t) p ≡ false
-among-freed true t p h = refl
-among-freed false t p h = h
-
 -- where n bytes of file i stand depends on the geometry and on which extents of the offsets read are its
 pub bytes-of-read : (c c′ : Catalogue) (d : Disk) (i n : ℕ) → c′ .geometry ≡ c .geometry
     → ((k e : ℕ) → k < n → isPart i (k / 512 / extentSectors (c .geometry)) (c′ .table e) ≡ isPart i (k / 512 / extentSectors (c .geometry)) (c .table e))
@@ -79,10 +74,10 @@ pub bytes-of-read : (c c′ : Catalogue) (d : Disk) (i n : ℕ) → c′ .geomet
 unfolding fileBytes fileByte sectorOf extentOf
 bytes-of-read c c′ d i n eg et =
     ap (λ (g : Geometry). tabulate (λ k.
-    getD (d (dataAt g + indexOf (first (λ e. isPart i (k / 512 / extentSectors g) (c′ .table e)) (usable g)) * extentSectors g + k / 512 % extentSectors g)) (k % 512) 0) 0 n) eg
+    getD (d (dataAt g + indexOf (first (λ e. isPart i (k / 512 / extentSectors g) (c′ .table e)) (g .extents)) * extentSectors g + k / 512 % extentSectors g)) (k % 512) 0) 0 n) eg
     ∙ tabulate-ext _ _ 0 0 n (λ k l. rw zero-add
     (ap (λ (t : ℕ → Bool). let g = c .geometry in
-    getD (d (dataAt g + indexOf (first t (usable g)) * extentSectors g + k / 512 % extentSectors g)) (k % 512) 0) (fun-ext (λ e. et k e l))))
+    getD (d (dataAt g + indexOf (first t (g .extents)) * extentSectors g + k / 512 % extentSectors g)) (k % 512) 0) (fun-ext (λ e. et k e l))))
 
 -- ---- the plan
 
@@ -101,13 +96,14 @@ module _ (L : Ledger) (img : List ℕ) (i z time : ℕ) where
 
   -- the list's length
   pub shrink-length : listLength (groupsFor (view img) (some p)) ≡ recordCount 0 (1 + sectorsFrom (catalogue L) i (extentsFor (catalogue L .geometry) z)) * recordSize
-  unfolding groupsFor shrinkPlan catalogue
+  unfolding shrinkPlan catalogue
   shrink-length =
-      length-groups _ (view img) p
+      plan-needs (view img) p
       ∙ ap (λ m. recordCount 0 m * recordSize)
       (let e : length table-writes ≡ sectorsFrom (catalogue L) i n = length-freed L img i n in let q : suc (length table-writes) ≡ 1 + sectorsFrom (catalogue L) i n = omega arith in q)
 
-  module _ (rep : Rep L img) (there : L .slots i ≡ some (fileOr (L .slots i))) (within : i < L .geometry .files) (less : z < fileOr (L .slots i) .entry .size) (ht : Timely L time) where
+  module _ (rep : Rep L img) (reserve : lacksReserve (catalogue L) ≡ false) (there : L .slots i ≡ some (fileOr (L .slots i))) (within : i < L .geometry .files)
+      (less : z < fileOr (L .slots i) .entry .size) (ht : Timely L time) where
     abbrev c : Catalogue
     c = catalogue L
 
@@ -123,25 +119,17 @@ module _ (L : Ledger) (img : List ℕ) (i z time : ℕ) where
     fewer : n ≤ extentsFor (L .geometry) (old .entry .size)
     fewer = extents-mono (L .geometry) (rep .bounded) z (old .entry .size) (omega arith)
 
-    pub shrink-fits : WellFormed (L .geometry) p
+    pub shrink-fits : WellFormed (L .geometry) (view img) p
     unfolding shrinkPlan catalogue
     shrink-fits =
         let m : length table-writes ≤ tableSectors (L .geometry) = freed-few L img i n in
-        record {
-          nonempty = omega arith;
-          few = copies-fit (L .geometry) (rep .bounded) _ (omega arith);
-          journalled = count-waits (L .geometry) (rep .bounded) _ (omega arith);
-          metadata = (metadata-directory (L .geometry) (entryAt i) (omega arith) (omega arith), freed-metadata L img i n);
-          rising = (omega arith, freed-rising L img i n (suc (entryAt i)) (omega arith));
-          usable = tt;
-          own = tt;
-          short = omega arith;
-          wholeData = tt;
-          wholeTargets = (length-updatedEntrySector (L .geometry .edition) z time (view img (entryAt i)) ∙ length-view img (entryAt i), freed-whole L img i n);
-        }
+        targets-fit L img rep reserve _ (omega arith) (omega arith)
+        (metadata-directory (L .geometry) (entryAt i) (omega arith) (omega arith), freed-metadata L img i n)
+        (omega arith, freed-rising L img i n (suc (entryAt i)) (omega arith))
+        (length-updatedEntrySector (L .geometry .edition) z time (view img (entryAt i)) ∙ length-view img (entryAt i), freed-whole L img i n)
 
-    size-most : z ≤ usable (L .geometry) * extentBytes (L .geometry)
-    size-most = let s : old .entry .size ≤ usable (L .geometry) * extentBytes (L .geometry) = size-small L img rep i old there in omega arith
+    size-most : z ≤ L .geometry .extents * extentBytes (L .geometry)
+    size-most = let s : old .entry .size ≤ L .geometry .extents * extentBytes (L .geometry) = size-small L img rep i old there in omega arith
 
     -- ---- the table
 
@@ -169,23 +157,17 @@ module _ (L : Ledger) (img : List ℕ) (i z time : ℕ) where
         ∙ allBelow-at (λ o. eqb (countBelow (λ e. isPart i o (c .table e)) (L .geometry .extents)) 1) (extentsFor (L .geometry) (old .entry .size)) (and-left _ _ exact-old) o (omega (arith, fewer))))
         (allBelow-yes _ (L .geometry .extents) (λ e l. ap not (ap (ownedFrom i n) (table-new e) ∙ beyond-freed i n (c .table e))))
 
-    owned-new : (e : ℕ) → e < L .geometry .extents → holdsOf (c′ .table e) (λ w. eqb (w .file) i && leb (usable (L .geometry)) e) ≡ false
-    owned-new e l =
-        ap (λ (o : Option Owner). holdsOf o (λ w. eqb (w .file) i && leb (usable (L .geometry)) e)) (table-new e)
-        ∙ among-freed (ownedFrom i n (c .table e)) (c .table e) (λ w. eqb (w .file) i && leb (usable (L .geometry)) e)
-        (among-and (c .table e) (λ w. eqb (w .file) i) (λ w. leb (usable (L .geometry)) e) (usable-owned L img rep e l))
-
     admissible : Admissible L (L .root) i (some (shrunk L i z time))
     unfolding shrunk updatedEntry
     admissible =
-        admissible-kept L img rep i old there (shrunk L i z time) refl refl size-most (others-freed L (L .root) i n (some new) firsts (rep .disjoint)) owned-new exact-new
+        admissible-kept L img rep i old there (shrunk L i z time) refl refl size-most (others-freed L (L .root) i n (some new) firsts (rep .disjoint)) exact-new
 
     -- ---- the sectors of the new image
 
     low : All (λ w. w .sector < tableAt (L .geometry)) (w1 ∷ [])
     low = (omega arith, tt)
 
-    module _ (out : List ℕ) (ready : Ready (L .geometry) out) (shows : Shows (L .geometry) (w1 ∷ table-writes) img out) where
+    module _ (out : List ℕ) (ready : Ready (L .geometry) out) (shows : Shows (L .geometry) (catalogueOf (view img)) (w1 ∷ table-writes) img out) where
       at : (j : ℕ) → j < journalAt (L .geometry) → j ≢ 0 → view out j ≡ over (w1 ∷ []) j (view img j)
       at = before-table L img i n rep (w1 ∷ []) low out ready shows
 
@@ -195,7 +177,8 @@ module _ (L : Ledger) (img : List ℕ) (i z time : ℕ) where
       at-front : (j : ℕ) → j < journalAt (L .geometry) → j ≢ 0 → j ≢ entryAt i → view out j ≡ view img j
       at-front j l n0 ni = at j l n0 ∙ over-skip w1 [] j _ ni ∙ over-none j _
 
-      at-data : (k s : ℕ) → view out (sectorOf (catalogue L) k s) ≡ view img (sectorOf (catalogue L) k s)
+      at-data : (k : ℕ) (x : File) → L .slots k ≡ some x → (b : ℕ) → b < x .entry .size
+          → view out (sectorOf (catalogue L) k (b / 512)) ≡ view img (sectorOf (catalogue L) k (b / 512))
       at-data = behind-table L img i n rep (w1 ∷ []) low out ready shows
 
       table-is : (e : ℕ) → catalogueOf (view out) .table e ≡ cond (ownedFrom i n (c .table e)) none (c .table e)
@@ -209,7 +192,7 @@ module _ (L : Ledger) (img : List ℕ) (i z time : ℕ) where
           bytes-of-read c (catalogueOf (view out)) (view out) i z (ready .volume .geometry ∙ sym (catalogue-geometry L))
           (λ k e l. ap (isPart i _) (table-is e)
           ∙ part-freed i n _ (c .table e) (sector-held (L .geometry) (rep .bounded) z (k / 512) (omega arith)))
-          ∙ bytes-keep-at c (view img) (view out) i 0 z (λ k l. at-data i _)
+          ∙ bytes-keep-at c (view img) (view out) i 0 z (λ k l. rw zero-add (at-data i old there k (omega arith)))
           ∙ sym (bytes-from c (view img) i (old .entry .size) 0 z (omega arith))
           ∙ ap (λ (x : Catalogue). bytesFrom (fileBytes x (view img) i 0 (old .entry .size)) 0 z) (sym (cat-is L img rep))
           ∙ ap (λ (b : List ℕ). bytesFrom b 0 z) (rep .says .bytes i old there)
@@ -236,7 +219,7 @@ module _ (L : Ledger) (img : List ℕ) (i z time : ℕ) where
         entries = λ k q ne. at-front (entryAt k) (omega arith) (λ y. omega arith) (λ y. ne (omega arith));
         table = λ e. table-is e ∙ sym (table-new e);
         bytes = bytes-are;
-        kept = λ k x ne e b q. at-data k _;
+        kept = λ k x ne e b q. at-data k x e b q;
         admissible = admissible;
         disjoint = disjoint-freed L (L .root) i n (some new) firsts (rep .disjoint);
         sized = sized-new;
@@ -246,9 +229,9 @@ module _ (L : Ledger) (img : List ℕ) (i z time : ℕ) where
     unfolding shrinkPlan catalogue
     shrink-done =
         rep-replaced L img rep (L .root) i (some (shrunk L i z time)) (uncut (L .geometry) img p)
-        (rewrites _ (ready-uncut (L .geometry) img p geo shrink-fits (rep .ready)) (done-shows (L .geometry) p geo shrink-fits img (rep .ready)))
+        (rewrites _ (ready-uncut (L .geometry) img p geo shrink-fits (rep .ready)) (done-shows (L .geometry) img p geo shrink-fits (rep .ready)))
 
     -- a cut before the start mark
-    pub shrink-partly : (k : ℕ) (m : List Bool) → Rep L (stored (partOf k m (A (L .geometry) p)) img)
+    pub shrink-partly : (k : ℕ) (m : List Bool) → Rep L (stored (partOf k m (A (L .geometry) (view img) p)) img)
     unfolding shrinkPlan
     shrink-partly k m = part-keeps L img p rep shrink-fits refl k m

@@ -16,22 +16,21 @@ use Rattle.model.specs.declared.Geometry.{Geometry}
 use Rattle.model.specs.declared.Lowest.{Lowest}
 use Rattle.model.specs.declared.Lowest.the-variants.{At, Nowhere}
 use Rattle.model.specs.Search.{scan, first, allBelow, countBelow, isAt, indexOf}
-use Rattle.model.specs.Geometry.{usable}
 use Rattle.model.specs.Root.{Root}
 use Rattle.model.specs.Catalogue.{Owner, isFree, isPart, ownedFrom}
-use Rattle.model.specs.Faults.{holdsOf, exact}
+use Rattle.model.specs.Faults.{exact}
 use Rattle.model.specs.Ledger.{Ledger, File, fileOr, positionAmong, holderOf, ownerFrom, catalogue}
 use Rattle.laws.proofs.Booleans.{and-left, and-right, and-yes, and-false}
 use Rattle.laws.proofs.Search.{Hit, scan-hit, first-ext, allBelow-yes, allBelow-at, countBelow-ext}
 use Rattle.safety.proofs.Rep.{holds, Disjoint}
-use Rattle.safety.proofs.Replaced.{replaced, OthersKept, among-and}
+use Rattle.safety.proofs.Replaced.{replaced, OthersKept}
 use Rattle.safety.proofs.Pigeonhole.{countBelow-add}
 use Rattle.safety.proofs.Extents.{owner, free-none, countBelow-none}
 
 -- ---- searches
 
 -- where the first search finds nothing, the second
-abbrev orThen : Lowest → Lowest → Lowest
+abbrev pub orThen : Lowest → Lowest → Lowest
 orThen (At k) r = At k
 orThen Nowhere r = r
 
@@ -65,7 +64,7 @@ swapped a b = go (eqb b a) refl
     go false e = ne-eqb a b (λ q. eqb-false b a e (sym q)) ∙ sym e
 
 -- an extent among others and perhaps one more
-place-more : (e : ℕ) (es : List ℕ) (b : Bool) (x : ℕ)
+pub place-more : (e : ℕ) (es : List ℕ) (b : Bool) (x : ℕ)
     → positionAmong e (es ++ cond b (x ∷ []) []) ≡ orThen (positionAmong e es) (cond (b && eqb e x) (At (length es)) Nowhere)
 unfolding positionAmong scan
 place-more e es false x = ap (positionAmong e) (append-nil es) ∙ sym (orThen-nowhere (positionAmong e es))
@@ -191,7 +190,7 @@ module _ (L : Ledger) (root : Root) (i : ℕ) (f : File) (has : L .slots i ≡ s
   unfolding holderOf
   holder-taken e t = first-only (λ k. isAt (places M e k)) (L .geometry .files) i within (ap isAt (place-taken e t)) (only-here e t)
 
-  -- "it takes the lowest usable extent that no slot has": that becomes file i's last, all others stay
+  -- "it takes the lowest .. extent that no slot has": that becomes file i's last, all others stay
   pub table-taken : (e : ℕ) → catalogue M .table e ≡ cond (b && eqb e x) (owner i (length (f .extents))) (catalogue L .table e)
   unfolding catalogue
   table-taken e = go (takes e) refl
@@ -233,7 +232,7 @@ module _ (L : Ledger) (root : Root) (i : ℕ) (f : File) (has : L .slots i ≡ s
       go true = and-yes (eqb i i) (eqb n n) (eq-eqb i i refl) (eq-eqb n n refl)
       go false = part-beyond i n (catalogue L .table e) h
 
-  module _ (usable-one : b ≡ true → x < usable (L .geometry)) (few : usable (L .geometry) ≤ L .geometry .extents) (old : exact (catalogue L) i (length (f .extents)) ≡ true) where
+  module _ (inside : b ≡ true → x < L .geometry .extents) (old : exact (catalogue L) i (length (f .extents)) ≡ true) where
     abbrev N : ℕ
     N = L .geometry .extents
 
@@ -257,9 +256,8 @@ module _ (L : Ledger) (root : Root) (i : ℕ) (f : File) (has : L .slots i ≡ s
         go (yes q) = countBelow-ext (λ e. isPart i o (catalogue M .table e)) (λ e. isPart i o (catalogue L .table e)) N (λ e u. part-old o e q) ∙ old-count o q
         go (no q) =
             let z = grown b refl l q in
-            let u : x < usable (L .geometry) = usable-one (z .0) in
             ap (λ m. countBelow (λ e. isPart i m (catalogue M .table e)) N) (z .1)
-            ∙ countBelow-ext (λ e. isPart i n (catalogue M .table e)) (λ e. eqb e x) N (λ e v. part-new e (z .0) (old-beyond e v)) ∙ countBelow-one x N (omega arith)
+            ∙ countBelow-ext (λ e. isPart i n (catalogue M .table e)) (λ e. eqb e x) N (λ e v. part-new e (z .0) (old-beyond e v)) ∙ countBelow-one x N (inside (z .0))
 
     new-beyond : (e : ℕ) → e < N → ownedFrom i (cond b (suc n) n) (catalogue M .table e) ≡ false
     new-beyond e l = ap (ownedFrom i (cond b (suc n) n)) (table-taken e) ∙ go b (eqb e x) refl
@@ -274,14 +272,3 @@ module _ (L : Ledger) (root : Root) (i : ℕ) (f : File) (has : L .slots i ≡ s
     exact-taken =
         and-yes _ _ (allBelow-yes (λ o. eqb (countBelow (λ e. isPart i o (catalogue M .table e)) N) 1) (cond b (suc n) n) (λ o l. eq-eqb _ 1 (new-count o l)))
         (allBelow-yes (λ e. not (ownedFrom i (cond b (suc n) n) (catalogue M .table e))) N (λ e l. ap not (new-beyond e l)))
-
-    pub owned-taken : (e : ℕ) → holdsOf (catalogue L .table e) (λ w. leb (usable (L .geometry)) e) ≡ false
-        → holdsOf (catalogue M .table e) (λ w. eqb (w .file) i && leb (usable (L .geometry)) e) ≡ false
-    owned-taken e h = ap (λ (t : Option Owner). holdsOf t (λ w. eqb (w .file) i && leb (usable (L .geometry)) e)) (table-taken e) ∙ go (takes e) refl
-      where
-        go : (q : Bool) → takes e ≡ q → holdsOf (cond q (owner i n) (catalogue L .table e)) (λ w. eqb (w .file) i && leb (usable (L .geometry)) e) ≡ false
-        go true z =
-            let u : x < usable (L .geometry) = usable-one (and-left b (eqb e x) z) in
-            let v : e ≡ x = eqb-true e x (and-right b _ z) in
-            ap (λ (t : Bool). eqb i i && t) (lt-leb (usable (L .geometry)) e (omega arith)) ∙ and-false (eqb i i)
-        go false z = among-and (catalogue L .table e) (λ w. eqb (w .file) i) (λ w. leb (usable (L .geometry)) e) h

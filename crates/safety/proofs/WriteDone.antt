@@ -14,12 +14,12 @@ use lib.ListN.{length, getD}
 use lib.Seq.{ext-getD}
 use borrow.Author.Tests.{eqb-true, eqb-false, eq-eqb, ne-eqb}
 use Rattle.model.specs.Bytes.{bytesFrom}
-use Rattle.model.specs.Geometry.{extentSectors, usable, entryAt, journalAt, dataAt, reserveAt, tableSectors, mostTargets, extentsFor}
+use Rattle.model.specs.Geometry.{extentSectors, entryAt, journalAt, dataAt, tableSectors, mostTargets, extentsFor}
 use Rattle.model.specs.Disk.{view}
 use Rattle.model.specs.Root.{rootIn}
 use Rattle.model.specs.Entry.{updatedEntrySector}
 use Rattle.model.specs.Table.{tableSectorOf, takenIn}
-use Rattle.model.specs.Catalogue.{catalogueOf, isPart, entryOf, sectorOf, fileByte, fileBytes}
+use Rattle.model.specs.Catalogue.{catalogueOf, lacksReserve, isPart, entryOf, sectorOf, fileByte, fileBytes}
 use Rattle.model.specs.WriteList.{Plan, Record, Group, sectorWrite}
 use Rattle.model.specs.Write.{heldExtents, fileSectorAt, dataSector, touchedSectors, writePlan}
 use Rattle.model.specs.Ledger.{Ledger, File, catalogue, withFile, updatedEntry, written}
@@ -29,12 +29,12 @@ use Rattle.laws.proofs.Search.{length-tabulate, getD-tab0}
 use Rattle.laws.proofs.Disk.{length-view}
 use Rattle.safety.proofs.Apply.{over, over-append, over-here, over-skip, over-miss, All}
 use Rattle.safety.proofs.Journal.{Rising}
-use Rattle.safety.proofs.Plan.{UsableGeometry, WellFormed, Metadata, Whole, metadata-directory, metadata-table}
+use Rattle.safety.proofs.Plan.{UsableGeometry, WellFormed, Unstaged, Metadata, Whole, metadata-directory, metadata-table}
 use Rattle.safety.proofs.Commit.{Ready, uncut, ready-uncut}
 use Rattle.safety.proofs.Frame.{Outside, Shows, done-shows}
 use Rattle.safety.proofs.Bounds.{copies-fit, count-waits}
-use Rattle.safety.proofs.Rep.{Rep, Timely, rep-geometry}
-use Rattle.safety.proofs.Preserved.{out-front, out-table, out-data, sector-data}
+use Rattle.safety.proofs.Rep.{Rep, Timely, cat-is, disk-geometry, rep-geometry}
+use Rattle.safety.proofs.Preserved.{out-front, out-table, out-data, free-said, sector-data}
 use Rattle.safety.proofs.Fields.{length-updatedEntrySector}
 use Rattle.safety.proofs.Replaced.{replaced}
 use Rattle.safety.proofs.Rewritten.{bytes-of, rep-replaced}
@@ -43,9 +43,10 @@ use Rattle.safety.proofs.Extents.{extents-le, sector-held}
 use Rattle.safety.proofs.TakenTable.{length-takenIn, table-changed}
 use Rattle.safety.proofs.WriteLedger.{sizeWritten, takesOne, nextExtent, Writable, within, size-is, held-is, taken, size-bounded, writtenFile, written-is, sized-written, table-written}
 use Rattle.safety.proofs.WriteLedger.{disjoint-written, admissible-written}
-use Rattle.safety.proofs.WritePlaces.{writes, writes-usable, writes-whole, writes-miss, low-miss, place-usable, place-other, sector-new, byte-landed, writes-own}
+use Rattle.safety.proofs.WritePlaces.{writes, writes-data, writes-unstaged, writes-whole, writes-miss, low-miss, place-data, place-unstaged, place-other, sector-new, byte-landed, writes-own}
 
-module _ (L : Ledger) (img : List ℕ) (rep : Rep L img) (i : ℕ) (f : File) (offset : ℕ) (bytes : List ℕ) (w : Writable L i f offset bytes) (time : ℕ) where
+module _ (L : Ledger) (img : List ℕ) (rep : Rep L img) (i : ℕ) (f : File) (offset : ℕ) (bytes : List ℕ) (w : Writable L i f offset bytes)
+    (there : lacksReserve (catalogue L) ≡ false) (time : ℕ) where
   abbrev z : ℕ
   z = sizeWritten L i offset bytes
 
@@ -75,21 +76,24 @@ module _ (L : Ledger) (img : List ℕ) (rep : Rep L img) (i : ℕ) (f : File) (o
   geo = rep-geometry L img rep
 
   tabled : b ≡ true → x / 128 < tableSectors (L .geometry)
-  tabled t = let q : x < usable (L .geometry) = taken L img rep i f offset bytes w t .0 in omega arith
+  tabled t = let q : x < L .geometry .extents = taken L img rep i f offset bytes w t .0 in omega arith
 
   -- ---- the plan
 
-  pub fits : WellFormed (L .geometry) plan
+  pub fits : WellFormed (L .geometry) (view img) plan
   unfolding writePlan catalogue
   fits =
       let l : i < L .geometry .files = here in
       record {
+        geometry = disk-geometry L img rep;
+        there = ap lacksReserve (cat-is L img rep) ∙ there;
         nonempty = omega arith;
         few = copies-fit (L .geometry) (rep .bounded) _ (few b);
         journalled = count-waits (L .geometry) (rep .bounded) _ (few b);
         metadata = (metadata-directory (L .geometry) (entryAt i) (omega arith) (omega arith), metadata b refl);
         rising = (omega arith, rising b);
-        usable = writes-usable L img rep i f offset bytes w;
+        inData = writes-data L img rep i f offset bytes w;
+        unstaged = writes-unstaged L img rep i f offset bytes w there;
         own = writes-own L img rep i f offset bytes w;
         short =
             let n : length (writes L img i offset bytes) ≡ touchedSectors offset (length bytes) =
@@ -117,8 +121,8 @@ module _ (L : Ledger) (img : List ℕ) (rep : Rep L img) (i : ℕ) (f : File) (o
 
   -- ---- the sectors of the new image
 
-  module _ (out : List ℕ) (ready : Ready (L .geometry) out) (shows : Shows (L .geometry) (ds ++ (w1 ∷ cond b (w2 ∷ []) [])) img out) where
-    shown : (j : ℕ) → Outside (L .geometry) j → j ≢ 0 → view out j ≡ over (w1 ∷ cond b (w2 ∷ []) []) j (over ds j (view img j))
+  module _ (out : List ℕ) (ready : Ready (L .geometry) out) (shows : Shows (L .geometry) (catalogueOf (view img)) (ds ++ (w1 ∷ cond b (w2 ∷ []) [])) img out) where
+    shown : (j : ℕ) → Outside (L .geometry) (catalogueOf (view img)) j → j ≢ 0 → view out j ≡ over (w1 ∷ cond b (w2 ∷ []) []) j (over ds j (view img j))
     shown j o ne = shows j o ne ∙ over-append ds (w1 ∷ cond b (w2 ∷ []) []) j (view img j)
 
     -- the table sector's record, if there is one
@@ -134,23 +138,23 @@ module _ (L : Ledger) (img : List ℕ) (rep : Rep L img) (i : ℕ) (f : File) (o
         go true e = ap (λ (q : Bool). cond q (w2 .contents) v) (ne-eqb j (tableSectorOf (L .geometry) x) (h e))
         go false e = refl
 
-    at-low : (j : ℕ) → Outside (L .geometry) j → j ≢ 0 → j < dataAt (L .geometry) → view out j ≡ over (w1 ∷ cond b (w2 ∷ []) []) j (view img j)
+    at-low : (j : ℕ) → Outside (L .geometry) (catalogueOf (view img)) j → j ≢ 0 → j < dataAt (L .geometry) → view out j ≡ over (w1 ∷ cond b (w2 ∷ []) []) j (view img j)
     at-low j o ne l = shown j o ne ∙ ap (over (w1 ∷ cond b (w2 ∷ []) []) j) (over-miss ds j (view img j) (low-miss L img rep i f offset bytes w j l))
 
     at-entry : view out (entryAt i) ≡ updatedEntrySector (L .geometry .edition) z time (view img (entryAt i))
     at-entry =
         let l : i < L .geometry .files = here in
-        at-low (entryAt i) (out-front (L .geometry) geo (entryAt i) (omega arith)) (λ e. omega arith) (omega arith)
+        at-low (entryAt i) (out-front (L .geometry) (entryAt i) (omega arith)) (λ e. omega arith) (omega arith)
         ∙ over-here w1 (cond b (w2 ∷ []) []) _ ∙ table-skip (entryAt i) _ (λ t e. omega arith)
 
     at-front : (j : ℕ) → j < journalAt (L .geometry) → j ≢ 0 → j ≢ entryAt i → view out j ≡ view img j
     at-front j l n0 ni =
-        at-low j (out-front (L .geometry) geo j l) n0 (omega arith) ∙ over-skip w1 (cond b (w2 ∷ []) []) j _ ni ∙ table-skip j _ (λ t e. omega arith)
+        at-low j (out-front (L .geometry) j l) n0 (omega arith) ∙ over-skip w1 (cond b (w2 ∷ []) []) j _ ni ∙ table-skip j _ (λ t e. omega arith)
 
-    at-data : (j : ℕ) → dataAt (L .geometry) ≤ j → j < reserveAt (L .geometry) → view out j ≡ over ds j (view img j)
+    at-data : (j : ℕ) → dataAt (L .geometry) ≤ j → Unstaged (L .geometry) (catalogueOf (view img)) j → view out j ≡ over ds j (view img j)
     at-data j u v =
         let l : i < L .geometry .files = here in
-        shown j (out-data (L .geometry) geo j u v) (λ e. omega arith) ∙ over-skip w1 (cond b (w2 ∷ []) []) j _ (λ e. omega arith)
+        shown j (out-data (L .geometry) j u v) (λ e. omega arith) ∙ over-skip w1 (cond b (w2 ∷ []) []) j _ (λ e. omega arith)
         ∙ table-skip j _ (λ t e. let q : x / 128 < tableSectors (L .geometry) = tabled t in omega arith)
 
     at-table : (e : ℕ) → e < L .geometry .extents
@@ -158,7 +162,7 @@ module _ (L : Ledger) (img : List ℕ) (rep : Rep L img) (i : ℕ) (f : File) (o
         ≡ cond (b && eqb (e / 128) (x / 128)) (takenIn x i (length (f .extents)) (view img (tableSectorOf (L .geometry) x))) (view img (tableSectorOf (L .geometry) e))
     at-table e l =
         let m : i < L .geometry .files = here in
-        at-low (tableSectorOf (L .geometry) e) (out-table (L .geometry) geo e l) (λ q. omega arith) (omega arith)
+        at-low (tableSectorOf (L .geometry) e) (out-table (L .geometry) e l) (λ q. omega arith) (omega arith)
         ∙ over-skip w1 (cond b (w2 ∷ []) []) (tableSectorOf (L .geometry) e) _ (λ q. omega arith) ∙ over-table b (tableSectorOf (L .geometry) e) _
         ∙ ap₂ (λ (q : Bool) (m : ℕ). cond (b && q) (takenIn x i m (view img (tableSectorOf (L .geometry) x))) (view img (tableSectorOf (L .geometry) e))) same (held-is L img rep i f offset bytes w)
       where
@@ -176,14 +180,14 @@ module _ (L : Ledger) (img : List ℕ) (rep : Rep L img) (i : ℕ) (f : File) (o
 
     few-extents : length (f .extents) < 65536
     few-extents =
-        let h : length (f .extents) ≤ usable (L .geometry) = subst (λ (m : ℕ). m ≤ usable (L .geometry)) (sym (rep .sized i f (w .has)))
-        (extents-le (L .geometry) (rep .bounded) (f .entry .size) (usable (L .geometry)) (size-small L img rep i f (w .has))) in
+        let h : length (f .extents) ≤ L .geometry .extents = subst (λ (m : ℕ). m ≤ L .geometry .extents) (sym (rep .sized i f (w .has)))
+        (extents-le (L .geometry) (rep .bounded) (f .entry .size) (L .geometry .extents) (size-small L img rep i f (w .has))) in
         omega (arith, rep .bounded .extents-high)
 
     table-new : (e : ℕ) → catalogueOf (view out) .table e ≡ catalogue (replaced L (L .root) i (some y)) .table e
     table-new e =
         let l : i < L .geometry .files = here in
-        table-changed L img out rep (ready .volume .geometry) b x i (length (f .extents)) (λ t. let q : x < usable (L .geometry) = taken L img rep i f offset bytes w t .0 in omega arith)
+        table-changed L img out rep (ready .volume .geometry) b x i (length (f .extents)) (λ t. taken L img rep i f offset bytes w t .0)
         (omega (arith, rep .bounded .files-high)) few-extents at-table e
         ∙ sym (table-written L img rep i f offset bytes w time e)
 
@@ -219,9 +223,9 @@ module _ (L : Ledger) (img : List ℕ) (rep : Rep L img) (i : ℕ) (f : File) (o
     unfolding fileByte
     byte-new q l =
         let h : q / 512 / extentSectors (L .geometry) < extentsFor (L .geometry) z = sector-held (L .geometry) (rep .bounded) z (q / 512) (omega arith) in
-        let u = place-usable L img rep i f offset bytes w (q / 512) h in
+        let u = place-data L img rep i f offset bytes w (q / 512) h in
         ap (λ k. getD (view out k) (q % 512) 0) (sector-new L img rep i f offset bytes w time (q / 512) h)
-        ∙ ap (λ (v : List ℕ). getD v (q % 512) 0) (at-data (fileSectorAt (catalogue L) i (q / 512)) (u .0) (u .1))
+        ∙ ap (λ (v : List ℕ). getD v (q % 512) 0) (at-data (fileSectorAt (catalogue L) i (q / 512)) (u .0) (place-unstaged L img rep i f offset bytes w there (q / 512) h))
         ∙ byte-landed L img rep i f offset bytes w 1 [] q l (old-part q l) ∙ sym (new-byte q l)
 
     bytes-new : fileBytes (catalogueOf (view out)) (view out) i 0 z ≡ y .bytes
@@ -237,7 +241,7 @@ module _ (L : Ledger) (img : List ℕ) (rep : Rep L img) (i : ℕ) (f : File) (o
         → view out (sectorOf (catalogue L) k (q / 512)) ≡ view img (sectorOf (catalogue L) k (q / 512))
     unfolding catalogue
     kept k v ne has q l =
-        let u = sector-data (catalogue L) k (q / 512) (rep .bounded) in
+        let u = sector-data L img rep (catalogueOf (view img)) (free-said L img rep) k v has q l in
         at-data (sectorOf (catalogue L) k (q / 512)) (u .0) (u .1)
         ∙ over-miss ds (sectorOf (catalogue L) k (q / 512)) _
         (writes-miss L img rep i f offset bytes w (sectorOf (catalogue L) k (q / 512)) (λ s h. place-other L img rep i f offset bytes w k v (q / 512) s ne has (omega arith) h))
@@ -264,4 +268,4 @@ module _ (L : Ledger) (img : List ℕ) (rep : Rep L img) (i : ℕ) (f : File) (o
 
   pub done : Timely L time → Rep (withFile L i (written L i offset bytes time)) (uncut (L .geometry) img plan)
   unfolding writePlan catalogue
-  done ht = shown-done (uncut (L .geometry) img plan) (ready-uncut (L .geometry) img plan geo fits (rep .ready)) (done-shows (L .geometry) plan geo fits img (rep .ready)) ht
+  done ht = shown-done (uncut (L .geometry) img plan) (ready-uncut (L .geometry) img plan geo fits (rep .ready)) (done-shows (L .geometry) img plan geo fits (rep .ready)) ht

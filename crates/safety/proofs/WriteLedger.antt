@@ -2,32 +2,34 @@
 -- each extent is, and that the file is admissible, done or partly landed. Assumes nothing.
 use Prim.Native.Nat.{ℕ, suc, _+_, _*_, _≤_, _<_, max}
 use mathlib.Core.Path.{_≡_, refl, sym, ap, ap₂, _∙_}
-use mathlib.Core.Bool.{Bool, true, false, cond, not, _&&_, false≢true}
+use mathlib.Core.Bool.{Bool, true, false, cond, _&&_, false≢true}
 use mathlib.Core.List.{List, [], _∷_, _++_, append-nil}
 use mathlib.Core.Option.{Option, some}
 use native.Mathlib.Omega.{arith}
 use native.Mathlib.Nat.{mul-le-mul-right, suc-mul}
 use lib.Dec.{eqb, ltb}
 use lib.ListN.{length, length-append}
-use borrow.Author.Tests.{ltb-true, ltb-false, not-false}
+use borrow.Author.Tests.{ltb-true, ltb-false}
 use Rattle.model.specs.declared.Geometry.{Geometry}
 use Rattle.model.specs.declared.Lowest.{Lowest}
 use Rattle.model.specs.Bytes.{bytesFrom, put}
 use Rattle.model.specs.Search.{isAt, indexOf}
-use Rattle.model.specs.Geometry.{extentBytes, extentsFor, usable}
-use Rattle.model.specs.Catalogue.{Catalogue, isFree, freeExtent, entryOf, entryOr, extentOf}
+use Rattle.model.specs.Geometry.{extentBytes, extentsFor, reserveExtents}
+use Rattle.model.specs.Catalogue.{Catalogue, isFree, freeExtent, freeExtents, entryOf, entryOr, extentOf}
 use Rattle.model.specs.Faults.{exact}
 use Rattle.model.specs.Write.{heldExtents, grows, noRoom, sizeAfter}
 use Rattle.model.specs.Read.{longestTransfer}
 use Rattle.model.specs.Ledger.{Ledger, File, fileOr, entryOfFile, catalogue, updatedEntry, written, unheldExtent}
+use Rattle.laws.proofs.Staging.{free-first}
 use Rattle.safety.proofs.OwnWords.{unheld-is}
 use Rattle.safety.proofs.Searches.{place-found}
 use Rattle.safety.proofs.Rep.{Rep, Disjoint, catalogue-geometry}
 use Rattle.safety.proofs.Replaced.{replaced, Admissible}
 use Rattle.safety.proofs.Pigeonhole.{pigeonhole}
-use Rattle.safety.proofs.Extents.{owner, owner-offset, free-unowned, exactly, extent-owned, extent-usable, size-held, extents-le, extents-mono}
-use Rattle.safety.proofs.KeptFile.{entry-of, slot-within, size-small, usable-owned, admissible-kept}
-use Rattle.safety.proofs.TakenFile.{table-taken, disjoint-taken, others-taken, exact-taken, owned-taken}
+use Rattle.safety.proofs.Extents.{owner, owner-offset, free-unowned, exactly, extent-owned, extent-inside, size-held, extents-le, extents-mono}
+use Rattle.safety.proofs.Preserved.{entry-of, slot-within}
+use Rattle.safety.proofs.KeptFile.{size-small, admissible-kept}
+use Rattle.safety.proofs.TakenFile.{table-taken, disjoint-taken, others-taken, exact-taken}
 
 -- ---- the size that file i has after a write, whether it takes an extent, and which
 
@@ -104,19 +106,27 @@ module _ (L : Ledger) (img : List ℕ) (rep : Rep L img) (i : ℕ) (f : File) (o
       go true l h e q m t = let k : heldExtents (catalogue L) i < extentsFor (catalogue L .geometry) z = ltb-true _ _ l in omega arith
       go false l h e q m t = let k : extentsFor (catalogue L .geometry) z ≤ heldExtents (catalogue L) i = ltb-false _ _ l in omega arith
 
-  -- "the lowest usable free one is taken"
-  pub taken : takesOne L i offset bytes ≡ true → (nextExtent L < usable (L .geometry)) × (isFree (catalogue L .table (nextExtent L)) ≡ true)
-  unfolding noRoom freeExtent catalogue
-  taken t =
-      place-found (λ e. isFree (catalogue L .table e)) (usable (L .geometry))
-      (not-false (isAt (freeExtent (catalogue L))) (sym (ap (λ (q : Bool). q && not (isAt (freeExtent (catalogue L)))) t) ∙ w .room))
+  -- T-12: K + 1 are free, and the lowest free extent is taken
+  pub plenty : takesOne L i offset bytes ≡ true → reserveExtents (L .geometry) < length (freeExtents (catalogue L))
+  unfolding noRoom catalogue
+  plenty t =
+      let k : ℕ = reserveExtents (L .geometry) in
+      let h : k + 1 ≤ length (freeExtents (catalogue L)) =
+      ltb-false _ (k + 1) (sym (ap (λ (q : Bool). q && ltb (length (freeExtents (catalogue L))) (k + 1)) t) ∙ w .room) in
+      omega arith
 
-  -- the file's extents are fewer than the usable ones, if one of these is free
-  fewer : takesOne L i offset bytes ≡ true → length (f .extents) < usable (L .geometry)
+  pub taken : takesOne L i offset bytes ≡ true → (nextExtent L < L .geometry .extents) × (isFree (catalogue L .table (nextExtent L)) ≡ true)
+  unfolding freeExtent catalogue
+  taken t =
+      place-found (λ e. isFree (catalogue L .table e)) (L .geometry .extents)
+      (ap isAt (free-first (catalogue L) (L .geometry .extents) (let h : reserveExtents (L .geometry) < length (freeExtents (catalogue L)) = plenty t in omega arith)))
+
+  -- so the file's extents are fewer than the volume's
+  fewer : takesOne L i offset bytes ≡ true → length (f .extents) < L .geometry .extents
   unfolding catalogue
   fewer t =
       let s : n ≡ extentsFor (L .geometry) (f .entry .size) = rep .sized i f (w .has) in
-      pigeonhole (extentOf (catalogue L) i) n (usable (L .geometry)) x (λ o l. extent-usable c (rep .faultless) i (f .entry) within entered o (omega arith))
+      pigeonhole (extentOf (catalogue L) i) n (L .geometry .extents) x (λ o l. extent-inside c (rep .faultless) i (f .entry) within entered o (omega arith))
       (λ j k u v e. owner-offset _ i i j k (owned j (omega arith)) (ap (catalogue L .table) e ∙ owned k (omega arith)))
       (λ o l e. free-unowned (catalogue L .table x) i o (taken t .1) (ap (catalogue L .table) e ∙ owned o (omega arith)))
       (taken t .0)
@@ -130,17 +140,17 @@ module _ (L : Ledger) (img : List ℕ) (rep : Rep L img) (i : ℕ) (f : File) (o
       owned : (o : ℕ) → o < extentsFor (L .geometry) (f .entry .size) → catalogue L .table (extentOf (catalogue L) i o) ≡ owner i o
       owned o l = extent-owned (catalogue L) (rep .faultless) i (f .entry) within entered o l
 
-  pub size-bounded : sizeWritten L i offset bytes ≤ usable (L .geometry) * extentBytes (L .geometry)
+  pub size-bounded : sizeWritten L i offset bytes ≤ L .geometry .extents * extentBytes (L .geometry)
   size-bounded =
       let q : z ≤ extentsFor (L .geometry) z * extentBytes (L .geometry) = size-held (L .geometry) (rep .bounded) z in
-      let m : extentsFor (L .geometry) z * extentBytes (L .geometry) ≤ usable (L .geometry) * extentBytes (L .geometry) = mul-le-mul-right (extentBytes (L .geometry)) (rw needs (go b refl)) in
+      let m : extentsFor (L .geometry) z * extentBytes (L .geometry) ≤ L .geometry .extents * extentBytes (L .geometry) = mul-le-mul-right (extentBytes (L .geometry)) (rw needs (go b refl)) in
       omega arith
     where
-      go : (t : Bool) → b ≡ t → cond t (suc n) n ≤ usable (L .geometry)
+      go : (t : Bool) → b ≡ t → cond t (suc n) n ≤ L .geometry .extents
       go true e = fewer e
       go false e =
           let s : n ≡ extentsFor (L .geometry) (f .entry .size) = rep .sized i f (w .has) in
-          let q : extentsFor (L .geometry) (f .entry .size) ≤ usable (L .geometry) = extents-le (L .geometry) (rep .bounded) (f .entry .size) (usable (L .geometry))
+          let q : extentsFor (L .geometry) (f .entry .size) ≤ L .geometry .extents = extents-le (L .geometry) (rep .bounded) (f .entry .size) (L .geometry .extents)
           (size-small L img rep i f (w .has)) in
           omega arith
 
@@ -150,9 +160,6 @@ module _ (L : Ledger) (img : List ℕ) (rep : Rep L img) (i : ℕ) (f : File) (o
   unfolding catalogue
   old-exact =
       ap (exact (catalogue L) i) (rep .sized i f (w .has)) ∙ exactly (catalogue L) (rep .faultless) i (f .entry) within (entry-of L img rep i f (w .has))
-
-  few : usable (L .geometry) ≤ L .geometry .extents
-  few = omega arith
 
   module _ (time : ℕ) where
     abbrev y : File
@@ -193,10 +200,8 @@ module _ (L : Ledger) (img : List ℕ) (rep : Rep L img) (i : ℕ) (f : File) (o
     admissible-written =
         admissible-kept L img rep i f (w .has) y refl refl size-bounded
         (others-taken L (L .root) i f (w .has) within (rep .disjoint) b x (λ t. taken t .1) y refl)
-        (λ e l. owned-taken L (L .root) i f (w .has) within (rep .disjoint) b x (λ t. taken t .1) y refl (λ t. taken t .0) few old-exact e
-        (usable-owned L img rep e l))
         (ap (exact (catalogue (replaced L (L .root) i (some y))) i) needs
-        ∙ exact-taken L (L .root) i f (w .has) within (rep .disjoint) b x (λ t. taken t .1) y refl (λ t. taken t .0) few old-exact)
+        ∙ exact-taken L (L .root) i f (w .has) within (rep .disjoint) b x (λ t. taken t .1) y refl (λ t. taken t .0) old-exact)
 
   -- ---- the file as it stands where only some data sectors landed: other bytes, all else as before
 
@@ -220,7 +225,5 @@ module _ (L : Ledger) (img : List ℕ) (rep : Rep L img) (i : ℕ) (f : File) (o
     admissible-part =
         admissible-kept L img rep i f (w .has) v refl refl (size-small L img rep i f (w .has))
         (others-taken L (L .root) i f (w .has) within (rep .disjoint) false 0 nothing-taken v no-more)
-        (λ e l. owned-taken L (L .root) i f (w .has) within (rep .disjoint) false 0 nothing-taken v no-more (λ t. absurd (false≢true t)) few old-exact e
-        (usable-owned L img rep e l))
         (ap (exact (catalogue (replaced L (L .root) i (some v))) i) (sym (rep .sized i f (w .has)))
-        ∙ exact-taken L (L .root) i f (w .has) within (rep .disjoint) false 0 nothing-taken v no-more (λ t. absurd (false≢true t)) few old-exact)
+        ∙ exact-taken L (L .root) i f (w .has) within (rep .disjoint) false 0 nothing-taken v no-more (λ t. absurd (false≢true t)) old-exact)

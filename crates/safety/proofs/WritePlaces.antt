@@ -1,5 +1,5 @@
 -- Where a write's data sectors stand, and what they hold where all or some landed: file i's sectors, the taken extent's included, are
--- usable ones, each at a place of its own and none of another file's. Assumes nothing.
+-- in the data area, each at a place of its own, none of another file's and none where copies are staged. Assumes nothing.
 use Prim.Native.Nat.{ℕ, suc, _+_, _*_, _-_, _/_, _%_, _≤_, _<_}
 use mathlib.Core.Path.{_≡_, refl, sym, ap, _∙_, subst}
 use mathlib.Core.Logic.{_≢_}
@@ -12,9 +12,9 @@ use lib.Dec.{eqb, leb, ltb}
 use lib.ListN.{length, getD}
 use borrow.Author.Tests.{eqb-true, eq-eqb, ltb-true, ltb-false, lt-ltb}
 use Rattle.model.specs.Search.{tabulate, indexOf}
-use Rattle.model.specs.Geometry.{extentSectors, usable, extentAt, extentsFor, dataAt, reserveAt}
+use Rattle.model.specs.Geometry.{extentSectors, extentAt, extentsFor, dataAt}
 use Rattle.model.specs.Disk.{view}
-use Rattle.model.specs.Catalogue.{Catalogue, isPart, ownedFrom, extentOf, sectorOf, fileByte, fileBytes}
+use Rattle.model.specs.Catalogue.{Catalogue, catalogueOf, lacksReserve, stagingExtents, isPart, ownedFrom, extentOf, sectorOf, fileByte, fileBytes}
 use Rattle.model.specs.WriteList.{Group}
 use Rattle.model.specs.Write.{heldExtents, fileSectorAt, dataSector, touchedSectors, spliced}
 use Rattle.model.specs.Cut.{dataBy}
@@ -22,15 +22,16 @@ use Rattle.model.specs.Ledger.{Ledger, File, catalogue}
 use Rattle.laws.proofs.Booleans.{and-false, range-no}
 use Rattle.laws.proofs.Search.{first-ext, getD-tab0}
 use Rattle.laws.proofs.Disk.{length-view}
+use Rattle.laws.proofs.Staging.{InExtent, one-extent, lowest-below}
 use Rattle.safety.proofs.Apply.{over, hits, All, all-tabulate, all-miss, Own, own-tabulate}
-use Rattle.safety.proofs.Plan.{UsableSector, Whole}
+use Rattle.safety.proofs.Plan.{DataSector, Unstaged, Whole}
 use Rattle.safety.proofs.Commit.{partOf}
 use Rattle.safety.proofs.Rep.{Rep, cat-is}
+use Rattle.safety.proofs.Preserved.{free-said, held-unstaged, entry-of, slot-within}
 use Rattle.safety.proofs.Replaced.{replaced}
-use Rattle.safety.proofs.KeptFile.{entry-of, slot-within}
-use Rattle.safety.proofs.Extents.{owner, owner-file, owner-offset, free-unowned, extent-owned, extent-usable, none-beyond, sector-held, extent-sector, rest-lt, same-extent, same-sector}
+use Rattle.safety.proofs.Extents.{owner, owner-file, owner-offset, free-unowned, extent-owned, extent-inside, none-beyond, sector-held, extent-sector, rest-lt, same-extent, same-sector}
 use Rattle.safety.proofs.TakenFile.{first-only, part-old, part-new}
-use Rattle.safety.proofs.WriteLedger.{sizeWritten, takesOne, nextExtent, Writable, within, held-is, needs, taken, writtenFile}
+use Rattle.safety.proofs.WriteLedger.{sizeWritten, takesOne, nextExtent, Writable, within, held-is, needs, plenty, taken, writtenFile}
 use Rattle.safety.proofs.Spliced.{spliced-at, length-spliced, part-tabulate, part-miss}
 
 -- the data sectors of a write into file i
@@ -85,14 +86,27 @@ module _ (L : Ledger) (img : List ℕ) (rep : Rep L img) (i : ℕ) (f : File) (o
       let s : n ≡ extentsFor (L .geometry) (f .entry .size) = rep .sized i f (w .has) in
       extent-owned (catalogue L) (rep .faultless) i (f .entry) (within L img rep i f offset bytes w) (entry-of L img rep i f (w .has)) o (omega arith)
 
-  old-usable : (o : ℕ) → o < n → extentOf (catalogue L) i o < usable (L .geometry)
+  old-inside : (o : ℕ) → o < n → extentOf (catalogue L) i o < L .geometry .extents
   unfolding catalogue
-  old-usable o l =
+  old-inside o l =
       let s : n ≡ extentsFor (L .geometry) (f .entry .size) = rep .sized i f (w .has) in
-      extent-usable (catalogue L) (rep .faultless) i (f .entry) (within L img rep i f offset bytes w) (entry-of L img rep i f (w .has)) o (omega arith)
+      extent-inside (catalogue L) (rep .faultless) i (f .entry) (within L img rep i f offset bytes w) (entry-of L img rep i f (w .has)) o (omega arith)
 
-  ext-usable : (o : ℕ) → Held o → ext o < usable (L .geometry)
-  ext-usable = by-extent (λ o e. e < usable (L .geometry)) old-usable (λ t. taken L img rep i f offset bytes w t .0)
+  ext-inside : (o : ℕ) → Held o → ext o < L .geometry .extents
+  ext-inside = by-extent (λ o e. e < L .geometry .extents) old-inside (λ t. taken L img rep i f offset bytes w t .0)
+
+  -- "one that the call itself allocates is never among them": it is below them all
+  taken-unstaged : lacksReserve (catalogue L) ≡ false → b ≡ true → (j : ℕ) → InExtent (L .geometry) x j → Unstaged (L .geometry) (catalogue L) j
+  unfolding catalogue
+  taken-unstaged there t j h k l s =
+      let e = one-extent (L .geometry) (getD (stagingExtents (catalogue L)) k 0) x j s h in
+      omega (arith, lowest-below (catalogue L) there (plenty L img rep i f offset bytes w t) k l)
+
+  ext-unstaged : lacksReserve (catalogue L) ≡ false → (o : ℕ) → Held o → (j : ℕ) → InExtent (L .geometry) (ext o) j → Unstaged (L .geometry) (catalogueOf (view img)) j
+  ext-unstaged there =
+      by-extent (λ o e. (j : ℕ) → InExtent (L .geometry) e j → Unstaged (L .geometry) (catalogueOf (view img)) j)
+      (λ o l j. held-unstaged L img rep (catalogueOf (view img)) (free-said L img rep) (extentOf (catalogue L) i o) i o j (owned o l))
+      (λ t j h. subst (λ (c : Catalogue). Unstaged (L .geometry) c j) (sym (cat-is L img rep)) (taken-unstaged there t j h))
 
   -- two offsets have two extents
   ext-apart : (o p : ℕ) → Held o → Held p → ext o ≡ ext p → o ≡ p
@@ -107,9 +121,12 @@ module _ (L : Ledger) (img : List ℕ) (rep : Rep L img) (i : ℕ) (f : File) (o
 
   -- ---- places
 
-  pub place-usable : (s : ℕ) → s / extentSectors (L .geometry) < extentsFor (L .geometry) (sizeWritten L i offset bytes)
-      → (dataAt (L .geometry) ≤ fileSectorAt (catalogue L) i s) × (fileSectorAt (catalogue L) i s < reserveAt (L .geometry))
-  place-usable s h = rw (place-is s) (extent-sector (L .geometry) (rep .bounded) (ext (s / S)) (s % S) (ext-usable (s / S) h) (rest-lt (L .geometry) (rep .bounded) s))
+  pub place-data : (s : ℕ) → s / extentSectors (L .geometry) < extentsFor (L .geometry) (sizeWritten L i offset bytes) → DataSector (L .geometry) (fileSectorAt (catalogue L) i s)
+  place-data s h = rw (place-is s) (extent-sector (L .geometry) (rep .bounded) (ext (s / S)) (s % S) (ext-inside (s / S) h) (rest-lt (L .geometry) (rep .bounded) s))
+
+  pub place-unstaged : lacksReserve (catalogue L) ≡ false → (s : ℕ) → s / extentSectors (L .geometry) < extentsFor (L .geometry) (sizeWritten L i offset bytes)
+      → Unstaged (L .geometry) (catalogueOf (view img)) (fileSectorAt (catalogue L) i s)
+  place-unstaged there s h = rw (place-is s) (ext-unstaged there (s / S) h _ (omega arith, omega (arith, rest-lt (L .geometry) (rep .bounded) s)))
 
   pub place-apart : (s t : ℕ) → s / extentSectors (L .geometry) < extentsFor (L .geometry) (sizeWritten L i offset bytes)
       → t / extentSectors (L .geometry) < extentsFor (L .geometry) (sizeWritten L i offset bytes) → fileSectorAt (catalogue L) i s ≡ fileSectorAt (catalogue L) i t → s ≡ t
@@ -147,9 +164,9 @@ module _ (L : Ledger) (img : List ℕ) (rep : Rep L img) (i : ℕ) (f : File) (o
     unfolding extentOf catalogue
     extent-new =
         by-extent (λ o e. extentOf (catalogue M) i o ≡ e)
-        (λ o l. ap indexOf (first-ext (λ e. isPart i o (catalogue M .table e)) (λ e. isPart i o (catalogue L .table e)) (usable (L .geometry))
+        (λ o l. ap indexOf (first-ext (λ e. isPart i o (catalogue M .table e)) (λ e. isPart i o (catalogue L .table e)) (L .geometry .extents)
         (λ e u. part-old L (L .root) i f (w .has) here (rep .disjoint) b x (λ t. taken L img rep i f offset bytes w t .1) y refl o e l)))
-        (λ t. ap indexOf (first-only (λ e. isPart i n (catalogue M .table e)) (usable (L .geometry)) x (taken L img rep i f offset bytes w t .0)
+        (λ t. ap indexOf (first-only (λ e. isPart i n (catalogue M .table e)) (L .geometry .extents) x (taken L img rep i f offset bytes w t .0)
         (new t x (taken L img rep i f offset bytes w t .0) ∙ eq-eqb x x refl) (λ e u q. eqb-true e x (sym (new t e u) ∙ q))))
       where
         y : File
@@ -158,7 +175,7 @@ module _ (L : Ledger) (img : List ℕ) (rep : Rep L img) (i : ℕ) (f : File) (o
         here : i < L .geometry .files
         here = within L img rep i f offset bytes w
 
-        new : b ≡ true → (e : ℕ) → e < usable (L .geometry) → isPart i n (catalogue M .table e) ≡ eqb e x
+        new : b ≡ true → (e : ℕ) → e < L .geometry .extents → isPart i n (catalogue M .table e) ≡ eqb e x
         new t e u =
             part-new L (L .root) i f (w .has) here (rep .disjoint) b x (λ t. taken L img rep i f offset bytes w t .1) y refl e t
             (ap (λ m. ownedFrom i m (catalogue L .table e)) (rep .sized i f (w .has)) ∙ none-beyond (catalogue L) (rep .faultless) i (f .entry) here (entry-of L img rep i f (w .has)) e (omega arith))
@@ -185,9 +202,17 @@ module _ (L : Ledger) (img : List ℕ) (rep : Rep L img) (i : ℕ) (f : File) (o
       let d : offset / 512 + j ≡ offset / 512 + k = place-apart (offset / 512 + j) (offset / 512 + k) (touched-held j l) (touched-held k m) e in
       omega arith
 
-  pub writes-usable : All (UsableSector (L .geometry)) (writes L img i offset bytes)
+  pub writes-data : All (λ r. DataSector (L .geometry) (r .sector)) (writes L img i offset bytes)
   unfolding dataSector
-  writes-usable = all-tabulate (UsableSector (L .geometry)) (dataSector (catalogue L) i (view img) offset bytes) (offset / 512) t (λ k l. place-usable (offset / 512 + k) (touched-held k l))
+  writes-data =
+      all-tabulate (λ r. DataSector (L .geometry) (r .sector)) (dataSector (catalogue L) i (view img) offset bytes) (offset / 512) t
+      (λ k l. place-data (offset / 512 + k) (touched-held k l))
+
+  pub writes-unstaged : lacksReserve (catalogue L) ≡ false → All (λ r. Unstaged (L .geometry) (catalogueOf (view img)) (r .sector)) (writes L img i offset bytes)
+  unfolding dataSector
+  writes-unstaged there =
+      all-tabulate (λ r. Unstaged (L .geometry) (catalogueOf (view img)) (r .sector)) (dataSector (catalogue L) i (view img) offset bytes) (offset / 512) t
+      (λ k l. place-unstaged there (offset / 512 + k) (touched-held k l))
 
   pub writes-own : Own (writes L img i offset bytes)
   unfolding dataSector
@@ -207,7 +232,7 @@ module _ (L : Ledger) (img : List ℕ) (rep : Rep L img) (i : ℕ) (f : File) (o
       all-miss j ds (all-tabulate (λ r. j ≢ r .sector) (dataSector (catalogue L) i (view img) offset bytes) (offset / 512) t (λ k l. h (offset / 512 + k) (touched-held k l)))
 
   pub low-miss : (j : ℕ) → j < dataAt (L .geometry) → hits (writes L img i offset bytes) j ≡ false
-  low-miss j l = writes-miss j (λ s h e. let q = place-usable s h in omega (arith, q .0))
+  low-miss j l = writes-miss j (λ s h e. let q = place-data s h in omega (arith, q .0))
 
   at-touched : (k : ℕ) (m : List Bool) (s : ℕ) (v : List ℕ) → offset / 512 ≤ s → s - offset / 512 < t
       → over (partOf k m ds) (fileSectorAt (catalogue L) i s) v ≡ cond (dataBy k m (s - offset / 512)) (spliced offset bytes s (view img (fileSectorAt (catalogue L) i s))) v

@@ -1,13 +1,14 @@
--- T-02: WHAT A READ AND A LIST LEAVE on an image, whole or cut: access times, and nothing else.
+-- T-02: WHAT A READ AND A LIST LEAVE on an image, whole or cut: access times, and nothing else. T-12: where fewer than K extents are free they "answer
+-- there with an empty write list and the access time stays".
 use Prim.Native.Nat.{ℕ}
 use mathlib.Core.Path.{_≡_}
 use mathlib.Core.Logic.{_≢_}
-use mathlib.Core.Bool.{Bool, true, false}
+use mathlib.Core.Bool.{Bool, true, false, cond}
 use mathlib.Core.List.{List, [], _∷_}
 use mathlib.Core.Option.{Option, none, some}
 use Rattle.model.specs.Disk.{view}
 use Rattle.model.specs.Root.{Root}
-use Rattle.model.specs.Catalogue.{catalogueOf}
+use Rattle.model.specs.Catalogue.{catalogueOf, lacksReserve}
 use Rattle.model.specs.Ledger.{Call, summary, check, find, list, read, create, delete, resize, write, rename, Feed, callOf, accessedEntry, accessedRoot}
 use Rattle.safety.specs.Naming.{Contents, fileOn}
 use Rattle.safety.specs.Saving.{SameFiles}
@@ -19,6 +20,10 @@ rootOn img = catalogueOf (view img) .root
 -- a file whose access time was set: the rest of its entry and its bytes are the same
 abbrev pub accessedContents : ℕ → Contents → Contents
 accessedContents time x = record { entry = accessedEntry time (x .entry); bytes = x .bytes }
+
+-- the length of a read's or a list's write list: 9 records, or none
+abbrev pub accessLength : List ℕ → ℕ
+accessLength img = cond (lacksReserve (catalogueOf (view img))) 0 4752
 
 -- a read of the file x was done: it has its access time set, every other file and the root are as they were
 pub record AfterRead (name : List ℕ) (time : ℕ) (x : Contents) (img img′ : List ℕ) : Type 0 where

@@ -4,7 +4,7 @@
 use Prim.Native.Nat.{ℕ, _+_, max}
 use mathlib.Core.Path.{_≡_}
 use mathlib.Core.Logic.{_≢_}
-use mathlib.Core.Bool.{cond}
+use mathlib.Core.Bool.{Bool, cond}
 use mathlib.Core.List.{List, [], _∷_, _++_}
 use mathlib.Core.Option.{Option, none, some, Option·map}
 use lib.Dec.{eqb}
@@ -138,14 +138,15 @@ writtenContents offset bytes time x =
 abbrev pub renameFiles : List ℕ → List ℕ → ℕ → Files → Files
 renameFiles old new time files = cond (equalBytes old new) files (withNamed (withNamed files old none) new (Option·map (renamedContents new time) (files old)))
 
-abbrev pub filesAfter : Call → Files → Files
-filesAfter summary files = files
-filesAfter check files = files
-filesAfter (find name) files = files
-filesAfter (list i time room space) files = files
-filesAfter (read name offset count time room space) files = withChanged files name (accessedContents time)
-filesAfter (create name id mode time room) files = withNamed files name (some (newContents name id mode time))
-filesAfter (delete name time room) files = withNamed files name none
-filesAfter (resize name size time room) files = withChanged files name (resizedContents size time)
-filesAfter (write name offset bytes time room) files = cond (eqb (length bytes) 0) files (withChanged files name (writtenContents offset bytes time))
-filesAfter (rename old new time room) files = renameFiles old new time files
+-- T-12: on a frozen ledger "the access time stays"
+abbrev pub filesAfter : Bool → Call → Files → Files
+filesAfter frozen summary files = files
+filesAfter frozen check files = files
+filesAfter frozen (find name) files = files
+filesAfter frozen (list i time room space) files = files
+filesAfter frozen (read name offset count time room space) files = cond frozen files (withChanged files name (accessedContents time))
+filesAfter frozen (create name id mode time room) files = withNamed files name (some (newContents name id mode time))
+filesAfter frozen (delete name time room) files = withNamed files name none
+filesAfter frozen (resize name size time room) files = withChanged files name (resizedContents size time)
+filesAfter frozen (write name offset bytes time room) files = cond (eqb (length bytes) 0) files (withChanged files name (writtenContents offset bytes time))
+filesAfter frozen (rename old new time room) files = renameFiles old new time files

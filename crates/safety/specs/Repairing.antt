@@ -28,14 +28,18 @@ Repairs img room = repairAnswer (length img) (view img) room .verdict .number �
 unfoldable pub repairedImage : List ℕ → ℕ → List ℕ
 repairedImage img room = stored (closed (groupsFor (view img) (repairDecision (length img) (view img) room .plan))) img
 
+-- the file of index i and entry x lacks an extent for none of its offsets
+abbrev pub Complete : Disk → ℕ → Entry → Type 0
+Complete d i x =
+    (o : ℕ) → o < extentsFor (catalogueOf d .geometry) (x .size) → anyBelow (λ e. isPart i o (catalogueOf d .table e)) (catalogueOf d .geometry .extents) ≡ true
+
 -- "it had no fault 21 to 24 and no occupied file lacked an extent for one of its offsets"
 pub record Mendable (d : Disk) : Type 0 where
   pub f21 : (i : ℕ) → i < catalogueOf d .geometry .files → fault21 d i ≡ false
   pub f22 : (i : ℕ) → i < catalogueOf d .geometry .files → fault22 (catalogueOf d) i ≡ false
   pub f23 : (i : ℕ) → i < catalogueOf d .geometry .files → fault23 (catalogueOf d) i ≡ false
   pub f24 : (i : ℕ) → i < catalogueOf d .geometry .files → fault24 (catalogueOf d) i ≡ false
-  pub held : (i : ℕ) (x : Entry) → i < catalogueOf d .geometry .files → catalogueOf d .entries i ≡ some x
-      → (o : ℕ) → o < extentsFor (catalogueOf d .geometry) (x .size) → anyBelow (λ e. isPart i o (catalogueOf d .table e)) (catalogueOf d .geometry .extents) ≡ true
+  pub held : (i : ℕ) (x : Entry) → i < catalogueOf d .geometry .files → catalogueOf d .entries i ≡ some x → Complete d i x
 
 -- "a file free of faults": none at its index
 pub record FreeOfFaults (d : Disk) (i : ℕ) : Type 0 where

@@ -7,7 +7,7 @@ use Rattle.model.specs.Refusals.{given, imageVerdict}
 use Rattle.model.specs.Catalogue.{catalogueOf, freeExtent}
 use Rattle.search.specs.declared.FreeExtentResult.{FreeExtentResult}
 
--- "one more extent is needed and no usable one is free" is 13
+-- no extent is free: 13
 abbrev pub extentNumbers : Lowest → FreeExtentResult
 extentNumbers (At e) = record { code = 0; extent = e }
 extentNumbers Nowhere = record { code = 13; extent = 0 }

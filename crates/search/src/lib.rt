@@ -30,7 +30,7 @@ fn search_in(img: &[u8]) -> FreeExtentResult
     }
 }
 
-// The lowest usable free extent; 13 where there is none, 1 to 3 as in every call. Soundness isn't judged.
+// The lowest free extent; 13 where there is none, 1 to 3 as in every call. Soundness isn't judged.
 #[no_mangle]
 pub extern "C" fn goofs_free_extent(img: &[u8]) -> FreeExtentResult
     ensures { λ r. ⌜ r ≡ freeExtentNumbers (length (now (img .entry))) (view (now (img .entry))) ⌝ }

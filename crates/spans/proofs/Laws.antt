@@ -12,12 +12,12 @@ use Rattle.model.specs.declared.Lowest.{Lowest}
 use Rattle.model.specs.declared.Lowest.the-variants.{At, Nowhere}
 use Rattle.model.specs.Bytes.{bytesFrom}
 use Rattle.model.specs.Search.{scan, tabulate, indexOf}
-use Rattle.model.specs.Geometry.{extentSectors, extentBytes, extentAt, usable, reserveExtents, superblockAt}
+use Rattle.model.specs.Geometry.{extentSectors, extentBytes, extentAt, superblockAt}
 use Rattle.model.specs.Disk.{view}
 use Rattle.model.specs.Superblock.{geometryIn}
 use Rattle.model.specs.Catalogue.{Catalogue, catalogueOf, isPart, extentOf, sectorOf, fileByte, fileBytes}
 use Rattle.model.specs.Opened.{Bounded, Opened}
-use Rattle.model.proofs.Areas.{reserve-small}
+use Rattle.table.proofs.Laws.{extent-of-is}
 use Rattle.laws.proofs.Search.{Hit, scan-hit, length-tabulate, tabulate-split}
 use Rattle.laws.proofs.Disk.{getD-view}
 
@@ -63,19 +63,12 @@ pub found-below : (p : ℕ → Bool) (n : ℕ) (r : Lowest) → 0 < n → Hit p 
 found-below p n (At k) h q = omega (arith, q .1)
 found-below p n Nowhere h q = h
 
-pub usable-some : (g : Geometry) → Bounded g → 0 < usable g
-usable-some g b =
-    let r : reserveExtents g < g .extents = reserve-small g b in
-    omega arith
-
-pub extent-below : (img : List ℕ) (g : Geometry) → Opened img g → (i o : ℕ) → extentOf (catalogueOf (view img)) i o < usable g
-unfolding extentOf catalogueOf
+pub extent-below : (img : List ℕ) (g : Geometry) → Opened img g → (i o : ℕ) → extentOf (catalogueOf (view img)) i o < g .extents
 extent-below img g h i o =
-    let e : usable (geometryIn (view img superblockAt)) ≡ usable g = ap usable (sym (h .is)) in
+    let n = g .extents in
     let p : ℕ → Bool = λ x. isPart i o (catalogueOf (view img) .table x) in
-    let z : 0 < usable g = usable-some g (h .bounded) in
-    let r : indexOf (scan p (usable g - 0) 0) < usable g - 0 = found-below p (usable g - 0) (scan p (usable g - 0) 0) (omega arith) (scan-hit p (usable g - 0) 0) in
-    rw e (omega (arith, r))
+    let r : indexOf (scan p (n - 0) 0) < n - 0 = found-below p (n - 0) (scan p (n - 0) 0) (omega (arith, h .bounded .extents-low)) (scan-hit p (n - 0) 0) in
+    rw (extent-of-is (view img) g (h .is) i o) (omega (arith, r))
 
 -- so do the bytes of one
 pub extent-inside : (img : List ℕ) (g : Geometry) → Opened img g → (x : ℕ) → x < g .extents → 512 * extentAt g x + extentBytes g ≤ length img

@@ -7,12 +7,12 @@ use mathlib.Core.List.{List}
 use native.Mathlib.Nat.{div-add-mod'}
 use native.Mathlib.Omega.{arith}
 use lib.Arith.{digits-div, digits-mod}
-use lib.Dec.{ltb}
+use lib.Dec.{eqb, ltb}
 use lib.ListN.{length}
 use Rattle.model.specs.declared.Geometry.{Geometry}
 use Rattle.model.specs.Bytes.{bytesFrom, put}
 use Rattle.model.specs.Search.{scan, tabulate, indexOf}
-use Rattle.model.specs.Geometry.{extentSectors, extentAt, usable, superblockAt}
+use Rattle.model.specs.Geometry.{extentSectors, extentAt, superblockAt}
 use Rattle.model.specs.Disk.{view}
 use Rattle.model.specs.Superblock.{geometryIn}
 use Rattle.model.specs.Catalogue.{catalogueOf, isFree, extentOf, freeExtent}
@@ -22,7 +22,9 @@ use Rattle.model.specs.Opened.{Opened}
 use Rattle.laws.proofs.Bytes.{length-bytesFrom, put-all}
 use Rattle.laws.proofs.Search.{scan-hit, tabulate-ext}
 use Rattle.spans.specs.Touched.{Lent}
-use Rattle.spans.proofs.Laws.{found-below, usable-some, extent-below, extent-inside}
+use Rattle.model.specs.Table.{freeFile, tableFile}
+use Rattle.table.proofs.Laws.{free-extent-is}
+use Rattle.spans.proofs.Laws.{found-below, extent-below, extent-inside}
 
 module _ (offset s : ℕ) (bytes old : List ℕ) (from to : ℕ) (first : from ≡ max offset (512 * s)) (last : to ≡ min (offset + length bytes) (512 * s + 512)) where
   pub splice-part : put old (from - 512 * s) (bytesFrom bytes (from - offset) (to - from)) ≡ spliced offset bytes s old
@@ -41,14 +43,12 @@ module _ (offset s : ℕ) (bytes old : List ℕ) (from to : ℕ) (first : from �
 -- the extent that holds file sector s, and its first sector
 module _ (img : List ℕ) (g : Geometry) (h : Opened img g) (i held next s x start : ℕ) (lent : Lent img i held next)
     (found : x ≡ cond (ltb (s / extentSectors g) held) (extentOf (catalogueOf (view img)) i (s / extentSectors g)) next) (at : start ≡ extentAt g x) where
-  next-below : next < usable g
-  unfolding freeExtent catalogueOf
+  next-below : next < g .extents
   next-below =
-      let e : usable (geometryIn (view img superblockAt)) ≡ usable g = ap usable (sym (h .is)) in
-      let p : ℕ → Bool = λ e. isFree (catalogueOf (view img) .table e) in
-      let z : 0 < usable g = usable-some g (h .bounded) in
-      let r : indexOf (scan p (usable g - 0) 0) < usable g - 0 = found-below p (usable g - 0) (scan p (usable g - 0) 0) (omega arith) (scan-hit p (usable g - 0) 0) in
-      rw (lent .taken, e) (omega (arith, r))
+      let n = g .extents in
+      let p : ℕ → Bool = λ e. eqb (tableFile g (view img) e) freeFile in
+      let r : indexOf (scan p (n - 0) 0) < n - 0 = found-below p (n - 0) (scan p (n - 0) 0) (omega (arith, h .bounded .extents-low)) (scan-hit p (n - 0) 0) in
+      rw (lent .taken, free-extent-is (view img) g (h .is)) (omega (arith, r))
 
   pub lent-below : x < g .extents
   lent-below = rw found (go (ltb (s / extentSectors g) held))

@@ -14,7 +14,7 @@ use Rattle.model.specs.declared.Geometry.{Geometry}
 use Rattle.model.specs.Bytes.{beAt, put}
 use Rattle.model.specs.declared.Lowest.the-variants.{Nowhere}
 use Rattle.model.specs.Search.{scan, anyBelow, first, countBelow, indexOf}
-use Rattle.model.specs.Geometry.{usable, tableAt, tableSectors}
+use Rattle.model.specs.Geometry.{tableAt, tableSectors}
 use Rattle.model.specs.Disk.{Disk, view}
 use Rattle.model.specs.Superblock.{geometryIn}
 use Rattle.model.specs.Table.{freeFile, tableFile, tableOffset, tableEntryBytes, freedIn}
@@ -48,14 +48,20 @@ beyond-of d i o e few l = ap (ownedFrom i o) (table-on d e l) ∙ go (eqb (table
     go false q = refl
 
 module _ (d : Disk) (g : Geometry) (is : g ≡ geometryIn (d 0)) where
-  pub free-extent-is : freeExtent (catalogueOf d) ≡ first (λ e. eqb (tableFile g d e) freeFile) (usable g)
+  pub geometry-of : catalogueOf d .geometry ≡ g
+  unfolding catalogueOf
+  geometry-of = sym is
+
+  pub free-on : (e : ℕ) → e < g .extents → isFree (catalogueOf d .table e) ≡ eqb (tableFile g d e) freeFile
+  free-on e l = rw is (ap isFree (table-on d e (rw is at l)) ∙ vacant (eqb (tableFile (geometryIn (d 0)) d e) freeFile) _)
+
+  pub free-extent-is : freeExtent (catalogueOf d) ≡ first (λ e. eqb (tableFile g d e) freeFile) (g .extents)
   unfolding freeExtent catalogueOf
   free-extent-is =
-      rw is
-      (first-ext (λ e. isFree (catalogueOf d .table e)) (λ e. eqb (tableFile (geometryIn (d 0)) d e) freeFile) (usable (geometryIn (d 0)))
-      (λ e l. ap isFree (table-on d e (omega arith)) ∙ vacant (eqb (tableFile (geometryIn (d 0)) d e) freeFile) _))
+      ap (λ (h : Geometry). first (λ e. isFree (catalogueOf d .table e)) (h .extents)) (sym is)
+      ∙ first-ext (λ e. isFree (catalogueOf d .table e)) (λ e. eqb (tableFile g d e) freeFile) (g .extents) free-on
 
-  pub extent-of-is : (i o : ℕ) → extentOf (catalogueOf d) i o ≡ indexOf (first (λ e. isPart i o (catalogueOf d .table e)) (usable g))
+  pub extent-of-is : (i o : ℕ) → extentOf (catalogueOf d) i o ≡ indexOf (first (λ e. isPart i o (catalogueOf d .table e)) (g .extents))
   unfolding extentOf catalogueOf
   extent-of-is i o = rw is
 

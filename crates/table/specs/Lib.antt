@@ -1,2 +1,3 @@
 -- What the contracts of the inner functions speak of.
 pub mod Word
+pub mod Highest

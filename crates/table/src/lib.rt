@@ -4,18 +4,20 @@ use model::FileIndex;
 use model::Geometry;
 use model::Lowest;
 ghost use mathlib.Core.Path.{_≡_};
-ghost use mathlib.Core.Bool.{cond, _&&_, _||_};
+ghost use mathlib.Core.Bool.{true, cond, not, _&&_, _||_};
 ghost use Prim.Native.Nat.{_+_, _-_, _*_, _≤_, _<_};
 ghost use lib.Dec.{eqb};
-ghost use lib.ListN.{length};
+ghost use lib.ListN.{length, replicate};
 ghost use Rattle.model.specs.Bytes.{put, beAt};
 ghost use Rattle.model.specs.Search.{anyBelow, allBelow, scan, indexOf};
-ghost use Rattle.model.specs.Geometry.{usable, tableAt, tableSectors, extentsFor};
+ghost use Rattle.model.specs.Geometry.{tableAt, tableSectors, extentsFor};
 ghost use Rattle.model.specs.Disk.{view};
 ghost use Rattle.model.specs.Opened.{Bounded, Opened};
+ghost use Rattle.commit.specs.Commit.{StagesOf};
 ghost use Rattle.model.specs.Table.{tableFile, tableOffset, tableEntryBytes, freeFile, freedIn};
-ghost use Rattle.model.specs.Catalogue.{catalogueOf, freeExtent, extentOf, isPart, ownedFrom, holdsFrom, sectorsFrom};
+ghost use Rattle.model.specs.Catalogue.{catalogueOf, freeExtent, lacksReserve, extentOf, isPart, ownedFrom, holdsFrom, sectorsFrom};
 ghost use Rattle.table.specs.Word.{swapped, entryWord};
+ghost use Rattle.table.specs.Highest.{Highest};
 
 // The file that extent e's entry names; 65535 where it is free.
 pub fn table_file(img: &[u8], g: Geometry, e: Extent) -> u64
@@ -126,13 +128,13 @@ fn holds_free(img: &[u8], g: Geometry, e: u64) -> bool
     found
 }
 
-// The lowest usable free extent from `from` on.
+// The lowest free extent from `from` on.
 fn free_from(img: &[u8], g: Geometry, from: u64) -> Lowest
     requires { ⌜ Opened (now img) g ⌝ }
-    requires { ⌜ from ≤ usable g ⌝ }
-    ensures { λ r. ⌜ r ≡ scan (λ e. eqb (tableFile g (view (now (img .entry))) e) freeFile) (usable g - from) from ⌝ }
+    requires { ⌜ from ≤ g .extents ⌝ }
+    ensures { λ r. ⌜ r ≡ scan (λ e. eqb (tableFile g (view (now (img .entry))) e) freeFile) (g .extents - from) from ⌝ }
 {
-    let n = g.usable();
+    let n = g.extents;
     let mut e = from;
     while e < n {
         if is_free(img, g, Extent(e)) {
@@ -143,12 +145,12 @@ fn free_from(img: &[u8], g: Geometry, from: u64) -> Lowest
     Lowest::Nowhere
 }
 
-// The lowest usable free extent. A sector with no free entry is passed over whole.
+// The lowest free extent. A sector with no free entry is passed over whole.
 pub fn free_extent(img: &[u8], g: Geometry) -> Lowest
     requires { ⌜ Opened (now img) g ⌝ }
     ensures { λ r. ⌜ r ≡ freeExtent (catalogueOf (view (now (img .entry)))) ⌝ }
 {
-    let n = g.usable();
+    let n = g.extents;
     let mut e: u64 = 0;
     while e + 128 <= n {
         if holds_free(img, g, e) {
@@ -158,6 +160,65 @@ pub fn free_extent(img: &[u8], g: Geometry) -> Lowest
     }
     free_from(img, g, e)
 }
+
+// ---- the highest free extents
+
+// One past the highest free extent below `from`; 0 where there is none.
+fn free_down(img: &[u8], g: Geometry, from: u64) -> u64
+    requires { ⌜ Opened (now img) g ⌝ }
+    requires { ⌜ from ≤ g .extents ⌝ }
+    ensures { λ r. ⌜ Highest (catalogueOf (view (now (img .entry)))) from r ⌝ }
+    ensures { λ r. ⌜ r ≤ from ⌝ }
+{
+    let mut e = from;
+    while 0 < e {
+        if is_free(img, g, Extent(e - 1)) {
+            return e;
+        }
+        e -= 1;
+    }
+    0
+}
+
+// The same. 128 entries with no free one are passed over at once.
+fn highest_free(img: &[u8], g: Geometry, from: u64) -> u64
+    requires { ⌜ Opened (now img) g ⌝ }
+    requires { ⌜ from ≤ g .extents ⌝ }
+    ensures { λ r. ⌜ Highest (catalogueOf (view (now (img .entry)))) from r ⌝ }
+    ensures { λ r. ⌜ r ≤ from ⌝ }
+{
+    let mut e = from;
+    while 128 <= e {
+        if holds_free(img, g, e - 128) {
+            return free_down(img, g, e);
+        }
+        e -= 128;
+    }
+    free_down(img, g, e)
+}
+
+// The staging extents: the K highest that are free, in rising order, behind which zeros stay. False where fewer are free.
+pub fn staging(img: &[u8], g: Geometry, stages: &mut [u64]) -> bool
+    requires { ⌜ Opened (now img) g ⌝ }
+    requires { ⌜ now stages ≡ replicate 5 0 ⌝ }
+    ensures { λ r. ⌜ lacksReserve (catalogueOf (view (now (img .entry)))) ≡ not r ⌝ }
+    ensures { λ r. ⌜ (r ≡ true → StagesOf g (view (now (img .entry))) (now (stages .exit))) ⌝ }
+{
+    let mut left = g.reserve_extents() as usize;
+    let mut e = g.extents;
+    while 0 < left {
+        let next = highest_free(img, g, e);
+        if next == 0 {
+            return false;
+        }
+        left -= 1;
+        e = next - 1;
+        stages[left] = e;
+    }
+    true
+}
+
+// ---- a file's extent of an offset
 
 // Extent e is file i's, of offset o. Both numbers are compared at once; an offset past 65535 is no entry's.
 fn is_part(img: &[u8], g: Geometry, i: FileIndex, o: u64, e: Extent) -> bool
@@ -187,14 +248,14 @@ fn holds_part(img: &[u8], g: Geometry, i: FileIndex, o: u64, e: u64) -> bool
     found
 }
 
-// The lowest usable one from `from` on.
+// The lowest one from `from` on.
 fn part_from(img: &[u8], g: Geometry, i: FileIndex, o: u64, from: u64) -> Extent
     requires { ⌜ Opened (now img) g ⌝ }
-    requires { ⌜ (i .0 < freeFile) × (from ≤ usable g) ⌝ }
-    ensures { λ r. ⌜ r .0 ≡ indexOf (scan (λ e. isPart (i .0) o (catalogueOf (view (now (img .entry))) .table e)) (usable g - from) from) ⌝ }
+    requires { ⌜ (i .0 < freeFile) × (from ≤ g .extents) ⌝ }
+    ensures { λ r. ⌜ r .0 ≡ indexOf (scan (λ e. isPart (i .0) o (catalogueOf (view (now (img .entry))) .table e)) (g .extents - from) from) ⌝ }
     ensures { λ r. ⌜ r .0 < g .extents ⌝ }
 {
-    let n = g.usable();
+    let n = g.extents;
     let mut e = from;
     while e < n {
         if is_part(img, g, i, o, Extent(e)) {
@@ -212,7 +273,7 @@ pub fn extent_of(img: &[u8], g: Geometry, i: FileIndex, o: u64) -> Extent
     ensures { λ r. ⌜ r .0 ≡ extentOf (catalogueOf (view (now (img .entry)))) (i .0) o ⌝ }
     ensures { λ r. ⌜ r .0 < g .extents ⌝ }
 {
-    let n = g.usable();
+    let n = g.extents;
     let mut e: u64 = 0;
     while e + 128 <= n {
         if holds_part(img, g, i, o, e) {

@@ -1,26 +1,28 @@
 -- What a write needs and how it is decided, from the tests that the code makes. Assumes nothing.
-use Prim.Native.Nat.{ℕ, _*_, _-_, _≤_, _<_, _/_}
+use Prim.Native.Nat.{ℕ, _+_, _*_, _-_, _≤_, _<_, _/_}
 use mathlib.Core.Path.{_≡_, refl, sym, ap, ap₂, _∙_}
 use mathlib.Core.Bool.{Bool, true, false, cond, not, _&&_, _||_}
 use mathlib.Core.List.{List, [], _∷_}
 use mathlib.Core.Option.{Option, none, some}
+use native.Mathlib.Nat.{div-lt-iff-lt-mul}
 use native.Mathlib.Omega.{arith}
+use native.Mathlib.Decide.{decLt}
 use lib.Dec.{eqb, ltb}
-use lib.ListN.{length}
+use lib.ListN.{length, getD}
 use borrow.Author.Tests.{lt-ltb, le-ltb, eq-eqb, ne-eqb}
 use Rattle.model.specs.declared.Changed.{Changed}
 use Rattle.model.specs.declared.Geometry.{Geometry}
 use Rattle.model.specs.declared.Lowest.{Lowest}
-use Rattle.model.specs.declared.Lowest.the-variants.{At}
+use Rattle.model.specs.declared.Lowest.the-variants.{At, Nowhere}
 use Rattle.model.specs.declared.Verdict.{Verdict}
 use Rattle.model.specs.Search.{scan, tabulate, isAt, indexOf}
-use Rattle.model.specs.Geometry.{entryAt, extentsFor, usable}
+use Rattle.model.specs.Geometry.{entryAt, extentSectors, extentsFor, reserveExtents}
 use Rattle.model.specs.Disk.{Disk, view}
 use Rattle.model.specs.Bytes.{numberIn}
 use Rattle.model.specs.Edition.{badTime}
 use Rattle.model.specs.Entry.{entryField, Entry, entryIn, badName, updatedEntrySector}
 use Rattle.model.specs.Table.{tableFile, tableSectorOf, takenIn, freeFile}
-use Rattle.model.specs.Catalogue.{Catalogue, catalogueOf, fileNamed, freeExtent, entryOf}
+use Rattle.model.specs.Catalogue.{Catalogue, catalogueOf, fileNamed, freeExtent, freeExtents, lacksReserve, stagingExtents, entryOf}
 use Rattle.model.specs.Refusals.{Conditions, verdictOf, refusal, done, judged}
 use Rattle.model.specs.WriteList.{Plan, Record, Group, sectorWrite, recordSize, recordCount, groupsFor, listLength, closed, Emitted, decided}
 use Rattle.model.specs.Read.{longestTransfer, sizeNamed}
@@ -29,10 +31,12 @@ use Rattle.model.specs.Opened.{Opened}
 use Rattle.laws.proofs.Search.{Hit, scan-hit, length-tabulate}
 use Rattle.laws.proofs.Judged.{judged-sound}
 use Rattle.laws.proofs.Named.{editionOn, named-at, named-entry, size-fits}
-use Rattle.table.proofs.Laws.{free-extent-is}
+use Rattle.laws.proofs.Seeking.{at-nowhere}
+use Rattle.laws.proofs.Staging.{free-first, reserve-there, length-staging, lowest-below, lowest-is}
+use Rattle.table.proofs.Laws.{geometry-of, free-extent-is}
 use Rattle.laws.proofs.WriteList.{plan-needs}
 use Rattle.commit.proofs.Records.{emitted-length}
-use Rattle.commit.proofs.Decided.{same-refusals, ComesTo, refused-by-own, refused-as-short, done-as-planned, done-with-nothing}
+use Rattle.commit.proofs.Decided.{same-refusals, ComesTo, refused-by-own, refused-as-full, refused-as-short, done-as-planned, done-with-nothing}
 use Rattle.write.specs.FileWrite.{Asked, fileConditions, fileDecision, roomDecision}
 
 -- ---- what a new size needs
@@ -49,9 +53,58 @@ module _ (img : List ℕ) (g : Geometry) (o : Opened img g) where
   pub free-below : (e : ℕ) → At e ≡ freeExtent (catalogueOf (view img)) → e < g .extents
   free-below e q =
       let p : ℕ → Bool = λ x. eqb (tableFile g (view img) x) freeFile in
-      let s : scan p (usable g - 0) 0 ≡ At e = sym (q ∙ free-extent-is (view img) g (o .is)) in
-      let h : Hit p (usable g - 0) 0 (At e) = rw s at (scan-hit p (usable g - 0) 0) in
+      let s : scan p (g .extents - 0) 0 ≡ At e = sym (q ∙ free-extent-is (view img) g (o .is)) in
+      let h : Hit p (g .extents - 0) 0 (At e) = rw s at (scan-hit p (g .extents - 0) 0) in
       omega (arith, h .1)
+
+  -- K + 1 extents are free where the lowest is below the lowest staging extent
+  reserve-some : 0 < reserveExtents g
+  reserve-some = go (decLt 0 (reserveExtents g))
+    where
+      go : Dec (0 < reserveExtents g) → 0 < reserveExtents g
+      go (yes h) = h
+      go (no h) =
+          let s = extentSectors g in
+          let q : (g .extents + 127) / 128 + 3 + (s - 1) < 1 * s =
+          div-lt-iff-lt-mul {k = s} (omega (arith, o .bounded .extent-low)) .0 (let z : reserveExtents g < 1 = omega (arith, h) in z) in
+          absurd (omega (arith, o .bounded .extent-low))
+
+  pub spare-is : lacksReserve (catalogueOf (view img)) ≡ false → (e s : ℕ) → At e ≡ freeExtent (catalogueOf (view img)) → s ≡ getD (stagingExtents (catalogueOf (view img))) 0 0
+      → ltb (length (freeExtents (catalogueOf (view img)))) (reserveExtents (catalogueOf (view img) .geometry) + 1) ≡ not (ltb e s)
+  spare-is there e s q r = go (decLt K (length (freeExtents c)))
+    where
+      c : Catalogue
+      c = catalogueOf (view img)
+
+      K : ℕ
+      K = reserveExtents (catalogueOf (view img) .geometry)
+
+      some-are : 0 < reserveExtents (catalogueOf (view img) .geometry)
+      some-are = rw (geometry-of (view img) g (o .is)) reserve-some
+
+      lowest : e ≡ indexOf (freeExtent c)
+      lowest = ap indexOf q
+
+      go : Dec (K < length (freeExtents c)) → ltb (length (freeExtents c)) (K + 1) ≡ not (ltb e s)
+      go (yes h) =
+          let l : e < s = rw (lowest, r) (lowest-below c there h 0 (omega (arith, length-staging c there, some-are))) in
+          le-ltb (length (freeExtents c)) (K + 1) (omega arith) ∙ sym (ap not (lt-ltb e s l))
+      go (no h) =
+          let n : length (freeExtents c) ≡ K = omega (arith, reserve-there c there) in
+          let l : e ≡ s = lowest ∙ lowest-is c there some-are n ∙ sym r in
+          lt-ltb (length (freeExtents c)) (K + 1) (omega arith) ∙ sym (ap not (le-ltb e s (omega arith)))
+
+  -- none is free
+  pub spare-none : Nowhere ≡ freeExtent (catalogueOf (view img)) → ltb (length (freeExtents (catalogueOf (view img)))) (reserveExtents (catalogueOf (view img) .geometry) + 1) ≡ true
+  unfolding freeExtent
+  spare-none q = go (decLt 0 (length (freeExtents c)))
+    where
+      c : Catalogue
+      c = catalogueOf (view img)
+
+      go : Dec (0 < length (freeExtents c)) → ltb (length (freeExtents c)) (reserveExtents (c .geometry) + 1) ≡ true
+      go (yes h) = absurd (at-nowhere (sym (q ∙ free-first c (c .geometry .extents) h)))
+      go (no h) = lt-ltb (length (freeExtents c)) (reserveExtents (c .geometry) + 1) (omega arith)
 
   -- the file of a name, as the code finds it
   module _ (name : List ℕ) (i : ℕ) (e : At i ≡ fileNamed (catalogueOf (view img)) name) where
@@ -157,7 +210,7 @@ module _ (img : List ℕ) (ok : judged (length img) (view img) .number ≡ 0) (l
     room-none h = rw (planned-none c i (view img) offset bytes time h) (done-with-nothing (length img) (view img) [] list ok done refl refl)
 
     -- 14, or the list
-    module _ (nonempty : Some (length bytes)) (z : ℕ) (b : Bool) (e : z ≡ sizeAfter c i offset (length bytes)) (h : b ≡ grows c i z) where
+    module _ (there : lacksReserve c ≡ false) (nonempty : Some (length bytes)) (z : ℕ) (b : Bool) (e : z ≡ sizeAfter c i offset (length bytes)) (h : b ≡ grows c i z) where
       needs : listLength (groupsFor (view img) (some plan)) ≡ recordCount (touchedSectors offset (length bytes)) (cond b 2 1) * recordSize
       needs = write-needs c i (view img) offset bytes time z b e h
 
@@ -170,14 +223,14 @@ module _ (img : List ℕ) (ok : judged (length img) (view img) .number ≡ 0) (l
       unfolding roomDecision verdictOf
       room-short l =
           rw (planned-some c i (view img) offset bytes time nonempty)
-          (refused-as-short (length img) (view img) [] (some plan) list ok done refl refl (rw needs l))
+          (refused-as-short (length img) (view img) [] (some plan) list ok done refl there refl (rw needs l))
 
       pub room-done : {m : List ℕ} {j : ℕ} → recordCount (touchedSectors offset (length bytes)) (cond b 2 1) * recordSize ≤ length list
           → Emitted list 0 (closed (groupsFor (view img) (some plan))) m j → Room (record { verdict = done; length = j * recordSize }) m
       unfolding roomDecision verdictOf
       room-done l q =
           rw (planned-some c i (view img) offset bytes time nonempty, emitted-length (groupsFor (view img) (some plan)) q)
-          (done-as-planned (length img) (view img) [] (some plan) list ok done refl refl (rw needs l) q)
+          (done-as-planned (length img) (view img) [] (some plan) list ok done refl there refl (rw needs l) q)
 
     -- 12, 13
     module _ (size : ℕ) (says : size ≡ entryOf c i .size) where
@@ -188,18 +241,41 @@ module _ (img : List ℕ) (ok : judged (length img) (view img) .number ≡ 0) (l
           (rw (← says, lt-ltb size offset l))
 
       module _ (l : offset ≤ size) (z : ℕ) (e : z ≡ sizeAfter c i offset (length bytes)) where
-        pub file-13 : grows c i z ≡ true → isAt (freeExtent c) ≡ false → File (refusedBy 13) list
+        pub file-13 : grows c i z ≡ true → ltb (length (freeExtents c)) (reserveExtents (c .geometry) + 1) ≡ true → File (refusedBy 13) list
         unfolding fileDecision fileConditions verdictOf noRoom
         file-13 m f =
             own-refusal (fileConditions c i offset (length bytes)) (writePlanned c i (view img) offset bytes time) 13 (λ (e : _≡_ {A = ℕ} 13 0). omega arith)
             (rw (← says, le-ltb size offset l, says, ← e, m, f))
 
-        -- one is free, or none is needed
-        pub file-room : {answer : Changed} {after : List ℕ} → (grows c i z && not (isAt (freeExtent c))) ≡ false → Room answer after → File answer after
+        -- K + 1 are free, or none is needed
+        pub file-room : {answer : Changed} {after : List ℕ} → (grows c i z && ltb (length (freeExtents c)) (reserveExtents (c .geometry) + 1)) ≡ false → Room answer after → File answer after
         unfolding fileDecision roomDecision fileConditions verdictOf noRoom
         file-room q r =
             rw (decided-same (length img) (view img) (fileConditions c i offset (length bytes)) [] (writePlanned c i (view img) offset bytes time) (length list)
             (rw (← says, le-ltb size offset l, says, ← e, q))) r
+
+      -- no bytes
+      pub file-none : (g : Geometry) → Opened img g → offset ≤ size → length bytes ≡ 0 → File (refusedBy 0) list
+      file-none g o l n =
+          let e : size ≡ sizeAfter c i offset (length bytes) = omega (arith, says, n, l) in
+          let q : grows c i size ≡ false = sym (more-is img g o i size size says) ∙ le-ltb (extentsFor g size) (extentsFor g size) (omega arith) in
+          file-room l size e (ap (λ (b : Bool). b && ltb (length (freeExtents c)) (reserveExtents (c .geometry) + 1)) q) (room-none n)
+
+      -- 13: fewer than K are free
+      pub file-full : offset ≤ size → Some (length bytes) → lacksReserve c ≡ true → File (refusedBy 13) list
+      unfolding fileDecision fileConditions verdictOf
+      file-full l nonempty f = go (noRoom c i (sizeAfter c i offset (length bytes))) refl
+        where
+          cs : Conditions
+          cs = (ltb (entryOf c i .size) offset, refusal 12) ∷ (noRoom c i (sizeAfter c i offset (length bytes)), refusal 13) ∷ []
+
+          go : (b : Bool) → noRoom c i (sizeAfter c i offset (length bytes)) ≡ b
+              → ComesTo (view img) (decided (length img) (view img) cs (writePlanned c i (view img) offset bytes time) (length list)) list (refusedBy 13) list
+          go true q =
+              own-refusal cs (writePlanned c i (view img) offset bytes time) 13 (λ (e : _≡_ {A = ℕ} 13 0). omega arith) (rw (← says, le-ltb size offset l, says, q))
+          go false q =
+              rw (planned-some c i (view img) offset bytes time nonempty)
+              (refused-as-full (length img) (view img) cs (some plan) list ok done (sym (rw (← says, le-ltb size offset l, says, q))) refl f)
 
   -- ---- 8, 9 of write
 

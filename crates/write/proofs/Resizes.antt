@@ -20,7 +20,7 @@ use Rattle.model.specs.Disk.{view}
 use Rattle.model.specs.Superblock.{geometryIn}
 use Rattle.model.specs.Edition.{badTime}
 use Rattle.model.specs.Entry.{badName}
-use Rattle.model.specs.Catalogue.{Catalogue, catalogueOf, fileNamed, entryOf, sectorsFrom}
+use Rattle.model.specs.Catalogue.{Catalogue, catalogueOf, fileNamed, lacksReserve, entryOf, sectorsFrom}
 use Rattle.model.specs.Refusals.{Conditions, verdictOf, refusal, done, judged}
 use Rattle.model.specs.WriteList.{Plan, recordSize, recordCount, groupsFor, listLength, closed, Emitted}
 use Rattle.model.specs.Read.{longestTransfer, sizeNamed}
@@ -30,7 +30,7 @@ use Rattle.model.specs.Opened.{Bounded, Opened}
 use Rattle.laws.proofs.Bytes.{length-bytesFrom}
 use Rattle.laws.proofs.Named.{editionOn}
 use Rattle.commit.proofs.Records.{emitted-length}
-use Rattle.commit.proofs.Decided.{same-refusals, ComesTo, refused-as-short, done-as-planned}
+use Rattle.commit.proofs.Decided.{same-refusals, ComesTo, refused-as-full, refused-as-short, done-as-planned}
 use Rattle.delete.proofs.Decisions.{shrink-needs}
 use Rattle.write.specs.FileWrite.{fileConditions, fileDecision}
 use Rattle.write.specs.FileResize.{sizeConditions, sizeDecision, shrinkDecision}
@@ -71,16 +71,20 @@ module _ (img : List ℕ) (g : Geometry) (o : Opened img g) where
           → j * recordSize ≡ recordCount 0 (1 + sectorsFrom c i (extentsFor g z)) * recordSize
       shrink-count q = emitted-length (groupsFor (view img) (some plan)) q ∙ needs
 
-      pub shrink-short : length list < recordCount 0 (1 + sectorsFrom c i (extentsFor g z)) * recordSize → Shrunk (refusedBy 14) list
+      pub shrink-full : lacksReserve c ≡ true → Shrunk (refusedBy 13) list
       unfolding shrinkDecision verdictOf
-      shrink-short l = refused-as-short (length img) (view img) [] (some plan) list ok done refl refl (rw needs l)
+      shrink-full f = refused-as-full (length img) (view img) [] (some plan) list ok done refl refl f
 
-      pub shrink-done : {m : List ℕ} {j : ℕ} → recordCount 0 (1 + sectorsFrom c i (extentsFor g z)) * recordSize ≤ length list
+      pub shrink-short : lacksReserve c ≡ false → length list < recordCount 0 (1 + sectorsFrom c i (extentsFor g z)) * recordSize → Shrunk (refusedBy 14) list
+      unfolding shrinkDecision verdictOf
+      shrink-short f l = refused-as-short (length img) (view img) [] (some plan) list ok done refl f refl (rw needs l)
+
+      pub shrink-done : {m : List ℕ} {j : ℕ} → lacksReserve c ≡ false → recordCount 0 (1 + sectorsFrom c i (extentsFor g z)) * recordSize ≤ length list
           → Emitted list 0 (closed (groupsFor (view img) (some plan))) m j → Shrunk (record { verdict = done; length = j * recordSize }) m
       unfolding shrinkDecision verdictOf
-      shrink-done l q =
+      shrink-done f l q =
           rw (emitted-length (groupsFor (view img) (some plan)) q)
-          (done-as-planned (length img) (view img) [] (some plan) list ok done refl refl (rw needs l) q)
+          (done-as-planned (length img) (view img) [] (some plan) list ok done refl f refl (rw needs l) q)
 
       module _ (size : ℕ) (says : size ≡ entryOf c i .size) where
         none-holds : z < size → verdictOf (sizeConditions c i z) ≡ verdictOf []

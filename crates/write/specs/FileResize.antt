@@ -19,6 +19,6 @@ sizeConditions c i z = (ltb (entryOf c i .size + longestTransfer) z, refusal 8) 
 unfoldable pub sizeDecision : ℕ → Disk → FileNumber → ℕ → ℕ → ℕ → Decision
 sizeDecision len d i z time room = decided len d (sizeConditions (catalogueOf d) i z) (resizePlanned (catalogueOf d) d i z time) room
 
--- where the file shrinks: 14, or the plan
+-- where the file shrinks: 13 and 14 by the plan, or the plan
 unfoldable pub shrinkDecision : ℕ → Disk → FileNumber → ℕ → ℕ → ℕ → Decision
 shrinkDecision len d i z time room = decided len d [] (some (shrinkPlan (catalogueOf d) d i z time)) room

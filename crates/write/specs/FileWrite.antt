@@ -1,14 +1,15 @@
 -- A write to a file that was found: what its new size needs, and the part of the decision that rests on the file alone.
-use Prim.Native.Nat.{ℕ, _≤_, _<_, _^_}
+use Prim.Native.Nat.{ℕ, _+_, _≤_, _<_, _^_}
 use mathlib.Core.Path.{_≡_}
+use mathlib.Core.Bool.{not}
 use mathlib.Core.List.{List, [], _∷_}
 use lib.Dec.{ltb}
 use lib.ListN.{length}
 use Rattle.model.specs.declared.Geometry.{Geometry}
-use Rattle.model.specs.Search.{isAt, indexOf}
-use Rattle.model.specs.Geometry.{FileNumber}
+use Rattle.model.specs.Search.{indexOf}
+use Rattle.model.specs.Geometry.{FileNumber, reserveExtents}
 use Rattle.model.specs.Disk.{Disk, view}
-use Rattle.model.specs.Catalogue.{Catalogue, catalogueOf, freeExtent, entryOf}
+use Rattle.model.specs.Catalogue.{Catalogue, catalogueOf, freeExtent, freeExtents, entryOf}
 use Rattle.model.specs.Refusals.{Conditions, refusal, judged}
 use Rattle.model.specs.Read.{longestTransfer}
 use Rattle.model.specs.WriteList.{Decision, decided}
@@ -20,7 +21,7 @@ use Rattle.write.specs.declared.Growth.{Growth}
 pub record Grown (c : Catalogue) (i z : ℕ) (w : Growth) : Type 0 where
   pub extents : w .held ≡ heldExtents c i
   pub needs-one : w .more ≡ grows c i z
-  pub has-one : w .found ≡ isAt (freeExtent c)
+  pub has-one : ltb (length (freeExtents c)) (reserveExtents (c .geometry) + 1) ≡ not (w .found)
   pub taken : w .next .0 ≡ indexOf (freeExtent c)
 
 -- on a judged image of geometry g: file i is in the directory, its size is known, and n bytes are not too many
@@ -36,7 +37,7 @@ pub record Asked (img : List ℕ) (g : Geometry) (i size n : ℕ) : Type 0 where
 unfoldable pub fileConditions : Catalogue → FileNumber → ℕ → ℕ → Conditions
 fileConditions c i offset n = (ltb (entryOf c i .size) offset, refusal 12) ∷ (noRoom c i (sizeAfter c i offset n), refusal 13) ∷ []
 
--- the decision by these conditions; and the one that is left where they let pass: 14, or the plan
+-- the decision by these conditions; and the one that is left where they let pass: 13 and 14 by the plan, or the plan
 unfoldable pub fileDecision : ℕ → Disk → FileNumber → ℕ → List ℕ → ℕ → ℕ → Decision
 fileDecision len d i offset bytes time room =
     decided len d (fileConditions (catalogueOf d) i offset (length bytes)) (writePlanned (catalogueOf d) i d offset bytes time) room

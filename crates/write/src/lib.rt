@@ -5,24 +5,25 @@ use model::FileIndex;
 use model::Geometry;
 use model::Lowest;
 ghost use mathlib.Core.Path.{_≡_};
-ghost use mathlib.Core.Bool.{cond};
+ghost use mathlib.Core.Bool.{false, cond};
 ghost use mathlib.Core.Option.{some};
 ghost use Prim.Native.Nat.{_+_, _*_, _≤_, _<_, _^_};
 ghost use lib.ListN.{length};
 ghost use Rattle.model.specs.Disk.{view};
 ghost use Rattle.model.specs.Table.{tableSectorOf, takenIn};
-ghost use Rattle.model.specs.Catalogue.{catalogueOf, entryOf};
+ghost use Rattle.model.specs.Catalogue.{catalogueOf, lacksReserve, entryOf};
 ghost use Rattle.model.specs.Refusals.{judged};
 ghost use Rattle.model.specs.Read.{longestTransfer};
 ghost use Rattle.model.specs.WriteList.{recordSize, recordCount, groupsFor, closed, Emitted, answerOf, listAfter};
 ghost use Rattle.model.specs.Write.{touchedSectors, sizeAfter, writePlan, writeAnswer, writeList};
 ghost use Rattle.model.specs.Resize.{zeros, resizeAnswer, resizeList};
 ghost use Rattle.model.specs.Opened.{Opened};
+ghost use Rattle.commit.specs.Commit.{StagesOf};
 ghost use Rattle.spans.specs.Touched.{Source, spanOf};
 ghost use Rattle.write.specs.FileWrite.{Grown, Asked, fileDecision, roomDecision};
 ghost use Rattle.write.specs.FileResize.{shrinkDecision, sizeDecision};
 
-// What a new size needs: the extents that the file has, whether it takes one more, whether a usable one is free, and which.
+// What a new size needs: the extents that the file has, whether it takes one more, whether K + 1 are free, and the lowest of these.
 pub struct Growth {
     pub held: u64,
     pub more: bool,
@@ -43,8 +44,17 @@ fn taken_sector(img: &[u8], g: Geometry, x: Extent, i: FileIndex, offset: u64) -
 
 // ---- what a write needs
 
-// What file i, whose size is given, needs for the new size z.
-fn need_for(img: &[u8], g: Geometry, i: FileIndex, size: u64, z: u64) -> Growth
+// What file i, whose size is given, needs for the new size z. More than K are free where the lowest is below the lowest staging extent.
+fn need_for(
+    img: &[u8],
+    g: Geometry,
+    stages: &[u64],
+    i: FileIndex,
+    size: u64,
+    z: u64,
+) -> Growth
+    requires { ⌜ StagesOf g (view (now img)) (now stages) ⌝ }
+    requires { ⌜ lacksReserve (catalogueOf (view (now img))) ≡ false ⌝ }
     requires { ⌜ Opened (now img) g ⌝ }
     requires { ⌜ size ≡ entryOf (catalogueOf (view (now img))) (i .0) .size ⌝ }
     ensures { λ r. ⌜ Grown (catalogueOf (view (now (img .entry)))) (i .0) z r ⌝ }
@@ -53,11 +63,12 @@ fn need_for(img: &[u8], g: Geometry, i: FileIndex, size: u64, z: u64) -> Growth
     let held = table::extents_for(g, size);
     let more = held < table::extents_for(g, z);
     if let Lowest::At(e) = table::free_extent(img, g) {
+        let next = e as u64;
         return Growth {
             held,
             more,
-            found: true,
-            next: Extent(e as u64),
+            found: next < stages[0],
+            next: Extent(next),
         };
     }
     Growth {
@@ -88,6 +99,7 @@ fn put_write(
     list: &mut [u8],
     img: &[u8],
     g: Geometry,
+    stages: &[u64],
     i: FileIndex,
     w: Growth,
     offset: u64,
@@ -96,6 +108,7 @@ fn put_write(
     z: u64,
     time: u64,
 ) -> usize
+    requires { ⌜ StagesOf g (view (now img)) (now stages) ⌝ }
     requires { ⌜ Opened (now img) g ⌝ }
     requires { ⌜ Grown (catalogueOf (view (now img))) (i .0) z w × (w .next .0 < g .extents) ⌝ }
     requires { ⌜ (i .0 < g .files) × (0 < len) × (offset + len < 2 ^ 63) × Source (now bytes) len ⌝ }
@@ -121,20 +134,30 @@ fn put_write(
     );
     let mut numbers = [0u64; 2];
     let entry = directory::updated_entry(img, g.edition, i, z, time);
-    let k1 = commit::put_copy(list, k, g, &mut numbers, 0, i.sector(), entry);
+    let k1 = commit::put_copy(list, k, g, stages, &mut numbers, 0, i.sector(), entry);
     if w.more {
         let t = taken_sector(img, g, w.next, i, w.held);
-        let k2 = commit::put_copy(list, k1, g, &mut numbers, 1, g.table_sector_of(w.next), t);
-        return commit::put_commit(list, k2, img, g, &numbers, 2);
+        let k2 = commit::put_copy(
+            list,
+            k1,
+            g,
+            stages,
+            &mut numbers,
+            1,
+            g.table_sector_of(w.next),
+            t,
+        );
+        return commit::put_commit(list, k2, img, g, stages, &numbers, 2);
     }
-    commit::put_commit(list, k1, img, g, &numbers, 1)
+    commit::put_commit(list, k1, img, g, stages, &numbers, 1)
 }
 
-// A write that has its extent: refusal 14, or the list. A write of 0 bytes has an empty one.
+// A write that has its extents: refusal 14, or the list.
 fn put_if_room(
     list: &mut [u8],
     img: &[u8],
     g: Geometry,
+    stages: &[u64],
     i: FileIndex,
     w: Growth,
     offset: u64,
@@ -143,6 +166,8 @@ fn put_if_room(
     z: u64,
     time: u64,
 ) -> Changed
+    requires { ⌜ StagesOf g (view (now img)) (now stages) ⌝ }
+    requires { ⌜ (lacksReserve (catalogueOf (view (now img))) ≡ false) × (0 < len) ⌝ }
     requires { ⌜ judged (length (now img)) (view (now img)) .number ≡ 0 ⌝ }
     requires { ⌜ Opened (now img) g ⌝ }
     requires { ⌜ Grown (catalogueOf (view (now img))) (i .0) z w × (w .next .0 < g .extents) ⌝ }
@@ -151,13 +176,10 @@ fn put_if_room(
     ensures { λ r. ⌜ r ≡ answerOf (view (now (img .entry))) (roomDecision (length (now (img .entry))) (view (now (img .entry))) (i .0) offset (spanOf (now (bytes .entry)) len) time (length (now (list .entry)))) ⌝ }
     ensures { λ _. ⌜ now (list .exit) ≡ listAfter (view (now (img .entry))) (roomDecision (length (now (img .entry))) (view (now (img .entry))) (i .0) offset (spanOf (now (bytes .entry)) len) time (length (now (list .entry)))) (now (list .entry)) ⌝ }
 {
-    if len == 0 {
-        return commit::refused(volume::refusal(0));
-    }
     if list.len() < records(w.more, offset, len) * lists::RECORD_SIZE {
         return commit::refused(volume::refusal(14));
     }
-    let n = put_write(list, img, g, i, w, offset, bytes, len, z, time);
+    let n = put_write(list, img, g, stages, i, w, offset, bytes, len, z, time);
     let verdict = volume::refusal(0);
     Changed {
         verdict,
@@ -165,7 +187,38 @@ fn put_if_room(
     }
 }
 
-// A write to file i, whose size is given: refusals 12 to 14, or the list.
+// A write of some bytes to file i, whose size is given, in it or at its end: refusals 13 and 14, or the list.
+fn write_staged(
+    img: &[u8],
+    g: Geometry,
+    stages: &[u64],
+    i: FileIndex,
+    size: u64,
+    offset: u64,
+    bytes: &[u8],
+    len: u64,
+    time: u64,
+    list: &mut [u8],
+) -> Changed
+    requires { ⌜ StagesOf g (view (now img)) (now stages) ⌝ }
+    requires { ⌜ (lacksReserve (catalogueOf (view (now img))) ≡ false) × (0 < len) × (offset ≤ size) ⌝ }
+    requires { ⌜ Asked (now img) g (i .0) size len ⌝ }
+    requires { ⌜ Source (now bytes) len ⌝ }
+    ensures { λ r. ⌜ r ≡ answerOf (view (now (img .entry))) (fileDecision (length (now (img .entry))) (view (now (img .entry))) (i .0) offset (spanOf (now (bytes .entry)) len) time (length (now (list .entry)))) ⌝ }
+    ensures { λ _. ⌜ now (list .exit) ≡ listAfter (view (now (img .entry))) (fileDecision (length (now (img .entry))) (view (now (img .entry))) (i .0) offset (spanOf (now (bytes .entry)) len) time (length (now (list .entry)))) (now (list .entry)) ⌝ }
+{
+    let z = fields::most(size, offset + len);
+    let w = need_for(img, g, stages, i, size, z);
+    if w.more {
+        if w.found {
+            return put_if_room(list, img, g, stages, i, w, offset, bytes, len, z, time);
+        }
+        return commit::refused(volume::refusal(13));
+    }
+    put_if_room(list, img, g, stages, i, w, offset, bytes, len, z, time)
+}
+
+// A write to file i, whose size is given: refusals 12 to 14, or the list. A write of 0 bytes has an empty one.
 fn write_file(
     img: &[u8],
     g: Geometry,
@@ -185,15 +238,14 @@ fn write_file(
     if size < offset {
         return commit::refused(volume::refusal(12));
     }
-    let z = fields::most(size, offset + len);
-    let w = need_for(img, g, i, size, z);
-    if w.more {
-        if w.found {
-            return put_if_room(list, img, g, i, w, offset, bytes, len, z, time);
-        }
-        return commit::refused(volume::refusal(13));
+    if len == 0 {
+        return commit::refused(volume::refusal(0));
     }
-    put_if_room(list, img, g, i, w, offset, bytes, len, z, time)
+    let mut stages = [0u64; 5];
+    if table::staging(img, g, &mut stages) {
+        return write_staged(img, g, &stages, i, size, offset, bytes, len, time, list);
+    }
+    commit::refused(volume::refusal(13))
 }
 
 // ---- write
@@ -237,7 +289,7 @@ pub fn write_in(
 
 // ---- resize
 
-// File i is shrunk to z: refusal 14, or the list.
+// File i is shrunk to z: refusals 13 and 14, or the list.
 fn shrink_file(img: &[u8], g: Geometry, i: FileIndex, z: u64, time: u64, list: &mut [u8]) -> Changed
     requires { ⌜ judged (length (now img)) (view (now img)) .number ≡ 0 ⌝ }
     requires { ⌜ Opened (now img) g ⌝ }
@@ -245,15 +297,19 @@ fn shrink_file(img: &[u8], g: Geometry, i: FileIndex, z: u64, time: u64, list: &
     ensures { λ r. ⌜ r ≡ answerOf (view (now (img .entry))) (shrinkDecision (length (now (img .entry))) (view (now (img .entry))) (i .0) z time (length (now (list .entry)))) ⌝ }
     ensures { λ _. ⌜ now (list .exit) ≡ listAfter (view (now (img .entry))) (shrinkDecision (length (now (img .entry))) (view (now (img .entry))) (i .0) z time (length (now (list .entry)))) (now (list .entry)) ⌝ }
 {
-    if list.len() < delete::shrink_count(img, g, i, z) * lists::RECORD_SIZE {
-        return commit::refused(volume::refusal(14));
+    let mut stages = [0u64; 5];
+    if table::staging(img, g, &mut stages) {
+        if list.len() < delete::shrink_count(img, g, i, z) * lists::RECORD_SIZE {
+            return commit::refused(volume::refusal(14));
+        }
+        let n = delete::shrink(img, g, &stages, i, z, time, list);
+        let verdict = volume::refusal(0);
+        return Changed {
+            verdict,
+            length: (n * lists::RECORD_SIZE) as u64,
+        };
     }
-    let n = delete::shrink(img, g, i, z, time, list);
-    let verdict = volume::refusal(0);
-    Changed {
-        verdict,
-        length: (n * lists::RECORD_SIZE) as u64,
-    }
+    commit::refused(volume::refusal(13))
 }
 
 // A write of n zeros at the end of file i, whose size is given. A sector of zeros is lent for all of them.

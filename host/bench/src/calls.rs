@@ -40,6 +40,7 @@ pub fn print(comparisons: &mut Comparisons) {
     full(&mut table);
     almost_full(&mut table);
     one_file(&mut table);
+    other_writers(&mut table);
     table.print_slower();
 }
 
@@ -179,6 +180,25 @@ fn one_file(table: &mut CallTable) {
         &mut image,
         &list[..length],
     );
+}
+
+/// Volumes whose free extents aren't the last ones: where copies go is searched for from the end of the
+/// table, and an extent to be taken from its start.
+fn other_writers(table: &mut CallTable) {
+    for (input, image) in [
+        ("largest, the lowest extents free", images::free_below()),
+        ("largest, scattered extents free", images::free_scattered()),
+    ] {
+        assert_sound(&image);
+        table.list("list", input, &image, 0);
+        table.read("read, 512 bytes", input, &image, b"all", 0, 512);
+        table.create("create", input, &image);
+        table.write("write, 1 byte over an old one", input, &image, b"all", 0, 1);
+        table.write_new_extent(input, &image, b"empty");
+        table.rename("rename, to a new name", input, &image, b"all", b"other");
+        table.rename("rename, onto all extents", input, &image, b"empty", b"all");
+        table.delete("delete, all extents", input, &image, b"all");
+    }
 }
 
 /// A directory entry's mark: 0 frees it, and its file's extents leak; 255 gives it back.

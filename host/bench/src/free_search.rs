@@ -1,4 +1,4 @@
-//! The search for the lowest usable free extent alone, beside an ordinary loop over the same table.
+//! The search for the lowest free extent alone, beside an ordinary loop over the same table.
 
 use std::hint::black_box;
 
@@ -39,9 +39,7 @@ fn proved(image: &[u8]) -> u64 {
 /// The same by a loop over the table's entries.
 fn plain(image: &[u8], geometry: Geometry) -> u64 {
     let table = &image[geometry.table_at().0 as usize * SECTOR..];
-    let entries = table
-        .chunks_exact(4)
-        .take(geometry.usable_extents() as usize);
+    let entries = table.chunks_exact(4).take(geometry.extents() as usize);
     for (extent, entry) in (1..).zip(entries) {
         if entry[..2] == NO_FILE {
             return extent;
@@ -50,7 +48,8 @@ fn plain(image: &[u8], geometry: Geometry) -> u64 {
     0
 }
 
-/// The table of rows; gives the ratio of the first, in which only the last usable extent is free.
+/// The table of rows; gives the ratio of the first, in which only the last extent is free that our calls
+/// take on a volume of our own format.
 pub fn print(comparisons: &mut Comparisons) -> f64 {
     let geometry = geometry(255, 65_535);
     let last = geometry.usable_extents() - 1;

@@ -101,7 +101,7 @@ pub fn one_file() -> Vec<u8> {
         geometry,
         1_023,
         b"all",
-        geometry.largest_size(),
+        extents.len() as u64 * geometry.extent_bytes(),
         &extents,
     );
     image
@@ -111,6 +111,32 @@ pub fn one_file() -> Vec<u8> {
 pub fn one_file_and_a_new_one() -> Vec<u8> {
     let mut image = one_file();
     put_file(&mut image, largest(), 0, b"new", 0, &[]);
+    image
+}
+
+/// Another writer's volume: the lowest extents are free, one more than must stay free, so that the search
+/// for them from the top passes over all others. "all" has these, "empty" none.
+pub fn free_below() -> Vec<u8> {
+    let geometry = largest();
+    let mut image = blank(geometry, geometry.end().0);
+    let extents: Vec<u64> = (geometry.reserve_extents() + 1..geometry.extents()).collect();
+    let size = extents.len() as u64 * geometry.extent_bytes();
+    put_file(&mut image, geometry, 0, b"empty", 0, &[]);
+    put_file(&mut image, geometry, 1_023, b"all", size, &extents);
+    image
+}
+
+/// The same, and the free extents are scattered over the table.
+pub fn free_scattered() -> Vec<u8> {
+    let geometry = largest();
+    let mut image = blank(geometry, geometry.end().0);
+    let apart = geometry.extents() / (geometry.reserve_extents() + 1);
+    let extents: Vec<u64> = (0..geometry.extents())
+        .filter(|extent| extent % apart != apart / 2)
+        .collect();
+    let size = extents.len() as u64 * geometry.extent_bytes();
+    put_file(&mut image, geometry, 0, b"empty", 0, &[]);
+    put_file(&mut image, geometry, 1_023, b"all", size, &extents);
     image
 }
 

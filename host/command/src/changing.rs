@@ -19,12 +19,13 @@ use goofs::volume::{self, Stage, Volume};
 use crate::arguments::Arguments;
 use crate::card;
 use crate::failure::{
-    not_beside, of_card, of_file, of_names, of_opening, of_rename, of_several, quoted, Detail,
+    not_beside, of_card, of_file, of_names, of_opening, of_rename, of_several, or_frozen, quoted, Detail,
     Failure,
 };
 use crate::output::{print, sync_folder};
 use crate::progress::Progress;
 use crate::reading::{all_there, leftovers};
+use crate::space::Space;
 use crate::text;
 
 const LARGEST_32: u64 = u32::MAX as u64;
@@ -369,12 +370,13 @@ pub fn rm(arguments: &Arguments) -> Result<(), Failure> {
     let mut volume = card::volume(card, arguments.wait()?)?;
     let image = volume.image().map_err(of_card(card))?;
     edition_for(card, image, time)?;
+    let space = Space::of(image);
     all_there(card, image, names)?;
     let removals = names.iter().map(|name| Change::Delete {
         name: name.as_bytes(),
         time,
     });
-    apply(&mut volume, &Vec::from_iter(removals)).map_err(of_removals(card, names))
+    apply(&mut volume, &Vec::from_iter(removals)).map_err(or_frozen(card, space, of_removals(card, names)))
 }
 
 /// Makes failures of several removals, which say what became of each file.
@@ -407,10 +409,11 @@ pub fn mv(arguments: &Arguments) -> Result<(), Failure> {
     not_beside(new, "take another NEW")?;
     let mut volume = card::volume(card, arguments.wait()?)?;
     let image = volume.image().map_err(of_card(card))?;
-    let edition = edition_for(card, image, time)?;
+    let (edition, space) = (edition_for(card, image, time)?, Space::of(image));
     let replaced = image.find(new);
+    let other = of_rename(card, old, new, edition);
     apply(&mut volume, &[Change::Rename { old, new, time }])
-        .map_err(of_rename(card, old, new, edition))?;
+        .map_err(or_frozen(card, space, other))?;
     match replaced {
         Ok(_) if old == new => print_done(
             card,

@@ -19,7 +19,7 @@ use crate::failure::{of_call, of_card, of_file, of_several, quoted, Failure};
 use crate::folder::Targets;
 use crate::output::{print, print_bytes, print_error, save, Kept};
 use crate::progress::Progress;
-use crate::reading::{leftovers, touch};
+use crate::reading::{leftovers, no_time_set, touch};
 use crate::text;
 
 pub fn get(arguments: &Arguments) -> Result<(), Failure> {
@@ -159,11 +159,13 @@ fn opened(
     edition_for(card, image, time)?;
     let found = files(card, image, names)?;
     judge(&found)?;
+    let is_frozen = image.is_frozen();
     let touches = found.iter().map(|file| Change::Touch {
         name: &file.name,
         time,
     });
     apply(&mut volume, &Vec::from_iter(touches)).map_err(of_card::<Error>(card))?;
+    no_time_set(card, is_frozen);
     Ok((Opened::Volume(volume), found))
 }
 

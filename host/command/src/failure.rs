@@ -6,7 +6,7 @@ use std::io::{self, ErrorKind};
 use std::os::unix::ffi::OsStrExt;
 
 use goofs::error::{Error, Fault, FaultKind, Refusal};
-use goofs::image::Edition;
+use goofs::image::{Edition, Summary};
 use goofs::names;
 
 use crate::card::is_device_name;
@@ -214,8 +214,65 @@ pub fn of_rename<'c, E: Into<Error>>(
     }
 }
 
+/// How the files of a frozen volume get to another one. A larger card is needed: of an equal one some
+/// extents must stay free, too.
+pub fn to_a_larger_card(card: &str, old: Summary) -> String {
+    let edition = match old.edition {
+        Edition::First => "",
+        Edition::Second => " --edition 2",
+    };
+    let files = match old.files {
+        255 => String::new(),
+        files => format!(" --files {files}"),
+    };
+    format!(
+        "copy the files to a larger card: mkdir FOLDER; goofs get {card} NAME... --as FOLDER; \
+         goofs format NEW{edition}{files}; goofs put NEW FOLDER/*"
+    )
+}
+
+/// Makes the failure of a change of a frozen volume.
+fn frozen(card: &OsStr, old: Summary) -> Failure {
+    let next = to_a_larger_card(&quoted(card), old);
+    Failure::Card {
+        card: card.to_owned(),
+        error: Refusal::NoRoom.into(),
+        detail: Some(Detail::with_next(
+            format!(
+                "{} must stay free for any change, the removal of a file too; another program has filled \
+                 the volume, or an older goofs",
+                extents(old.reserve_extents())
+            ),
+            &format!("its files can still be read; {next}"),
+        )),
+    }
+}
+
+/// Makes failures of changes: of a frozen volume, or by `other`.
+pub fn or_frozen<'c, E: Into<Error>>(
+    card: &'c OsStr,
+    space: Space,
+    other: impl Fn(Error) -> Failure + 'c,
+) -> impl Fn(E) -> Failure + 'c {
+    move |error| match (error.into(), space.frozen) {
+        (Error::Refused(Refusal::NoRoom), Some(old)) => frozen(card, old),
+        (error, _) => other(error),
+    }
+}
+
+/// So many extents, in words.
+pub fn extents(count: u64) -> String {
+    match count {
+        1 => "1 extent".to_string(),
+        _ => format!("{count} extents"),
+    }
+}
+
 /// Makes the failure of a file that needs more extents than there are.
 pub fn no_room(card: &OsStr, name: &[u8], space: Space) -> Failure {
+    if let Some(old) = space.frozen {
+        return frozen(card, old);
+    }
     Failure::Card {
         card: card.to_owned(),
         error: Refusal::NoRoom.into(),
@@ -236,7 +293,16 @@ pub fn in_place_instead(is_given: bool) -> String {
 }
 
 /// Makes the failure of a save for which there is no room, or no entry, beside the old file.
-pub fn no_room_for_both(card: &OsStr, refusal: Refusal, what: String, is_given: bool) -> Failure {
+pub fn no_room_for_both(
+    card: &OsStr,
+    space: Space,
+    refusal: Refusal,
+    what: String,
+    is_given: bool,
+) -> Failure {
+    if let (Refusal::NoRoom, Some(old)) = (refusal, space.frozen) {
+        return frozen(card, old);
+    }
     let next = format!(
         "remove a file that is not needed (goofs rm {} NAME) and give the command again; or {}",
         quoted(card),
@@ -356,12 +422,11 @@ fn after_refusal(refusal: Refusal, card: &str) -> String {
         Refusal::NotSound(fault) => {
             let next = match fault.kind {
                 FaultKind::TableEntry | FaultKind::Extents => format!(
-                    "{}Keep a copy of the card (dd if={card} of=COPY); then goofs repair {card}: it shows \
+                    "Keep a copy of the card (dd if={card} of=COPY); then goofs repair {card}: it shows \
                      which extents belong to no file, asks, frees them, and says whether the volume is \
-                     sound then. It does not bring back what a file lacks",
-                    older(fault)
+                     sound then. It does not bring back what a file lacks"
                 ),
-                _ => not_mended(fault, card),
+                _ => not_mended(card),
             };
             format!("no file is read or changed on a volume that is not sound. {next}")
         }
@@ -384,24 +449,20 @@ fn after_refusal(refusal: Refusal, card: &str) -> String {
     }
 }
 
-/// The reserve of some volumes has grown by an extent, which a file of before may hold.
-fn older(fault: Fault) -> &'static str {
-    match fault.kind {
-        FaultKind::NameOrSize | FaultKind::TableEntry => {
-            "If the card was filled by a goofs that had no mv, copy the files with that one first: here \
-             the reserve may be larger. "
-        }
-        _ => "",
-    }
+/// What a person can do about a fault that a repair leaves.
+fn not_mended(card: &str) -> String {
+    format!(
+        "goofs repair does not mend this fault. {}",
+        format_anew(card)
+    )
 }
 
-/// What a person can do about a fault that a repair leaves.
-pub fn not_mended(fault: Fault, card: &str) -> String {
+/// What is left where no command mends a volume.
+pub fn format_anew(card: &str) -> String {
     format!(
-        "goofs repair does not mend this fault. {}Copy the files that are whole: goofs salvage {card} FOLDER. \
+        "Copy the files that are whole: goofs salvage {card} FOLDER. \
          Keep a copy of the card (dd if={card} of=COPY) if someone is to look at it; then \
-         goofs format {card} --yes, and put the files back",
-        older(fault)
+         goofs format {card} --yes, and put the files back"
     )
 }
 
@@ -469,7 +530,7 @@ impl fmt::Display for Failure {
             }
             Failure::NotMended { card, fault } => {
                 let (card, refusal) = (quoted(card), Refusal::NotSound(*fault));
-                let (number, next) = (refusal.number(), not_mended(*fault, &card));
+                let (number, next) = (refusal.number(), not_mended(&card));
                 write!(f, "{card}: ({number}) {refusal}.\nNext: {next}.")
             }
             Failure::File { file, error } => write!(
@@ -568,6 +629,7 @@ impl fmt::Display for Failure {
 mod tests {
     use super::*;
     use goofs::error::Interrupted;
+    use goofs::image::State;
 
     const REFUSALS: [Refusal; 14] = [
         Refusal::NotWholeSectors,
@@ -603,17 +665,26 @@ mod tests {
         }
     }
 
-    /// A full volume of before rename may have a file where the reserve is now.
+    /// What to do about a frozen volume names a format that takes all of its files.
     #[test]
-    fn older_volumes() {
-        for (kind, is_told) in [
-            (FaultKind::NameOrSize, true),
-            (FaultKind::TableEntry, true),
-            (FaultKind::SameName, false),
+    fn frozen_volumes() {
+        for (edition, files, format) in [
+            (Edition::First, 255, "goofs format NEW; "),
+            (Edition::Second, 255, "goofs format NEW --edition 2; "),
+            (Edition::First, 4_096, "goofs format NEW --files 4096; "),
         ] {
-            let refusal = Refusal::NotSound(Fault { kind, place: 9 });
-            let text = of_card(OsStr::new("card"))(refusal).to_string();
-            assert_eq!(text.contains("a goofs that had no mv"), is_told, "{text}");
+            let old = Summary {
+                edition,
+                files,
+                extents: 16_128,
+                extent_sectors: 128,
+                state: State::Clean,
+            };
+            let text = frozen(OsStr::new("a card"), old).to_string();
+            assert!(text.starts_with("'a card': refused (13): "), "{text}");
+            assert!(text.contains("(2 extents must stay free"), "{text}");
+            assert!(text.contains("goofs get 'a card' NAME"), "{text}");
+            assert!(text.contains(format), "{text}");
         }
     }
 

@@ -48,7 +48,8 @@ pub const INFO: &str = "\
 goofs info CARD [--json]
 
 Shows the volume's geometry and edition, where each area starts (in sectors), its state, whether it is
-sound, and how many extents are used and free. Each file takes whole extents. It works on a volume in any state and changes nothing. The states:
+sound, and how many extents are used and free. Each file takes whole extents. It works on a volume in
+any state and changes nothing. The states:
   clean        no change is under way
   waiting      a change was cut: goofs recover CARD finishes it
   damaged      the journal's length is one that no change writes
@@ -56,6 +57,11 @@ sound, and how many extents are used and free. Each file takes whole extents. It
 
   --json       print it as a JSON object, for a program; JSON.md (in docs, or share/doc/goofs) has its
                fields
+
+Some extents must stay free, wherever they are: a change puts its copies in the highest free ones. A
+volume that another program has filled may have fewer free. It is frozen then: its files can be read,
+and no change can be made to it, not even a file removed (13). Info says so, and how to copy the files
+to a larger card.
 ";
 
 pub const CHECK: &str = "\
@@ -63,7 +69,8 @@ goofs check CARD [--json]
 
 Says whether the volume is clean and sound. If not, it says which fault it has and where, and the exit
 status is 1. It changes nothing, and does not read the bytes of the files. A file that a put, cut
-short, has left beside another is no fault; it is told with what to do about it.
+short, has left beside another is no fault; it is told with what to do about it. Nor is a volume that
+is frozen: info tells that.
   --json      print a JSON object on the standard output, for a program: whether it is sound, the fault,
               how many files; JSON.md (in docs, or share/doc/goofs) has its fields
 ";
@@ -179,7 +186,8 @@ command again then: it writes the same bytes. To have the old file or the new on
 pub const RM: &str = "\
 goofs rm CARD NAME... [--time T]
 
-Removes files. Their extents are free at once.
+Removes files. Their extents are free at once. On a volume that is frozen (see goofs info --help) no
+file can be removed.
   --time T    the time of the change, in seconds since 1970, on edition 1 up to 4294967295; else now
 
 Each file is removed by a change of its own, whole or not at all, in the order of the NAMEs. All are
@@ -231,7 +239,8 @@ at once: a cut of the power leaves them freed or not. No byte of a file and no e
 What is lost is not brought back: a file that lacks an extent is named, and so is a fault of the
 directory. A file whose entry is damaged may lose extents by this: where check says fault 21 or 22, copy
 the card first (dd if=CARD of=COPY). If the volume is not sound after it, the fault is printed and the
-exit status is 1.
+exit status is 1. A repair needs free extents for its own change, and those that it would free don't
+count: where too few are free it is refused (13), and no command mends the volume.
   --yes        do not ask
 ";
 

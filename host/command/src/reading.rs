@@ -13,7 +13,7 @@ use goofs::system::Held;
 use crate::arguments::Arguments;
 use crate::card;
 use crate::changing::{edition_for, time};
-use crate::failure::{of_call, of_card, quoted, Failure};
+use crate::failure::{of_call, of_card, quoted, to_a_larger_card, Failure};
 use crate::json;
 use crate::output::{print, print_error};
 use crate::space::Space;
@@ -106,13 +106,28 @@ pub fn info(arguments: &Arguments) -> Result<(), Failure> {
             ),
         );
         let space = Space::of(&image);
-        let used = summary.usable_extents() - space.free;
-        line("extents used", used.to_string());
+        line("extents used", image.used_extents().to_string());
         line(
             "extents free",
-            format!("{} ({} bytes)", space.free, space.free * space.extent_bytes),
+            format!(
+                "{}, of which {} must stay free; {} ({} bytes) for files",
+                image.free_extents(),
+                summary.reserve_extents(),
+                space.free,
+                space.free * space.extent_bytes
+            ),
         );
         line("room", space.to_string());
+        if let Some(old) = space.frozen {
+            let next = match image.check() {
+                Ok(()) => to_a_larger_card(&quoted(card), old),
+                Err(_) => "see state and sound above".to_string(),
+            };
+            line(
+                "frozen",
+                format!("yes: too few extents are free for any change; next: {next}"),
+            );
+        }
     }
     print(&text)
 }
@@ -157,6 +172,17 @@ pub fn touch(arguments: &Arguments) -> Result<Option<u64>, Failure> {
     }
 }
 
+/// On a frozen volume `--touch` leaves access times as they are, which is no failure.
+pub fn no_time_set(card: &OsStr, is_frozen: bool) {
+    if is_frozen {
+        let card = quoted(card);
+        print_error(&format!(
+            "{card}: no access time was set, as too few extents are free for any change. \
+             Next: goofs info {card} says what to do.\n"
+        ));
+    }
+}
+
 /// All files, and with `--touch` the root's access time set.
 fn files(arguments: &Arguments, card: &OsStr) -> Result<Vec<Entry>, Failure> {
     let wait = arguments.wait()?;
@@ -164,9 +190,13 @@ fn files(arguments: &Arguments, card: &OsStr) -> Result<Vec<Entry>, Failure> {
         return card::read(card, wait)?.entries().map_err(of_card(card));
     };
     let mut volume = card::volume(card, wait)?;
-    edition_for(card, volume.image().map_err(of_card(card))?, time)?;
+    let image = volume.image().map_err(of_card(card))?;
+    edition_for(card, image, time)?;
+    let is_frozen = image.is_frozen();
     let _held = Held::new();
-    volume.entries(time).map_err(of_card::<Error>(card))
+    let files = volume.entries(time).map_err(of_card::<Error>(card))?;
+    no_time_set(card, is_frozen);
+    Ok(files)
 }
 
 pub fn ls(arguments: &Arguments) -> Result<(), Failure> {

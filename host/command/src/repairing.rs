@@ -10,7 +10,7 @@ use goofs::system::Held;
 use crate::arguments::Arguments;
 use crate::card;
 use crate::changing::print_done;
-use crate::failure::{not_mended, of_card, quoted, Detail, Failure};
+use crate::failure::{extents, format_anew, of_card, quoted, Detail, Failure};
 use crate::output::print;
 use crate::text;
 
@@ -33,15 +33,11 @@ pub fn repair(arguments: &Arguments) -> Result<(), Failure> {
     }
     let _held = Held::new();
     let done = volume.repair().map_err(of_card::<Error>(card))?;
-    print_done(card, &format!("freed: {}\n", extents(done.freed.len())))?;
+    print_done(
+        card,
+        &format!("freed: {}\n", extents(done.freed.len() as u64)),
+    )?;
     remaining(card, &done)
-}
-
-fn extents(count: usize) -> String {
-    match count {
-        1 => "1 extent".to_string(),
-        _ => format!("{count} extents"),
-    }
 }
 
 /// What would be freed, a line for each extent, and what would remain.
@@ -53,7 +49,7 @@ fn told(repair: &Repair) -> String {
     };
     lines.push(format!(
         "to be freed: {}; no byte of a file changes; {remains}\n",
-        extents(repair.freed.len())
+        extents(repair.freed.len() as u64)
     ));
     lines.concat()
 }
@@ -93,18 +89,24 @@ fn agreed(card: &OsStr) -> Result<(), Failure> {
     )))
 }
 
-/// A repair stages its change in the reserve, so it refuses a volume whose reserve isn't free.
+/// A repair stages its change in free extents, and what it would free doesn't count.
 fn of_repair(card: &OsStr) -> impl Fn(Refusal) -> Failure + '_ {
-    move |refusal| Failure::Card {
+    move |refusal| {
+        Failure::Card {
         card: card.to_owned(),
         error: refusal.into(),
         detail: match refusal {
-            Refusal::NotSound(fault) => Some(Detail::with_next(
-                "a repair needs a free reserve".to_string(),
-                &not_mended(fault, &quoted(card)),
+            Refusal::NoRoom => Some(Detail::with_next(
+                "a repair needs free extents for its own change; those that it would free don't count"
+                    .to_string(),
+                &format!(
+                    "no command mends this volume. {}",
+                    format_anew(&quoted(card))
+                ),
             )),
             _ => None,
         },
+    }
     }
 }
 

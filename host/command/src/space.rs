@@ -2,14 +2,17 @@
 
 use std::fmt;
 
-use goofs::image::Image;
+use goofs::image::{Image, Summary};
 
 /// What a file costs, and how much there is for it.
 #[derive(Clone, Copy)]
 pub struct Space {
     pub extent_bytes: u64,
-    /// Extents that no file has.
+    /// Extents that a file can get: some must stay free.
     pub free: u64,
+    /// The geometry of a volume that no change can be made to any more, as fewer are free than must stay
+    /// free.
+    pub frozen: Option<Summary>,
 }
 
 impl Space {
@@ -17,9 +20,10 @@ impl Space {
         let summary = image.summary();
         Space {
             extent_bytes: summary.extent_bytes(),
-            free: summary
-                .usable_extents()
-                .saturating_sub(image.used_extents()),
+            free: image
+                .free_extents()
+                .saturating_sub(summary.reserve_extents()),
+            frozen: image.is_frozen().then_some(summary),
         }
     }
 

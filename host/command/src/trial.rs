@@ -8,13 +8,15 @@ use std::os::unix::ffi::OsStrExt;
 
 use goofs::change::{Change, List, Write};
 use goofs::device::SECTOR;
-use goofs::error::{Error, Refusal};
+use goofs::error::Error;
 use goofs::image::Image;
 
 use crate::arguments::Arguments;
 use crate::card;
 use crate::changing::{edition_for, time, NewFile};
-use crate::failure::{not_beside, of_call, of_card, of_file, of_new, of_rename, quoted, Failure};
+use crate::failure::{
+    not_beside, of_call, of_card, of_file, of_new, of_rename, or_frozen, quoted, Failure,
+};
 use crate::output::{print, save_image};
 use crate::progress::Progress;
 use crate::space::Space;
@@ -111,16 +113,16 @@ pub fn run(arguments: &Arguments) -> Result<(), Failure> {
     };
     // A refusal of any change comes before the first line of the table.
     let mut tried = Progress::new("changes tried", changes.len() as u64);
-    let refused = |refusal: Refusal| match kind {
-        b"create" => of_new(card, name, edition, new_file.id, "take another NAME")(refusal),
-        b"mv" => of_rename(card, name, rest[1].as_bytes(), edition)(refusal),
-        b"put" => of_put(card, &puts)(refusal.into()),
-        b"ls" => of_card(card)(refusal),
-        _ => of_call(card, name, edition)(refusal),
+    let refused = |error: Error| match kind {
+        b"create" => of_new(card, name, edition, new_file.id, "take another NAME")(error),
+        b"mv" => of_rename(card, name, rest[1].as_bytes(), edition)(error),
+        b"put" => of_put(card, space, &puts)(error),
+        b"ls" => of_card(card)(error),
+        _ => of_call(card, name, edition)(error),
     };
     image
         .try_out(&changes, &mut |count| tried.at(count as u64))
-        .map_err(refused)?;
+        .map_err(or_frozen(card, space, refused))?;
     drop(tried);
 
     let mut draw = Draw(seed);

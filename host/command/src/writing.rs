@@ -16,7 +16,7 @@ use crate::card;
 use crate::changing::{apply, edition_for, time, NewFile};
 use crate::failure::{
     in_place_instead, no_room, no_room_for_both, not_beside, of_call, of_card, of_file, of_new,
-    quoted, Failure,
+    or_frozen, quoted, Failure,
 };
 use crate::progress::Progress;
 use crate::space::Space;
@@ -151,7 +151,7 @@ pub fn look_up<'p>(
         [_] => "give another with --as NAME",
         _ => "put this file alone, with --as NAME",
     };
-    let is_given = new_file.is_given();
+    let (is_given, space) = (new_file.is_given(), Space::of(image));
     let mut new_ids = Vec::new();
     let mut puts = Vec::new();
     for source in sources {
@@ -171,7 +171,11 @@ pub fn look_up<'p>(
                 Some(_) if refusal == Refusal::BadArgument && id != 0 => {
                     not_replaced(card, name, is_given)
                 }
-                _ => of_new(card, name, edition, new_file.id, another)(refusal),
+                _ => or_frozen(
+                    card,
+                    space,
+                    of_new(card, name, edition, new_file.id, another),
+                )(refusal),
             })?,
         }
         puts.push(Put {
@@ -216,16 +220,20 @@ pub fn put_changes<'c>(
 }
 
 /// Makes failures of the changes of a put.
-pub fn of_put<'p>(card: &'p OsStr, puts: &'p [Put]) -> impl Fn(Error) -> Failure + 'p {
+pub fn of_put<'p>(
+    card: &'p OsStr,
+    space: Space,
+    puts: &'p [Put],
+) -> impl Fn(Error) -> Failure + 'p {
     move |error| match error {
         // Where all of them are there, none needs an entry in place.
         Error::Refused(refusal @ Refusal::DirectoryFull)
             if puts.iter().all(|put| put.save.old.is_some()) =>
         {
             let is_given = puts.iter().any(|put| put.is_given);
-            no_room_for_both(card, refusal, "each new file".to_string(), is_given)
+            no_room_for_both(card, space, refusal, "each new file".to_string(), is_given)
         }
-        error => of_card(card)(error),
+        error => or_frozen(card, space, of_card(card))(error),
     }
 }
 
@@ -292,6 +300,7 @@ impl Put<'_> {
             true => Ok(after),
             false => Err(no_room_for_both(
                 card,
+                space,
                 Refusal::NoRoom,
                 format!("{}: {space}; the new file", text::word(name)),
                 self.is_given,
@@ -325,8 +334,9 @@ pub fn put(arguments: &Arguments) -> Result<(), Failure> {
     let mut volume = card::volume(card, arguments.wait()?)?;
     let image = volume.image().map_err(of_card(card))?;
     let puts = look_up(card, image, &sources, &new_file, in_place, time)?;
-    let changes = put_changes(card, Space::of(image), &puts, &contents)?;
-    apply(&mut volume, &changes).map_err(of_put(card, &puts))
+    let space = Space::of(image);
+    let changes = put_changes(card, space, &puts, &contents)?;
+    apply(&mut volume, &changes).map_err(of_put(card, space, &puts))
 }
 
 /// One change, or several where the file grows by more than one may.
@@ -365,7 +375,7 @@ pub fn resize(arguments: &Arguments) -> Result<(), Failure> {
     let (card, name, size) = (&places[0], places[1].as_bytes(), size(&places[2])?);
     let mut volume = card::volume(card, arguments.wait()?)?;
     let image = volume.image().map_err(of_card(card))?;
-    let edition = image.summary().edition;
+    let (edition, space) = (image.summary().edition, Space::of(image));
     let changes = resize_changes(card, image, name, size, time)?;
-    apply(&mut volume, &changes).map_err(of_call(card, name, edition))
+    apply(&mut volume, &changes).map_err(or_frozen(card, space, of_call(card, name, edition)))
 }

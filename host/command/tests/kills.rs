@@ -149,6 +149,8 @@ impl Run {
                 if self.file(name).is_none() {
                     let first = self.save(name, 2_500);
                     self.whole(first);
+                    // At the same time a get would set the access time that it has already.
+                    self.time += 1;
                 }
                 let size = self.draw.below(2 * PIECE + 1);
                 match self.draw.below(5) {

@@ -157,6 +157,45 @@ fn a_trial_on_a_full_card() {
     }
 }
 
+/// A card of 1 GiB that a goofs without rename has filled: of its 16,128 extents one is free, and two must
+/// stay free now. It is read, and can't be changed; info says so.
+#[test]
+fn an_older_full_card() {
+    let folder = Folder::new("older-card");
+    let card = folder.file("card");
+    let sectors = (546 + 255 + 128 * 16_128).to_string();
+    good("format", &card, &["--sectors", &sectors, "--sparse"]);
+    let source = folder.write("f", &[1; 3_000]);
+    good("put", &card, &[source.to_str().unwrap()]);
+    let fill = |extents: u16| {
+        let file = OpenOptions::new().write(true).open(&card).unwrap();
+        let size = u64::from(extents) * 65_536;
+        file.write_all_at(&size.to_be_bytes(), 2 * 512 + 2).unwrap();
+        let table: Vec<u8> = (0..extents)
+            .flat_map(|offset| [[0, 0], offset.to_be_bytes()].concat())
+            .collect();
+        file.write_all_at(&table, (34 + 255) * 512).unwrap();
+    };
+    fill(16_126);
+    assert!(good("info", &card, &[]).contains("extents free     2, of which 2 must stay free; 0"));
+    good("mv", &card, &["f", "g"]);
+    fill(16_127);
+    let held = start(&card);
+    assert_eq!(good("check", &card, &[]), "sound, 1 files\n");
+    let info = good("info", &card, &[]);
+    assert!(
+        info.contains("extents free     1, of which 2 must stay free; 0 (0 bytes)")
+            && info.contains("frozen           yes: "),
+        "{info}"
+    );
+    let said = on("rm", &card, &["g"]);
+    assert!(
+        said.status == 1 && said.err.contains("refused (13)") && said.err.contains("larger card"),
+        "{said:?}"
+    );
+    assert!(start(&card) == held);
+}
+
 /// An image file that is all holes has nothing to lose, and is not read to its end to know that. One
 /// byte far behind the metadata is found.
 #[test]

@@ -89,7 +89,7 @@ fn what_stands_on_a_volume() {
         "data at          290",
         "reserve at       674, 1 extents",
         "extents used     1",
-        "extents free     2 (131072 bytes)",
+        "extents free     3, of which 1 must stay free; 2 (131072 bytes) for files",
     ] {
         assert!(info.lines().any(|l| l == line), "{line} in\n{info}");
     }
@@ -111,7 +111,7 @@ fn what_stands_on_a_volume() {
 }
 
 /// The image after a command with `--touch`, which sets 4 bytes of a time here and uses the first sectors
-/// of journal and reserve.
+/// of the journal and of the last extent.
 fn touched(before: &[u8], at: usize, time: u32, now: &[u8]) -> bool {
     let mut expected = before.to_vec();
     expected[at..at + 4].copy_from_slice(&time.to_be_bytes());

@@ -119,15 +119,15 @@ fn what_remains() {
     }
 }
 
-/// A reserve that isn't free, and volumes that are not clean, are left alone.
+/// A volume without a free extent, and volumes that are not clean, are left alone.
 #[test]
 fn what_is_refused() {
     let folder = Folder::new("repair-refused");
     let image = sample(&folder);
-    let reserve = damaged(&folder, &image, EXTENT_2 + 4, &[0, 0, 0, 5]);
-    let err = bad("repair", &reserve, &["--yes"], 1);
+    let full = damaged(&folder, &image, EXTENT_2, &[0, 9, 0, 0, 0, 9, 0, 0]);
+    let err = bad("repair", &full, &["--yes"], 1);
     assert!(
-        err.contains("refused (7)") && err.contains("fault 25") && err.contains("free reserve"),
+        err.contains("refused (13)") && err.contains("a repair needs free extents"),
         "{err}"
     );
     let waiting = damaged(&folder, &image, 18, &[0, 2]);

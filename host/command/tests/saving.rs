@@ -63,7 +63,7 @@ fn mv_gives_another_name() {
     );
     assert_eq!(get(&card, "g"), b"of f");
     assert_eq!(good("check", &card, &[]), "sound, 1 files\n");
-    assert!(good("info", &card, &[]).contains("extents free     2 "));
+    assert!(good("info", &card, &[]).contains("; 2 (131072 bytes) for files\n"));
 
     // To itself nothing is written.
     let before = fs::read(&card).unwrap();

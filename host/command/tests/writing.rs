@@ -56,7 +56,7 @@ fn files_come_back() {
         assert_eq!(get(&card, "small"), pattern(length, 9));
     }
     assert_eq!(good("check", &card, &[]), "sound, 2 files\n");
-    assert!(good("info", &card, &[]).contains("extents free     2 (131072 bytes)\n"));
+    assert!(good("info", &card, &[]).contains("; 2 (131072 bytes) for files\n"));
 }
 
 /// What a shell makes of `put CARD *.cal`: each file keeps its name, and none becomes another's.

@@ -71,12 +71,13 @@ pub enum Change<'c> {
         data: &'c [u8],
         time: u64,
     },
-    /// The file's access time, as a read sets it; nothing else of the file.
+    /// The file's access time, as a read sets it; nothing else of the file. On a frozen volume (see
+    /// `Image::is_frozen`) it stays.
     Touch {
         name: &'c [u8],
         time: u64,
     },
-    /// The root's access time, as listing the file with this index sets it.
+    /// The root's access time, as listing the file with this index sets it; on a frozen volume it stays.
     TouchRoot {
         index: u64,
         time: u64,
@@ -222,7 +223,8 @@ impl Image {
         }
     }
 
-    /// As `read`, with the list that sets the file's access time. Its version and its change time stay.
+    /// As `read`, with the list that sets the file's access time; on a frozen volume it is empty. The
+    /// file's version and its change time stay.
     pub fn read_touching(
         &self,
         name: &[u8],
@@ -238,7 +240,8 @@ impl Image {
         Ok((answer.count as usize, List { bytes }))
     }
 
-    /// The file with this index, with the list that sets the root's access time.
+    /// The file with this index, with the list that sets the root's access time; on a frozen volume it is
+    /// empty.
     pub fn list_touching(&self, index: u64, time: u64) -> Result<(Entry, List), Refusal> {
         let mut bytes = vec![0; records(0, 1) * RECORD];
         let mut name = vec![0; LONGEST_NAME];
@@ -259,7 +262,8 @@ impl Image {
         Ok((entry, List { bytes }))
     }
 
-    /// What a repair does to this volume, which is clean but may have faults.
+    /// What a repair does to this volume, which is clean but may have faults. It is refused with `NoRoom`
+    /// where there is something to free and the volume is frozen: what would be freed doesn't count.
     pub fn repair(&self) -> Result<Repair, Refusal> {
         let mut bytes = vec![0; records(0, MOST_TABLE_SECTORS) * RECORD];
         let answer = crate::repair(&self.bytes, &mut bytes);

@@ -21,6 +21,8 @@ pub enum Refusal {
     AlreadyThere,
     DirectoryFull,
     PastTheEnd,
+    /// An extent is needed, and no more are free than must stay free; or fewer are free than must stay
+    /// free (see `Image::is_frozen`), and there is something to change.
     NoRoom,
     BufferTooShort,
 }
@@ -86,7 +88,7 @@ impl fmt::Display for Refusal {
             Refusal::AlreadyThere => "the name or the id is already in use",
             Refusal::DirectoryFull => "the directory has no free entry",
             Refusal::PastTheEnd => "the offset is greater than the file's size",
-            Refusal::NoRoom => "more extents are needed than are free",
+            Refusal::NoRoom => "too few extents are free",
             Refusal::BufferTooShort => "the lent buffer is too short for the answer",
         })
     }
@@ -154,7 +156,7 @@ impl fmt::Display for Fault {
             ),
             FaultKind::NameOrSize => write!(
                 f,
-                "fault {number}, directory entry {place} has a bad name or an impossible size"
+                "fault {number}, directory entry {place} has a bad name or a size greater than the volume's data area"
             ),
             FaultKind::SameName => write!(
                 f,
@@ -166,8 +168,7 @@ impl fmt::Display for Fault {
             ),
             FaultKind::TableEntry => write!(
                 f,
-                "fault {number}, the allocation table gives extent {place} to a file that is not there, \
-                 or the extent is reserved"
+                "fault {number}, the allocation table gives extent {place} to a file that is not there"
             ),
             FaultKind::Extents => write!(
                 f,

@@ -124,13 +124,15 @@ calls! {
     find is goofs_find(image: bytes, name: bytes) -> FindAnswer;
 
     /// The fields of the entry with this index; its name is copied to the output. The list sets the
-    /// root's access time; who leaves it alone drops the list.
+    /// root's access time; who leaves it alone drops the list. Where fewer than K extents are free the
+    /// list is empty.
     list is goofs_list(
         image: bytes, index: u64, time: u64, output: buffer, list: buffer
     ) -> ListAnswer;
 
     /// Copies at most `count` bytes of the file from this offset on to the output. The list sets the
-    /// file's access time; who leaves it alone drops the list.
+    /// file's access time; who leaves it alone drops the list. Where fewer than K extents are free the
+    /// list is empty.
     read is goofs_read(
         image: bytes, name: bytes, offset: u64, count: u64, time: u64, output: buffer, list: buffer
     ) -> ReadAnswer;
@@ -158,7 +160,8 @@ calls! {
         image: bytes, name: bytes, offset: u64, data: bytes, time: u64, list: buffer
     ) -> ChangeAnswer;
 
-    /// The list that frees the extents that belong to no file; on a clean volume with any fault.
+    /// The list that frees the extents that belong to no file; on a clean volume with any fault. 13 if there
+    /// are such extents and fewer than K are free.
     repair is goofs_repair(image: bytes, list: buffer) -> RepairAnswer;
 
     /// The list that finishes an interrupted change; empty for a clean volume.

@@ -162,15 +162,19 @@ impl Summary {
         self.table_at() + self.table_sectors()
     }
 
-    /// The extents at the end that hold the copies of a change and never belong to a file.
+    /// So many extents must stay free, anywhere: the copies of a change are put in the highest free ones.
+    /// A volume of another writer may have fewer, and is then frozen (see `Image::is_frozen`).
     pub fn reserve_extents(&self) -> u64 {
         (self.table_sectors() + 3).div_ceil(self.extent_sectors)
     }
 
+    /// So many extents the files of a volume can come to hold.
     pub fn usable_extents(&self) -> u64 {
         self.extents.saturating_sub(self.reserve_extents())
     }
 
+    /// Where the last `reserve_extents` begin: there the copies of a change stand on a volume that only
+    /// this code has filled.
     pub fn reserve_at(&self) -> u64 {
         self.data_at() + self.usable_extents() * self.extent_sectors
     }
@@ -378,6 +382,18 @@ impl Image {
             .take(summary.extents as usize)
             .filter(|entry| entry[..2] != NO_FILE)
             .count() as u64
+    }
+
+    /// How many extents belong to no file.
+    pub fn free_extents(&self) -> u64 {
+        self.summary().extents - self.used_extents()
+    }
+
+    /// Whether fewer extents are free than must stay free. Then every change is refused with `NoRoom`, a
+    /// delete too, and no access time is set; files are still read. Only another writer, or a build of
+    /// before rename on a few geometries, leaves a volume so.
+    pub fn is_frozen(&self) -> bool {
+        self.free_extents() < self.summary().reserve_extents()
     }
 
     pub fn find(&self, name: &[u8]) -> Result<Entry, Refusal> {

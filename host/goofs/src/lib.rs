@@ -10,6 +10,11 @@
 //! - `format_record` gives the records of a format one at a time;
 //! - `carry_out` does the writes of a list, and is the only call that changes an image.
 //!
+//! At least K = (T + 3) / S rounded up extents of a volume must stay free, T being the sectors of its
+//! allocation table and S those of an extent: the copies of a change are put in the K highest free ones.
+//! Volumes of other writers may have fewer free. Those are read as any other, and every call that would
+//! change one is refused with 13 (`image::Image::is_frozen`).
+//!
 //! A volume is of one of two editions (`image::Edition`), which differ in the width of their times; all
 //! calls take both, and times of 64 bits.
 //!

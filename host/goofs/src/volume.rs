@@ -123,7 +123,8 @@ impl<D: Device> Volume<D> {
         self.apply(&save.changes(contents))
     }
 
-    /// Frees the extents that belong to no file. Nothing of a file changes.
+    /// Frees the extents that belong to no file. Nothing of a file changes. A frozen volume with such
+    /// extents is refused with `NoRoom`.
     pub fn repair(&mut self) -> Result<Repair, Error> {
         let repair = self.image()?.repair()?;
         self.carry_out(&repair.list, 0)?;
@@ -131,7 +132,8 @@ impl<D: Device> Volume<D> {
     }
 
     /// Fills the start of the output with bytes of the file, says how many, and sets the file's access
-    /// time, also where there are none to give. `image` has the calls that leave times alone.
+    /// time, also where there are none to give; on a frozen volume (see `Image::is_frozen`) the time
+    /// stays. `image` has the calls that leave times alone.
     pub fn read(
         &mut self,
         name: &[u8],
@@ -145,7 +147,7 @@ impl<D: Device> Volume<D> {
     }
 
     /// All files, in the directory's order; sets the root's access time. In a directory without a file
-    /// there is none to list, and the time stays.
+    /// there is none to list, and the time stays; so it does on a frozen volume.
     pub fn entries(&mut self, time: u64) -> Result<Vec<Entry>, Error> {
         let entries = self.image()?.entries()?;
         if let Some(first) = entries.first() {

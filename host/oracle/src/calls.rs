@@ -81,7 +81,7 @@ fn list_entry(
         .expect("an occupied entry of a sound volume has a name");
     let output = start_of(output, name.len())?;
     let root = accessed(volume, volume.geometry().root_at(), root::ACCESS_TIME, time);
-    let length = transaction(volume, &[root], list)?;
+    let length = access_list(volume, root, list)?;
     output.copy_from_slice(name);
     Ok(ListAnswer {
         length,
@@ -129,7 +129,7 @@ fn read_file(
     let volume = sound.volume();
     let entry_at = volume.geometry().entry_at(file);
     let entry = accessed(volume, entry_at, entry::ACCESS_TIME, time);
-    let length = transaction(volume, &[entry], list)?;
+    let length = access_list(volume, entry, list)?;
     copy_span(&sound, file, offset, output);
     Ok(ReadAnswer {
         count: given,
@@ -175,6 +175,14 @@ fn accessed(volume: Volume, sector: Sector, access_time_at: usize, time: u64) ->
         .edition()
         .put_time(&mut contents, access_time_at, time);
     Target { sector, contents }
+}
+
+/// The list that sets an access time. Where no copy can be staged it is empty, and the time stays.
+fn access_list(volume: Volume, accessed: Target, list: &mut [u8]) -> Result<u64, Refusal> {
+    match transaction(volume, &[accessed], list) {
+        Err(refusal) if refusal.code == code::NO_ROOM => Ok(0),
+        given => given,
+    }
 }
 
 /// Refusals 8 for the name and 9; used by every call that takes the name of a file that must be

@@ -9,6 +9,7 @@ use crate::layout::{
     SECTOR,
 };
 use crate::lists::{list_length, ListWriter, Target};
+use crate::staging::Staging;
 
 /// What a growing resize writes.
 static ZEROS: [u8; LONGEST_SPAN as usize] = [0; LONGEST_SPAN as usize];
@@ -180,20 +181,25 @@ fn write_span(
     let old_size = volume.entry(file).size();
     let new_size = old_size.max(end);
 
+    let staging = Staging::of(volume)?;
     let mut targets = vec![resized_entry(volume, file, new_size, time)];
     let old_extents = sound.extents_of(file);
     let mut new_extent = None;
     // A span is no longer than an extent and starts at the size or before, so one more extent is
     // enough.
     if geometry.extents_for(new_size) > old_extents.len() as u64 {
-        let lowest = sound.lowest_free_extent();
-        let extent = lowest.ok_or(Refusal::new(code::NO_ROOM))?;
+        let needed = geometry.reserve_extents() as usize + 1;
+        let free: Vec<Extent> = volume.free_extents().take(needed).collect();
+        if free.len() < needed {
+            return Err(Refusal::new(code::NO_ROOM));
+        }
+        let extent = free[0];
         let (sector, at) = geometry.table_place(extent);
         let mut contents = *volume.sector(sector);
         put16(&mut contents, at, file.0 as u16);
         put16(&mut contents, at + 2, old_extents.len() as u16);
         targets.push(Target { sector, contents });
-        new_extent = lowest;
+        new_extent = Some(extent);
     }
 
     let sector_bytes = SECTOR as u64;
@@ -219,7 +225,7 @@ fn write_span(
         contents[(from - sector_start) as usize..(to - sector_start) as usize]
             .copy_from_slice(new_bytes);
     }
-    writer.commit(volume, &targets);
+    writer.commit(volume, &staging, &targets);
     Ok(writer.filled())
 }
 
@@ -232,17 +238,18 @@ pub(crate) fn judge_time(sound: &SoundVolume, time: u64) -> Result<(), Refusal> 
     }
 }
 
-/// The list of a call without data sectors, or refusal 14.
+/// The list of a call without data sectors, or refusal 13 or 14.
 pub(crate) fn transaction(
     volume: Volume,
     targets: &[Target],
     list: &mut [u8],
 ) -> Result<u64, Refusal> {
+    let staging = Staging::of(volume)?;
     if list.len() < list_length(0, targets.len()) {
         return Err(Refusal::new(code::BUFFER_TOO_SHORT));
     }
     let mut writer = ListWriter::new(list);
-    writer.commit(volume, targets);
+    writer.commit(volume, &staging, targets);
     Ok(writer.filled())
 }
 

@@ -1,5 +1,5 @@
 //! The comparison of an image with the ledger: superblock, root, directory, table and the bytes of
-//! each file. The journal, free extents, the reserve and bytes past a file's end are not looked at.
+//! each file. The journal, free extents and bytes past a file's end are not looked at.
 
 use crate::layout::{
     get16, get32, get64, root, sector, superblock, Edition, Entry, Extent, FileIndex, Sector,

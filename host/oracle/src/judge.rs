@@ -99,14 +99,20 @@ impl<'i> Volume<'i> {
     }
 
     /// Every extent with its owner (or `NO_FILE`) and its offset in the file.
-    pub fn table(self) -> impl Iterator<Item = (Extent, u16, u16)> + 'i {
+    pub fn table(self) -> impl DoubleEndedIterator<Item = (Extent, u16, u16)> + 'i {
         let table = self.sectors(self.geometry.table_at(), self.geometry.table_sectors());
         // The padding of the last table sector belongs to no extent.
         let entries =
             table[..self.geometry.extents() as usize * TABLE_ENTRY].chunks_exact(TABLE_ENTRY);
         entries
-            .zip(0..)
-            .map(|(entry, extent)| (Extent(extent), get16(entry, 0), get16(entry, 2)))
+            .enumerate()
+            .map(|(extent, entry)| (Extent(extent as u64), get16(entry, 0), get16(entry, 2)))
+    }
+
+    /// The extents that belong to no file, in rising order.
+    pub fn free_extents(self) -> impl DoubleEndedIterator<Item = Extent> + 'i {
+        let free = self.table().filter(|(_, owner, _)| *owner == NO_FILE);
+        free.map(|(extent, _, _)| extent)
     }
 }
 
@@ -214,15 +220,6 @@ impl<'i> SoundVolume<'i> {
         let file = file.0 as usize;
         &self.extents.extents[self.extents.first[file]..self.extents.first[file + 1]]
     }
-
-    /// The lowest usable extent that belongs to no file.
-    pub fn lowest_free_extent(&self) -> Option<Extent> {
-        let usable = self.geometry().usable_extents() as usize;
-        let mut table = self.volume.table().take(usable);
-        table
-            .find(|(_, owner, _)| *owner == NO_FILE)
-            .map(|(extent, _, _)| extent)
-    }
 }
 
 /// Stands where no extent was put yet.
@@ -274,16 +271,15 @@ fn lowest_file<'i>(
     }
 }
 
-/// Counts the extents of each file; every owner is an occupied file and the reserve is free.
+/// Counts the extents of each file; every owner is an occupied file.
 fn judge_table(volume: Volume) -> Result<Vec<usize>, Refusal> {
     let mut counts = vec![0; volume.geometry.files() as usize];
     judge_owners(volume, |owner| counts[owner] += 1)?;
     Ok(counts)
 }
 
-/// Every owner is an occupied file, and the reserve is free. `met` is told each owner.
+/// Every owner is an occupied file. `met` is told each owner.
 pub(crate) fn judge_owners(volume: Volume, mut met: impl FnMut(usize)) -> Result<(), Refusal> {
-    let usable = volume.geometry.usable_extents();
     let occupied: Vec<bool> = volume
         .entries()
         .map(|(_, entry)| entry.is_occupied())
@@ -293,7 +289,7 @@ pub(crate) fn judge_owners(volume: Volume, mut met: impl FnMut(usize)) -> Result
             continue;
         }
         let owner = usize::from(owner);
-        if extent.0 >= usable || !occupied.get(owner).copied().unwrap_or(false) {
+        if !occupied.get(owner).copied().unwrap_or(false) {
             return Err(Refusal::not_sound(fault::TABLE_ENTRY, extent.0));
         }
         met(owner);

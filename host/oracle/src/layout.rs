@@ -202,20 +202,20 @@ impl Geometry {
         self.extents.div_ceil(TABLE_ENTRIES_IN_SECTOR)
     }
 
-    /// Extents at the end of the data area that stage copies and never belong to a file: enough for
-    /// the root, two directory entries and the whole table.
+    /// Extents that must stay free to stage copies in, anywhere: enough for the root, two directory
+    /// entries and the whole table.
     pub fn reserve_extents(&self) -> u64 {
         (self.table_sectors() + 3).div_ceil(self.extent_sectors)
     }
 
-    /// Extents that may belong to a file; they stand before the reserve.
+    /// How many extents the files of a volume can hold by our calls.
     pub fn usable_extents(&self) -> u64 {
         self.extents - self.reserve_extents()
     }
 
-    /// The largest size that a file may have.
+    /// The largest size that a file may have; another writer may have given it every extent.
     pub fn largest_size(&self) -> u64 {
-        self.usable_extents() * self.extent_bytes()
+        self.extents * self.extent_bytes()
     }
 
     /// How many extents a file of this size has.
@@ -243,6 +243,7 @@ impl Geometry {
         Sector(self.table_at().0 + self.table_sectors())
     }
 
+    /// Where staging begins on a volume that only our calls filled: in the last extents.
     pub fn reserve_at(&self) -> Sector {
         self.extent_at(Extent(self.usable_extents()))
     }

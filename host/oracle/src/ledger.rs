@@ -194,8 +194,11 @@ impl Ledger {
             Request::List { index, time } => Answer::List(match self.list(*index, *time, lent) {
                 Ok(file) => {
                     output = file.name.clone();
-                    change = Change::AccessRoot { time: *time };
-                    list_answer(file)
+                    let length = self.access_length();
+                    if length > 0 {
+                        change = Change::AccessRoot { time: *time };
+                    }
+                    list_answer(file, length)
                 }
                 Err(refusal) => refusal.into(),
             }),
@@ -207,10 +210,13 @@ impl Ledger {
             } => Answer::Read(match self.read(name, *offset, *count, *time, lent) {
                 Ok((slot, bytes)) => {
                     output = bytes.to_vec();
-                    change = Change::AccessFile { slot, time: *time };
+                    let length = self.access_length();
+                    if length > 0 {
+                        change = Change::AccessFile { slot, time: *time };
+                    }
                     ReadAnswer {
                         count: bytes.len() as u64,
-                        length: length_by_groups(0, 1) as u64,
+                        length: length as u64,
                         ..ReadAnswer::default()
                     }
                 }
@@ -254,6 +260,9 @@ impl Ledger {
             // The reading calls are expected elsewhere.
             _ => (0, Change::Nothing),
         };
+        if length > 0 {
+            self.room_for(0)?;
+        }
         if list_length < length {
             return Err(Refusal::new(code::BUFFER_TOO_SHORT));
         }
@@ -284,7 +293,7 @@ impl Ledger {
         let file = self.slots[index as usize]
             .as_ref()
             .ok_or(Refusal::new(code::NOT_THERE))?;
-        if lent.output < file.name.len() || lent.list < length_by_groups(0, 1) {
+        if lent.output < file.name.len() || lent.list < self.access_length() {
             return Err(Refusal::new(code::BUFFER_TOO_SHORT));
         }
         Ok(file)
@@ -307,7 +316,7 @@ impl Ledger {
         }
         let rest = &file.bytes[offset as usize..];
         let given = &rest[..rest.len().min(count as usize)];
-        if lent.output < given.len() || lent.list < length_by_groups(0, 1) {
+        if lent.output < given.len() || lent.list < self.access_length() {
             return Err(Refusal::new(code::BUFFER_TOO_SHORT));
         }
         Ok((slot, given))
@@ -431,11 +440,8 @@ impl Ledger {
         let end = offset + data.len();
         let new_size = end.max(file.bytes.len());
         let extent = if self.extents_of_size(new_size as u64) > file.extents.len() {
-            Some(
-                self.free_extents()
-                    .next()
-                    .ok_or(Refusal::new(code::NO_ROOM))?,
-            )
+            self.room_for(1)?;
+            self.free_extents().next()
         } else {
             None
         };
@@ -475,9 +481,25 @@ impl Ledger {
         size.div_ceil(self.geometry.extent_bytes()) as usize
     }
 
-    /// The usable extents that no slot has, in rising order.
+    /// Refusal 13 if fewer than K extents would stay free after so many are taken.
+    fn room_for(&self, taken: u64) -> Result<(), Refusal> {
+        if (self.free_extents().count() as u64) < self.geometry.reserve_extents() + taken {
+            return Err(Refusal::new(code::NO_ROOM));
+        }
+        Ok(())
+    }
+
+    /// The list of a read or a list, which is empty where copies have no room.
+    fn access_length(&self) -> usize {
+        match self.room_for(0) {
+            Ok(()) => length_by_groups(0, 1),
+            Err(_) => 0,
+        }
+    }
+
+    /// The extents that no slot has, in rising order.
     pub fn free_extents(&self) -> impl Iterator<Item = Extent> {
-        let mut taken = vec![false; self.geometry.usable_extents() as usize];
+        let mut taken = vec![false; self.geometry.extents() as usize];
         for (_, file) in self.files() {
             for extent in &file.extents {
                 taken[extent.0 as usize] = true;
@@ -614,9 +636,9 @@ fn find_answer(slot: usize, file: &File) -> FindAnswer {
     }
 }
 
-fn list_answer(file: &File) -> ListAnswer {
+fn list_answer(file: &File, length: usize) -> ListAnswer {
     ListAnswer {
-        length: length_by_groups(0, 1) as u64,
+        length: length as u64,
         size: file.bytes.len() as u64,
         version: u64::from(file.version),
         id: file.id,

@@ -13,6 +13,7 @@
 //! - `recovery`: finishing a transaction that a power cut interrupted, at once or in slices;
 //! - `format`: the geometry for a sector count, and the format's records;
 //! - `lists`: write lists and carrying them out;
+//! - `staging`: where a list's copies stand;
 //! - `report`: the text of the small program that describes a superblock.
 //!
 //! What a run of calls must answer is told a second time, without image and list, by `ledger`,
@@ -39,6 +40,7 @@ pub mod repair;
 pub mod report;
 pub mod request;
 pub mod sorted_check;
+pub mod staging;
 pub mod testing;
 
 pub use calls::{check, find, list, read, summary};

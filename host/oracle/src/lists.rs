@@ -4,9 +4,9 @@
 use crate::answers::code;
 use crate::judge::Volume;
 use crate::layout::{
-    get64, put16, put64, superblock, Geometry, Sector, JOURNAL_ENTRIES_IN_SECTOR, JOURNAL_ENTRY,
-    SECTOR,
+    get64, put16, put64, superblock, Sector, JOURNAL_ENTRIES_IN_SECTOR, JOURNAL_ENTRY, SECTOR,
 };
+use crate::staging::Staging;
 
 /// Bytes of a record: its position in the list, counted from 0, the sector number, the contents.
 pub const RECORD: usize = CONTENTS + SECTOR;
@@ -90,16 +90,16 @@ impl<'l> ListWriter<'l> {
 
     /// Ends group A with the copies and the journal, then groups B, C and D. The targets stand in
     /// rising order.
-    pub fn commit(&mut self, volume: Volume, targets: &[Target]) {
+    pub fn commit(&mut self, volume: Volume, staging: &Staging, targets: &[Target]) {
         let geometry = volume.geometry();
         for (k, target) in targets.iter().enumerate() {
-            self.record(staging_sector(geometry, k), &target.contents);
+            self.record(staging.sector(k), &target.contents);
         }
         for (j, in_sector) in targets.chunks(JOURNAL_ENTRIES_IN_SECTOR).enumerate() {
             let contents = self.add(Sector(geometry.journal_at().0 + j as u64));
             contents.fill(0);
             for (i, target) in in_sector.iter().enumerate() {
-                let copy = staging_sector(geometry, j * JOURNAL_ENTRIES_IN_SECTOR + i);
+                let copy = staging.sector(j * JOURNAL_ENTRIES_IN_SECTOR + i);
                 put64(contents, i * JOURNAL_ENTRY, copy.0);
                 put64(contents, i * JOURNAL_ENTRY + 8, target.sector.0);
             }
@@ -112,11 +112,6 @@ impl<'l> ListWriter<'l> {
         self.barrier();
         self.superblock(volume, 0);
     }
-}
-
-/// Where the copy of the k-th target is staged.
-fn staging_sector(geometry: Geometry, k: usize) -> Sector {
-    Sector(geometry.reserve_at().0 + k as u64)
 }
 
 /// Does all the writes of a list in their order, or none: 1 for the image, 8 for the list.

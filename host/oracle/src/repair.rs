@@ -3,7 +3,7 @@
 
 use std::collections::HashSet;
 
-use crate::answers::{code, fault, Refusal, RepairAnswer};
+use crate::answers::{code, Refusal, RepairAnswer};
 use crate::changes::{freed_table, transaction};
 use crate::judge::{judge, open_clean, Volume};
 use crate::layout::{Extent, Sector, NO_FILE, SECTOR};
@@ -20,11 +20,6 @@ pub fn repair(image: &[u8], list: &mut [u8]) -> RepairAnswer {
 
 fn repair_volume(image: &[u8], list: &mut [u8]) -> Result<RepairAnswer, Refusal> {
     let volume = open_clean(image)?;
-    let usable = volume.geometry().usable_extents();
-    let mut reserve = volume.table().skip(usable as usize);
-    if let Some((extent, _, _)) = reserve.find(|(_, owner, _)| *owner != NO_FILE) {
-        return Err(Refusal::not_sound(fault::TABLE_ENTRY, extent.0));
-    }
     let freed = surplus_extents(volume);
     let targets = freed_table(volume, &freed);
     let length = if targets.is_empty() {

@@ -93,14 +93,13 @@ slice-read-if3 c =
 
 returns-3 : tie.Need-returns-3
 returns-3 c =
-    let s = c .before .before .before .before .before .before .before .before .before .before .before .before in
+    let s = c .before .before .before .before .before .before .before .before .before .before .before in
     let a = s .args in
     let d = view (a .img .now) in
-    let f = c .before .before .before .before .before .before .before .before .table-file in
-    let o = c .before .before .before .before .before .table-offset in
-    let l = c .before .before .before .before .before .before .before .if1 .left in (
-      fault-met d (a .g) (s .pre .0 .is) (a .e .0) (f .result) (a .m) (o .result) (a .u) (a .starts .now) (s .pre .1 .0 .1) (f .ensures .0) (omega arith) (s .pre .1 .0 .0) (s .pre .1 .1 .0) l
-          (omega arith),
+    let f = c .before .before .before .before .before .before .before .table-file in
+    let o = c .before .before .before .before .table-offset in
+    let l = c .before .before .before .before .before .before .if1 .left in (
+      fault-met d (a .g) (s .pre .0 .is) (a .e .0) (f .result) (a .m) (o .result) (a .starts .now) (s .pre .1 .0) (f .ensures .0) (omega arith) (s .pre .1 .1 .0) l (omega arith),
       (
         again (a .g) d (a .e .0) (a .m) (a .seen .now) (s .pre .1 .1 .1) (f .result) (f .ensures .0) (o .result) (o .ensures .0) (a .starts .now) (s .pre .1 .1 .0) l (omega arith) (omega arith),
         omega arith,
@@ -121,17 +120,16 @@ same-length c = search needs
 
 returns-4 : tie.Need-returns-4
 returns-4 c =
-    let s = c .before .before .before .before .before .before .before .before .before .before .before .before in
+    let s = c .before .before .before .before .before .before .before .before .before .before .before in
     let a = s .args in
     let d = view (a .img .now) in
-    let f = c .before .before .before .before .before .before .before .before .table-file in
-    let o = c .before .before .before .before .before .table-offset in
-    let l = c .before .before .before .before .before .before .before .if1 .left in (
-      fault-met d (a .g) (s .pre .0 .is) (a .e .0) (f .result) (a .m) (o .result) (a .u) (a .starts .now) (s .pre .1 .0 .1) (f .ensures .0) (omega arith) (s .pre .1 .0 .0) (s .pre .1 .1 .0) l
-          (omega arith),
+    let f = c .before .before .before .before .before .before .before .table-file in
+    let o = c .before .before .before .before .table-offset in
+    let l = c .before .before .before .before .before .before .if1 .left in (
+      fault-met d (a .g) (s .pre .0 .is) (a .e .0) (f .result) (a .m) (o .result) (a .starts .now) (s .pre .1 .0) (f .ensures .0) (omega arith) (s .pre .1 .1 .0) l (omega arith),
       (
         new (a .g) d (a .e .0) (a .m) (a .seen .now) (s .pre .1 .1 .1) (f .result) (f .ensures .0) (o .result) (o .ensures .0) (a .starts .now) (s .pre .1 .1 .0) l (omega arith)
-            (c .before .if3 .left),
+            (c .if3 .left),
         omega arith,
       ),
     )

@@ -116,18 +116,17 @@ slice-read-if3 c =
 
 returns-3 : tie.Need-returns-3
 returns-3 c =
-    let s = c .before .before .before .before .before .before .before .before .before .before .before in
+    let s = c .before .before .before .before .before .before .before .before .before .before in
     let a = s .args in
     let d = view (a .img .now) in
-    let f = c .before .before .before .before .before .before .before .before .table-file in
-    let o = c .before .before .before .before .before .table-offset in
-    let l = c .before .before .before .before .before .before .before .if1 .left in
+    let f = c .before .before .before .before .before .before .before .table-file in
+    let o = c .before .before .before .before .table-offset in
+    let l = c .before .before .before .before .before .before .if1 .left in
     let q = getD (a .s .now) (f .result) 0 + o .result in (
-      fault-met d (a .g) (s .pre .0 .is) (a .e .0) (f .result) (a .m) (o .result) (a .u) (a .s .now) (s .pre .1 .0 .1) (f .ensures .0) (omega arith) (s .pre .1 .0 .0) (s .pre .1 .1 .0) l
-          (omega arith),
+      fault-met d (a .g) (s .pre .0 .is) (a .e .0) (f .result) (a .m) (o .result) (a .s .now) (s .pre .1 .0 .0) (f .ensures .0) (omega arith) (s .pre .1 .1 .0) l (omega arith),
       (
         again (a .g) d (a .e .0) (a .m) (drop (a .at) (a .s .now)) (s .pre .1 .1 .1) (f .result) (f .ensures .0) (o .result) (o .ensures .0) (a .s .now) (s .pre .1 .1 .0) l (omega arith)
-            (rw (getD-drop (a .at) (a .s .now) q 0) (c .before .if3 .taken)),
+            (rw (getD-drop (a .at) (a .s .now) q 0) (c .if3 .taken)),
         (s .pre .1 .1 .0, omega arith),
       ),
     )
@@ -164,19 +163,18 @@ same-length c = search needs
 
 returns-4 : tie.Need-returns-4
 returns-4 c =
-    let s = c .before .before .before .before .before .before .before .before .before .before .before in
+    let s = c .before .before .before .before .before .before .before .before .before .before in
     let a = s .args in
     let d = view (a .img .now) in
-    let f = c .before .before .before .before .before .before .before .before .table-file in
-    let o = c .before .before .before .before .before .table-offset in
-    let l = c .before .before .before .before .before .before .before .if1 .left in
+    let f = c .before .before .before .before .before .before .before .table-file in
+    let o = c .before .before .before .before .table-offset in
+    let l = c .before .before .before .before .before .before .if1 .left in
     let q = getD (a .s .now) (f .result) 0 + o .result in (
-      fault-met d (a .g) (s .pre .0 .is) (a .e .0) (f .result) (a .m) (o .result) (a .u) (a .s .now) (s .pre .1 .0 .1) (f .ensures .0) (omega arith) (s .pre .1 .0 .0) (s .pre .1 .1 .0) l
-          (omega arith),
+      fault-met d (a .g) (s .pre .0 .is) (a .e .0) (f .result) (a .m) (o .result) (a .s .now) (s .pre .1 .0 .0) (f .ensures .0) (omega arith) (s .pre .1 .1 .0) l (omega arith),
       (
         rw (drop-set-add (a .at) (a .s .now) q 1)
             (new (a .g) d (a .e .0) (a .m) (drop (a .at) (a .s .now)) (s .pre .1 .1 .1) (f .result) (f .ensures .0) (o .result) (o .ensures .0) (a .s .now) (s .pre .1 .1 .0) l (omega arith)
-            (rw (getD-drop (a .at) (a .s .now) q 0) (c .before .if3 .left))),
+            (rw (getD-drop (a .at) (a .s .now) q 0) (c .if3 .left))),
         (starts-kept (a .g) d (a .m) (a .at + q) 1 (a .s .now) (s .pre .1 .1 .0) (omega arith), omega arith),
       ),
     )

@@ -22,24 +22,21 @@ abbrev hit : List ℕ → ℕ → Bool
 hit img = fault25 (catalogueOf (view img))
 
 abbrev Inv-loop : tie.InvT-loop
-Inv-loop img g from to at f s₀ u m₀ e₀ s m e =
+Inv-loop img g from to at f s₀ m₀ e₀ s m e =
     (m ≤ f) × (length s ≡ length s₀) × Marks g (view img) e m (drop at s) × (e ≤ to) × (scan (hit img) (to - e) e ≡ scan (hit img) (to - from) from)
     × Starts g (view img) m s
 
 abbrev μ-loop : tie.MeasureT-loop
-μ-loop img g from to at f s₀ u m₀ e₀ s m e = to - e
-
-usable-requires : tie.Need-usable-requires Inv-loop μ-loop
-usable-requires c κs = search needs
+μ-loop img g from to at f s₀ m₀ e₀ s m e = to - e
 
 loop-holds : tie.Need-loop-holds Inv-loop μ-loop
-loop-holds c = let s = c .before .before .before in (omega arith, refl, s .pre .1 .1 .1, omega arith, refl, s .pre .1 .1 .0)
+loop-holds c = let s = c .before .before in (omega arith, refl, s .pre .1 .1 .1, omega arith, refl, s .pre .1 .1 .0)
 
 mark-in-requires : tie.Need-mark-in-requires Inv-loop μ-loop
 mark-in-requires c κs =
     let l = c .before .before .loop in
-    let s = c .before .before .before .before .before .before in
-    (s .pre .0, ((c .before .before .before .usable .ensures, omega arith, s .pre .1 .0 .2), (l .inv .5, l .inv .2)))
+    let s = c .before .before .before .before .before in
+    (s .pre .0, ((omega arith, s .pre .1 .0 .2), (l .inv .5, l .inv .2)))
 
 same-length : tie.Need-same-length Inv-loop μ-loop
 same-length c = search needs
@@ -47,7 +44,7 @@ same-length c = search needs
 returns : tie.Need-returns Inv-loop μ-loop
 returns c =
     let l = c .before .before .before .before .before .before .loop in
-    let a = c .before .before .before .before .before .before .before .before .before .before .args in (
+    let a = c .before .before .before .before .before .before .before .before .before .args in (
       record {
         found = sym (scan-here (hit (a .img .now)) (a .to) (l .e) (omega arith) (sym (c .before .before .before .mark-in .ensures .0) ∙ c .if1 .taken)) ∙ l .inv .4;
         marks = λ q. absurd (at-nowhere q);
@@ -65,10 +62,10 @@ loop-less c = search needs
 loop-again : tie.Need-loop-again Inv-loop μ-loop
 loop-again c =
     let l = c .before .before .before .before .before .before .loop in
-    let a = c .before .before .before .before .before .before .before .before .before .before .args in
+    let a = c .before .before .before .before .before .before .before .before .before .args in
     let m = c .before .before .before .mark-in in (
       omega (arith, m .ensures .1 .1 .1),
-      m .kept .1 .1 .1 .1 .1 .1 .0 ∙ l .inv .1,
+      m .kept .1 .1 .1 .1 .1 .0 ∙ l .inv .1,
       m .ensures .1 .0,
       omega arith,
       sym (scan-next (hit (a .img .now)) (a .to) (l .e) (omega arith) (sym (m .ensures .0) ∙ c .if1 .left)) ∙ l .inv .4,
@@ -81,7 +78,7 @@ same-length-2 c = search needs
 returns-2 : tie.Need-returns-2 Inv-loop μ-loop
 returns-2 c =
     let l = c .before .loop in
-    let a = c .before .before .before .before .before .args in
+    let a = c .before .before .before .before .args in
     let e : l .e ≡ a .to = omega arith in (
       record {
         found = sym (scan-end (hit (a .img .now)) (a .to) (l .e) (omega arith)) ∙ l .inv .4;
@@ -97,7 +94,6 @@ pass-in-spec =
     (tie.spec
     Inv-loop
     μ-loop
-    usable-requires
     loop-holds
     mark-in-requires
     same-length

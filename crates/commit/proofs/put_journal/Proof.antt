@@ -14,10 +14,10 @@ use Rattle.commit.proofs.put_journal.Statement.{statement}
 use Rattle.commit.proofs.put_journal.Tie as tie
 
 abbrev Inv-loop : tie.InvT-loop
-Inv-loop list₀ k g numbers n at m j₀ list j = (j ≤ m) × Emitted list₀ k (tabulate (journalRecord g numbers n) 0 j) list (k + j) × (length list ≡ length list₀)
+Inv-loop list₀ k g stages numbers n at m j₀ list j = (j ≤ m) × Emitted list₀ k (tabulate (journalRecord g stages numbers n) 0 j) list (k + j) × (length list ≡ length list₀)
 
 abbrev μ-loop : tie.MeasureT-loop
-μ-loop list₀ k g numbers n at m j₀ list j = m - j
+μ-loop list₀ k g stages numbers n at m j₀ list j = m - j
 
 journal-at-requires : tie.Need-journal-at-requires Inv-loop μ-loop
 journal-at-requires c κs = search needs
@@ -30,13 +30,13 @@ unfolding tabulate
 loop-holds c = (omega arith, rw add-zero (emitted-none _ _), refl)
 
 journal-sector-requires : tie.Need-journal-sector-requires Inv-loop μ-loop
-journal-sector-requires c κs = search needs
+journal-sector-requires c κs = (c .before .before .before .before .before .before .pre .0, search needs)
 
 add-put-sector : tie.Need-add-put-sector Inv-loop μ-loop
 add-put-sector c = search needs
 
-add-t17 : tie.Need-add-t17 Inv-loop μ-loop
-add-t17 c = search needs
+add-t18 : tie.Need-add-t18 Inv-loop μ-loop
+add-t18 c = search needs
 
 put-sector-requires : tie.Need-put-sector-requires Inv-loop μ-loop
 put-sector-requires c κs = search needs
@@ -50,9 +50,9 @@ loop-less c = search needs
 loop-again : tie.Need-loop-again Inv-loop μ-loop
 loop-again c =
     let b = c .before .before .before .before .before .before .before in
-    let a = b .before .before .before .before .args in (
+    let a = b .before .before .before .before .before .args in (
       search needs,
-      emitted-more {r = c .before .before .put-sector .result} (journalRecord (a .g) (a .numbers .now) (a .n)) (b .loop .inv .1)
+      emitted-more {r = c .before .before .put-sector .result} (journalRecord (a .g) (a .stages .now) (a .numbers .now) (a .n)) (b .loop .inv .1)
           (rw (← b .before .journal-at .ensures, ← c .before .before .before .before .before .journal-sector .ensures) (c .before .before .put-sector .ensures)),
       search needs,
     )
@@ -65,7 +65,7 @@ same-length c = search needs
 
 returns : tie.Need-returns Inv-loop μ-loop
 returns c =
-    let a = c .before .before .before .before .before .args in
+    let a = c .before .before .before .before .before .before .args in
     let e : c .before .loop .j ≡ (a .n + 31) / 32 = omega arith in
     (rw (journal-staged, ← e) (c .before .loop .inv .1), refl)
 
@@ -80,7 +80,7 @@ put-journal-spec =
     loop-holds
     journal-sector-requires
     add-put-sector
-    add-t17
+    add-t18
     put-sector-requires
     add-j
     loop-less

@@ -14,13 +14,14 @@ slice-aggregate-put-copy : tie.Need-slice-aggregate-put-copy
 slice-aggregate-put-copy c = search needs
 
 put-copy-requires : tie.Need-put-copy-requires
-put-copy-requires c κs = search needs
+put-copy-requires c κs = (c .before .before .before .before .before .pre .0 .inside, search needs)
 
 slice-aggregate-put-commit : tie.Need-slice-aggregate-put-commit
 slice-aggregate-put-commit c = search needs
 
 put-commit-requires : tie.Need-put-commit-requires
-put-commit-requires c κs = search needs
+put-commit-requires c κs =
+    (c .before .before .before .before .before .before .before .before .before .before .before .pre .0 .inside, search needs)
 
 same-length : tie.Need-same-length
 same-length c = search needs
@@ -29,10 +30,10 @@ returns : tie.Need-returns
 returns c =
     let m = c .before .before in
     let p = m .before .before .before .before .before .before in
-    let s = p .before .before .before .before .before in
+    let s = p .before .before .before .before .before .before in
     let a = s .args in
     let one = staged-more (a .target .0) (staged-none {numbers = replicate 1 0} (emitted-none (a .list .now) 0)) refl (omega arith) (p .put-copy .ensures .0) (p .put-copy .ensures .1) in
-    committed-for (view (a .img .now)) (oneTarget (a .target .0) (a .s)) (s .pre .1 .is) one refl (omega arith) (m .put-commit .ensures .0)
+    committed-for (view (a .img .now)) (oneTarget (a .target .0) (a .s)) (s .pre .1 .1 .is) (s .pre .0) one refl (omega arith) (m .put-commit .ensures .0)
 
 pub put-one-target-spec : {M : Type 1} → statement M
 put-one-target-spec =

@@ -22,12 +22,12 @@ index-of-requires c κs = search needs
 
 sector-requires : tie.Need-sector-requires
 sector-requires c κs =
-    let s = c .before .before .before .before .before .before .before in
-    let h : c .index-of .result ≤ s .args .g .files = rw (c .index-of .ensures, c .before .free-entry .ensures, s .pre .1 .0 .is) (free-below _) in
+    let s = c .before .before .before .before .before .before .before .before in
+    let h : c .index-of .result ≤ s .args .g .files = rw (c .index-of .ensures, c .before .free-entry .ensures, s .pre .1 .1 .0 .is) (free-below _) in
     omega arith
 
 put-pair-requires : tie.Need-put-pair-requires
-put-pair-requires c κs = search needs
+put-pair-requires c κs = let s = c .before .before .before .before .before .before .before .before .before .before in (s .pre .0, (s .pre .1 .0, s .pre .1 .1 .0))
 
 same-length : tie.Need-same-length
 same-length c = search needs
@@ -37,12 +37,12 @@ unfolding createPlan
 returns c =
     let s = c .before .before .before .before in
     let n = s .before .before .before in
-    let a = n .before .before .before .before .before in
+    let a = n .before .before .before .before .before .before in
     rw (
       ← s .before .before .free-entry .ensures,
       ← s .before .index-of .ensures,
       ← s .sector .ensures,
-      edition-is (a .args .img .now) (a .args .g) (a .pre .1 .0 .is),
+      edition-is (a .args .img .now) (a .args .g) (a .pre .1 .1 .0 .is),
       ← n .before .updated-root .ensures,
       ← n .new .ensures,
     )

@@ -1,5 +1,4 @@
 -- `delete::delete_in` meets its contract.
-use Prim.Native.Nat.{_*_}
 use mathlib.Core.Path.{sym, ap, _∙_}
 use native.Mathlib.Omega.{arith}
 use Rattle.model.specs.declared.Geometry.{Geometry}
@@ -8,8 +7,7 @@ use Rattle.laws.proofs.Refusals.{image-length}
 use Rattle.laws.proofs.Judged.{judged-image, judged-opened}
 use Rattle.laws.proofs.Named.{named-at}
 use Rattle.commit.proofs.Decided.{named-short}
-use Rattle.delete.proofs.Decisions.{delete-bad, delete-missing, delete-short, delete-done}
-use Rattle.model.specs.WriteList.{recordSize}
+use Rattle.delete.proofs.Decisions.{delete-bad, delete-missing, delete-found}
 use borrow.Author.Needs.{needs}
 use Rattle.delete.proofs.delete_in.Statement.{statement}
 use Rattle.delete.proofs.delete_in.Tie as tie
@@ -45,84 +43,47 @@ file-named-requires c κs =
 enum-known-i : tie.Need-enum-known-i
 enum-known-i c = search needs
 
-delete-count-requires : tie.Need-delete-count-requires
-delete-count-requires c κs =
-    let f = c .before .before .before in
+delete-file-requires : tie.Need-delete-file-requires
+delete-file-requires c κs =
+    let f = c .before .before .before .before in
     let s = f .before .before .before .before .before .before .before in
     let a = s .args in
     let o = judged-opened _ _ (f .before .before .before .geometry-in .ensures) (omega (arith, f .before .before .before .geometry-in .ok)) (s .pre) in
-    let found = sym (f .file-named .ensures) ∙ c .before .i .given .1 in
-    let low = named-at (view (a .img .now)) (a .name .now) (c .before .i .given .0 .0) (sym found) in
+    let found = sym (f .file-named .ensures) ∙ c .before .before .i .given .1 in
+    let low = named-at (view (a .img .now)) (a .name .now) (c .before .before .i .given .0 .0) (sym found) in
     let e = ap (λ (x : Geometry). x .files) (o .is) in
     (o, omega arith)
-
-mul-needed : tie.Need-mul-needed
-mul-needed c = search needs
-
-put-delete-requires : tie.Need-put-delete-requires
-put-delete-requires c κs =
-    let k = c .before .before in
-    let f = k .before .before .before .before in
-    let s = f .before .before .before .before .before .before .before in
-    let a = s .args in
-    let o = judged-opened _ _ (f .before .before .before .geometry-in .ensures) (omega (arith, f .before .before .before .geometry-in .ok)) (s .pre) in
-    let found = sym (f .file-named .ensures) ∙ k .before .before .i .given .1 in
-    let low = named-at (view (a .img .now)) (a .name .now) (k .before .before .i .given .0 .0) (sym found) in
-    let e = ap (λ (x : Geometry). x .files) (o .is) in
-    (o, (omega arith, omega (arith, k .delete-count .ensures .0)))
-
-refusal-requires-2 : tie.Need-refusal-requires-2
-refusal-requires-2 c κs = search needs
 
 same-length : tie.Need-same-length
 same-length c = search needs
 
 returns-2 : tie.Need-returns-2
 returns-2 c =
-    let k = c .before .before .before .before .before .before in
-    let f = k .before .before .before .before in
+    let k = c .before .before in
+    let f = k .before .before .before .before .before in
     let s = f .before .before .before .before .before .before .before in
     let a = s .args in
     let good = rw (f .before .before .before .geometry-in .ensures) at (sym (f .before .before .bad-name-or-time .ensures) ∙ f .before .if1 .left) in
-    let found = sym (f .file-named .ensures) ∙ k .before .before .i .given .1 in
-    rw (c .refusal2 .ensures)
-    (delete-done (a .img .now) (a .list .now) (a .name .now) (a .time) (s .pre) (k .before .before .i .given .0 .0) good found (recordSize * k .delete-count .result)
-    (omega (arith, k .delete-count .ensures .0)) (omega arith) (c .before .before .before .put-delete .ensures))
+    let found = sym (f .file-named .ensures) ∙ k .before .before .before .i .given .1 in
+    delete-found (a .img .now) (a .list .now) (a .name .now) (a .time) (s .pre) (k .before .before .before .i .given .0 .0) good found (k .delete-file .ensures)
 
-refusal-requires-3 : tie.Need-refusal-requires-3
-refusal-requires-3 c κs = search needs
+enum-told : tie.Need-enum-told
+enum-told c = search needs
+
+refusal-requires-2 : tie.Need-refusal-requires-2
+refusal-requires-2 c κs = search needs
 
 refused-requires-2 : tie.Need-refused-requires-2
 refused-requires-2 c κs = search needs
 
 returns-3 : tie.Need-returns-3
 returns-3 c =
-    let k = c .before .before .before in
-    let f = k .before .before .before .before in
-    let s = f .before .before .before .before .before .before .before in
-    let a = s .args in
-    let good = rw (f .before .before .before .geometry-in .ensures) at (sym (f .before .before .bad-name-or-time .ensures) ∙ f .before .if1 .left) in
-    let found = sym (f .file-named .ensures) ∙ k .before .before .i .given .1 in
-    rw (c .refused2 .ensures, c .before .refusal3 .ensures)
-    (delete-short (a .img .now) (a .list .now) (a .name .now) (a .time) (s .pre) (k .before .before .i .given .0 .0) good found (omega (arith, k .delete-count .ensures .0)))
-
-enum-told : tie.Need-enum-told
-enum-told c = search needs
-
-refusal-requires-4 : tie.Need-refusal-requires-4
-refusal-requires-4 c κs = search needs
-
-refused-requires-3 : tie.Need-refused-requires-3
-refused-requires-3 c κs = search needs
-
-returns-4 : tie.Need-returns-4
-returns-4 c =
     let f = c .before .before .before .before in
     let s = f .before .before .before .before .before .before .before in
     let a = s .args in
     let good = rw (f .before .before .before .geometry-in .ensures) at (sym (f .before .before .bad-name-or-time .ensures) ∙ f .before .if1 .left) in
     let none = sym (f .file-named .ensures) ∙ c .before .before .enum-told .given .1 in
-    rw (c .refused3 .ensures, c .before .refusal4 .ensures) (delete-missing (a .img .now) (a .list .now) (a .name .now) (a .time) (s .pre) good none)
+    rw (c .refused2 .ensures, c .before .refusal2 .ensures) (delete-missing (a .img .now) (a .list .now) (a .name .now) (a .time) (s .pre) good none)
 
 pub delete-in-spec : {M : Type 1} → statement M
 delete-in-spec =
@@ -135,16 +96,10 @@ delete-in-spec =
     returns
     file-named-requires
     enum-known-i
-    delete-count-requires
-    mul-needed
-    put-delete-requires
-    refusal-requires-2
+    delete-file-requires
     same-length
     returns-2
-    refusal-requires-3
-    refused-requires-2
-    returns-3
     enum-told
-    refusal-requires-4
-    refused-requires-3
-    returns-4)
+    refusal-requires-2
+    refused-requires-2
+    returns-3)

@@ -20,7 +20,7 @@ slice-aggregate-put-copy : tie.Need-slice-aggregate-put-copy
 slice-aggregate-put-copy c = search needs
 
 put-copy-requires : tie.Need-put-copy-requires
-put-copy-requires c κs = search needs
+put-copy-requires c κs = (c .before .before .before .before .before .before .pre .0 .inside, search needs)
 
 slice-aggregate-put-copy-2 : tie.Need-slice-aggregate-put-copy-2
 slice-aggregate-put-copy-2 c = search needs
@@ -29,7 +29,7 @@ sector-requires : tie.Need-sector-requires
 sector-requires c κs = search needs
 
 put-copy-requires-2 : tie.Need-put-copy-requires-2
-put-copy-requires-2 c κs = search needs
+put-copy-requires-2 c κs = (c .before .before .before .before .before .before .before .before .before .before .before .before .before .pre .0 .inside, search needs)
 
 slice-aggregate-put-freed : tie.Need-slice-aggregate-put-freed
 slice-aggregate-put-freed c = search needs
@@ -38,10 +38,10 @@ put-freed-requires : tie.Need-put-freed-requires
 put-freed-requires c κs =
     let q = c .before .before .before .before .before in
     let p = q .before .before .before .before .before .before .before in
-    let s = p .before .before .before .before .before .before in
+    let s = p .before .before .before .before .before .before .before in
     let first = p .put-copy .ensures .0 .next in
     let second = q .put-copy2 .ensures .0 .next in
-    (s .pre .0, (omega arith, (omega (arith, first, second), omega (arith, first, second))))
+    (s .pre .0 .inside, (s .pre .1 .0, (omega arith, (omega (arith, first, second), (omega (arith, first, second), omega (arith, first, second))))))
 
 slice-aggregate-put-commit : tie.Need-slice-aggregate-put-commit
 slice-aggregate-put-commit c = search needs
@@ -51,12 +51,15 @@ put-commit-requires c κs =
     let f = c .before .before .before .before .before in
     let q = f .before .before .before .before .before .before in
     let p = q .before .before .before .before .before .before .before in
-    let s = p .before .before .before .before .before .before in
+    let s = p .before .before .before .before .before .before .before in
     let first = p .put-copy .ensures .0 .next in
     let second = q .put-copy2 .ensures .0 .next in
     let all = f .put-freed .ensures .1 in (
-      omega (arith, first, second, all .0),
-      (omega arith, (s .pre .0 .bounded, (omega (arith, first, second, all .1), omega (arith, first, second, all .1), omega arith))),
+      s .pre .0 .inside,
+      (
+        omega (arith, first, second, all .0),
+        (omega arith, (s .pre .1 .0 .bounded, (omega (arith, first, second, all .1), omega (arith, first, second, all .1), omega arith))),
+      ),
     )
 
 same-length : tie.Need-same-length
@@ -69,7 +72,7 @@ returns c =
     let f = m .before .before .before .before .before .before in
     let q = f .before .before .before .before .before .before in
     let p = q .before .before .before .before .before .before .before in
-    let s = p .before .before .before .before .before .before in
+    let s = p .before .before .before .before .before .before .before in
     let a = s .args in
     let d = view (a .img .now) in
     let root = added-copy {numbers = replicate 1024 0} (p .put-copy .ensures .0) (p .put-copy .ensures .1) (omega arith) in
@@ -77,8 +80,8 @@ returns c =
     let entry = added-copy {numbers = left (p .put-copy .ensures .1)} {k = p .put-copy .result} {s = q .before .sector .result .0} (q .put-copy2 .ensures .0) (q .put-copy2 .ensures .1)
     (omega (arith, many, p .put-copy .ensures .0 .next)) in
     let staged = added-then {numbers = replicate 1024 0} (added-then {numbers = replicate 1024 0} root entry) (f .put-freed .ensures .0) in
-    added-committed d (deletePlan (catalogueOf d) d (a .i .0) (a .time)) staged (m .put-commit .ensures .0) (s .pre .0 .is)
-    (rw (q .before .sector .ensures, p .before .before .before .updated-root .ensures) (sym (delete-targets d (a .g) (s .pre .0 .is) (a .i .0) (a .time))))
+    added-committed d (deletePlan (catalogueOf d) d (a .i .0) (a .time)) staged (m .put-commit .ensures .0) (s .pre .1 .0 .is) (s .pre .0)
+    (rw (q .before .sector .ensures, p .before .before .before .updated-root .ensures) (sym (delete-targets d (a .g) (s .pre .1 .0 .is) (a .i .0) (a .time))))
     (delete-alone d (a .i .0) (a .time))
     (omega (arith, p .put-copy .ensures .0 .next, q .put-copy2 .ensures .0 .next, f .put-freed .ensures .1 .0))
 

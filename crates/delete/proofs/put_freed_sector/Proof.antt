@@ -19,7 +19,7 @@ table-sector-requires : tie.Need-table-sector-requires
 table-sector-requires c κs = search needs
 
 put-copy-requires : tie.Need-put-copy-requires
-put-copy-requires c κs = search needs
+put-copy-requires c κs = (c .before .before .before .before .before .before .before .before .before .before .pre .0, search needs)
 
 same-length : tie.Need-same-length
 same-length c = search needs
@@ -31,20 +31,20 @@ returns : tie.Need-returns
 returns c =
     let q = c .before .before .before .before in
     let f = c .before .before .before .before .before .before .before .before in
-    let s = c .before .before .before .before .before .before .before .before .before .before .before .before .before .before in
+    let s = c .before .before .before .before .before .before .before .before .before .before .before .before .before .before .before in
     let a = s .args in
     let held = sym (f .before .before .holds-from .ensures) ∙ f .before .if1 .taken in (
-      rw (freed-hit (view (a .img .now)) (a .g) (s .pre .0 .is) (a .i .0) (a .o) (a .t) held)
+      rw (freed-hit (view (a .img .now)) (a .g) (s .pre .1 .0 .is) (a .i .0) (a .o) (a .t) held)
           (added-copy {s = tableAt (a .g) + a .t} (rw (← f .freed .ensures) (q .put-copy .ensures .0)) (rw (← q .before .table-sector .ensures) (q .put-copy .ensures .1)) (omega arith)),
       (rw held (q .put-copy .ensures .0 .next), omega (arith, q .put-copy .ensures .0 .next)),
     )
 
 returns-2 : tie.Need-returns-2
 returns-2 c =
-    let s = c .before .before .before .before .before in
+    let s = c .before .before .before .before .before .before in
     let a = s .args in
     let none = sym (c .before .holds-from .ensures) ∙ c .if1 .left in (
-      rw (freed-miss (view (a .img .now)) (a .i .0) (a .o) (a .t) none) (added-none _ _ _ _),
+      rw (freed-miss (view (a .img .now)) (a .i .0) (a .o) (a .t) none) (added-none _ _ _ _ _),
       (rw none (omega arith), omega arith),
     )
 

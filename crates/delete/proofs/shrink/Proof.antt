@@ -20,7 +20,7 @@ sector-requires : tie.Need-sector-requires
 sector-requires c κs = search needs
 
 put-copy-requires : tie.Need-put-copy-requires
-put-copy-requires c κs = search needs
+put-copy-requires c κs = (c .before .before .before .before .before .before .before .pre .0 .inside, search needs)
 
 extents-for-requires : tie.Need-extents-for-requires
 extents-for-requires c κs = search needs
@@ -31,11 +31,12 @@ slice-aggregate-put-freed c = search needs
 put-freed-requires : tie.Need-put-freed-requires
 put-freed-requires c κs =
     let p = c .before .before .before .before .before .before in
-    let s = p .before .before .before .before .before .before .before in
+    let s = p .before .before .before .before .before .before .before .before in
     let a = s .args in
     let size = c .before .before .extents-for .ensures .0 in
     let same = ap (sectorsFrom (catalogueOf (view (a .img .now))) (a .i .0)) size in
-    (s .pre .0, (omega arith, (omega (arith, same, p .put-copy .ensures .0 .next), omega (arith, p .put-copy .ensures .0 .next))))
+    let first = p .put-copy .ensures .0 .next in
+    (s .pre .0 .inside, (s .pre .1 .0, (omega arith, (omega (arith, same, first), (omega (arith, first), omega (arith, first))))))
 
 slice-aggregate-put-commit : tie.Need-slice-aggregate-put-commit
 slice-aggregate-put-commit c = search needs
@@ -44,13 +45,13 @@ put-commit-requires : tie.Need-put-commit-requires
 put-commit-requires c κs =
     let f = c .before .before .before .before .before in
     let p = f .before .before .before .before .before .before .before in
-    let s = p .before .before .before .before .before .before .before in
+    let s = p .before .before .before .before .before .before .before .before in
     let a = s .args in
     let size = f .before .before .before .extents-for .ensures .0 in
     let same = ap (sectorsFrom (catalogueOf (view (a .img .now))) (a .i .0)) size in
     let first = p .put-copy .ensures .0 .next in
     let all = f .put-freed .ensures .1 in
-    (omega (arith, same, first, all .0), (omega arith, (s .pre .0 .bounded, (omega (arith, first, all .1), omega (arith, first, all .1), omega arith))))
+    (s .pre .0 .inside, (omega (arith, same, first, all .0), (omega arith, (s .pre .1 .0 .bounded, (omega (arith, first, all .1), omega (arith, first, all .1), omega arith)))))
 
 same-length : tie.Need-same-length
 same-length c = search needs
@@ -60,15 +61,15 @@ returns c =
     let m = c .before .before in
     let f = m .before .before .before .before .before .before in
     let p = f .before .before .before .before .before .before .before in
-    let s = p .before .before .before .before .before .before .before in
+    let s = p .before .before .before .before .before .before .before .before in
     let a = s .args in
     let d = view (a .img .now) in
     let z = a .size in
     let size = f .before .before .before .extents-for .ensures .0 in
     let same = ap (sectorsFrom (catalogueOf d) (a .i .0)) size in
     let staged = added-then {numbers = replicate 1024 0} (added-copy (p .put-copy .ensures .0) (p .put-copy .ensures .1) (omega arith)) (f .put-freed .ensures .0) in
-    added-committed d (shrinkPlan (catalogueOf d) d (a .i .0) z (a .time)) staged (m .put-commit .ensures .0) (s .pre .0 .is)
-    (rw (p .before .sector .ensures, p .before .before .before .before .updated-entry .ensures, size) (sym (shrink-targets d (a .g) (s .pre .0 .is) (a .i .0) z (a .time))))
+    added-committed d (shrinkPlan (catalogueOf d) d (a .i .0) z (a .time)) staged (m .put-commit .ensures .0) (s .pre .1 .0 .is) (s .pre .0)
+    (rw (p .before .sector .ensures, p .before .before .before .before .updated-entry .ensures, size) (sym (shrink-targets d (a .g) (s .pre .1 .0 .is) (a .i .0) z (a .time))))
     (shrink-alone d (a .i .0) z (a .time))
     (omega (arith, same, p .put-copy .ensures .0 .next, f .put-freed .ensures .1 .0))
 

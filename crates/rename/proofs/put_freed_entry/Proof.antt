@@ -11,7 +11,7 @@ sector-requires : tie.Need-sector-requires
 sector-requires c κs = search needs
 
 put-copy-requires : tie.Need-put-copy-requires
-put-copy-requires c κs = search needs
+put-copy-requires c κs = (c .before .before .before .before .before .before .pre .0, search needs)
 
 same-length : tie.Need-same-length
 same-length c = search needs
@@ -23,7 +23,7 @@ returns : tie.Need-returns
 unfolding zeroSector
 returns c =
     let q = c .before .before .before .before in
-    let a = c .before .before .before .before .before .before .before .before .before .before .args in
+    let a = c .before .before .before .before .before .before .before .before .before .before .before .args in
     (added-copy {s = entryAt (a .j .0)} (q .put-copy .ensures .0) (rw (← q .before .sector .ensures) (q .put-copy .ensures .1)) (omega arith), omega (arith, q .put-copy .ensures .0 .next))
 
 pub put-freed-entry-spec : {M : Type 1} → statement M

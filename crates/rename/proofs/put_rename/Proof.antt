@@ -18,7 +18,7 @@ slice-aggregate-put-copy : tie.Need-slice-aggregate-put-copy
 slice-aggregate-put-copy c = search needs
 
 put-copy-requires : tie.Need-put-copy-requires
-put-copy-requires c κs = search needs
+put-copy-requires c κs = (c .before .before .before .before .before .before .before .pre .0 .inside, search needs)
 
 slice-aggregate-put-renaming : tie.Need-slice-aggregate-put-renaming
 slice-aggregate-put-renaming c = search needs
@@ -26,8 +26,8 @@ slice-aggregate-put-renaming c = search needs
 put-renaming-requires : tie.Need-put-renaming-requires
 put-renaming-requires c κs =
     let first = c .before .before .before .before .before .put-copy .ensures .0 .next in
-    let s = c .before .before .before .before .before .before .before .before .before .before .before .before in
-    (s .pre .0, ((omega arith, omega arith, omega arith), (omega (arith, first), omega (arith, first))))
+    let s = c .before .before .before .before .before .before .before .before .before .before .before .before .before in
+    (s .pre .0 .inside, (s .pre .1 .0, ((omega arith, omega arith, omega arith), (omega (arith, first), omega (arith, first), omega (arith, first)))))
 
 slice-aggregate-put-commit : tie.Need-slice-aggregate-put-commit
 slice-aggregate-put-commit c = search needs
@@ -36,10 +36,10 @@ put-commit-requires : tie.Need-put-commit-requires
 put-commit-requires c κs =
     let f = c .before .before .before .before .before in
     let p = f .before .before .before .before .before .before in
-    let s = p .before .before .before .before .before .before .before in
+    let s = p .before .before .before .before .before .before .before .before in
     let first = p .put-copy .ensures .0 .next in
     let all = f .put-renaming .ensures .1 in
-    (omega (arith, first, all .0), (omega arith, (s .pre .0 .bounded, (omega (arith, first, all .1), omega (arith, first, all .1), omega arith))))
+    (s .pre .0 .inside, (omega (arith, first, all .0), (omega arith, (s .pre .1 .0 .bounded, (omega (arith, first, all .1), omega (arith, first, all .1), omega arith)))))
 
 same-length : tie.Need-same-length
 same-length c = search needs
@@ -49,13 +49,13 @@ returns c =
     let m = c .before .before in
     let f = m .before .before .before .before .before .before in
     let p = f .before .before .before .before .before .before in
-    let s = p .before .before .before .before .before .before .before in
+    let s = p .before .before .before .before .before .before .before .before in
     let a = s .args in
     let d = view (a .img .now) in
     let root = added-copy {numbers = replicate 1024 0} (p .put-copy .ensures .0) (p .put-copy .ensures .1) (omega arith) in
     let staged = added-then {numbers = replicate 1024 0} root (f .put-renaming .ensures .0) in
-    added-committed d (renamePlan (catalogueOf d) d (a .i .0) (a .place) (a .name .now) (a .time)) staged (m .put-commit .ensures .0) (s .pre .0 .is)
-    (rw (p .before .before .before .updated-root .ensures) (sym (rename-targets d (a .g) (s .pre .0 .is) (a .i .0) (a .place) (a .name .now) (a .time))))
+    added-committed d (renamePlan (catalogueOf d) d (a .i .0) (a .place) (a .name .now) (a .time)) staged (m .put-commit .ensures .0) (s .pre .1 .0 .is) (s .pre .0)
+    (rw (p .before .before .before .updated-root .ensures) (sym (rename-targets d (a .g) (s .pre .1 .0 .is) (a .i .0) (a .place) (a .name .now) (a .time))))
     (rename-alone d (a .i .0) (a .place) (a .name .now) (a .time))
     (omega (arith, p .put-copy .ensures .0 .next, f .put-renaming .ensures .1 .0))
 

@@ -15,7 +15,7 @@ sector-requires : tie.Need-sector-requires
 sector-requires c κs = search needs
 
 put-copy-requires : tie.Need-put-copy-requires
-put-copy-requires c κs = search needs
+put-copy-requires c κs = (c .before .before .before .before .before .before .before .before .before .pre .0, search needs)
 
 same-length : tie.Need-same-length
 same-length c = search needs
@@ -27,9 +27,9 @@ returns : tie.Need-returns
 unfolding renamedRecord
 returns c =
     let q = c .before .before .before .before in
-    let s = c .before .before .before .before .before .before .before .before .before .before .before .before .before in
-    let room = s .pre .1 .1 .1 in
-    let e = edition-is (s .args .img .now) (s .args .g) (s .pre .0 .is) in (
+    let s = c .before .before .before .before .before .before .before .before .before .before .before .before .before .before in
+    let room = s .pre .1 .1 .1 .2 in
+    let e = edition-is (s .args .img .now) (s .args .g) (s .pre .1 .0 .is) in (
       added-copy {s = entryAt (s .args .i .0)} (rw (e, ← q .before .before .before .before .renamed-entry .ensures) (q .put-copy .ensures .0))
           (rw (← q .before .sector .ensures) (q .put-copy .ensures .1)) room,
       omega (arith, q .put-copy .ensures .0 .next),

@@ -15,20 +15,20 @@ enum-known-place c = search needs
 
 put-replacing-requires : tie.Need-put-replacing-requires
 put-replacing-requires c κs =
-    let s = c .before .before .before .before .before .before .before .before .before in
+    let s = c .before .before .before .before .before .before .before .before .before .before in
     let at = c .before .before .before .place .given .1 in
     let low = ap (λ (x : Lowest). indexOf x) at in
     let n = ap (λ (x : Lowest). renamingCount (catalogueOf (view (s .args .img .now))) x) at in
-    (s .pre .0, ((omega arith, omega (arith, low), omega arith), (omega (arith, n), omega arith)))
+    (s .pre .0, (s .pre .1 .0, ((omega arith, omega (arith, low), omega arith), (omega (arith, n), omega arith, omega arith))))
 
 enum-told : tie.Need-enum-told
 enum-told c = search needs
 
 put-renamed-requires : tie.Need-put-renamed-requires
 put-renamed-requires c κs =
-    let s = c .before .before .before .before .before .before .before .before in
+    let s = c .before .before .before .before .before .before .before .before .before in
     let n = ap (λ (x : Lowest). renamingCount (catalogueOf (view (s .args .img .now))) x) (c .before .before .enum-told .given .1) in
-    (s .pre .0, ((omega arith, omega arith), (omega (arith, n), omega arith)))
+    (s .pre .0, (s .pre .1 .0, ((omega arith, omega arith), (omega (arith, n), omega arith, omega arith))))
 
 same-length : tie.Need-same-length
 same-length c = search needs

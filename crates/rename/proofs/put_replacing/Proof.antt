@@ -7,12 +7,13 @@ use Rattle.rename.proofs.put_replacing.Statement.{statement}
 use Rattle.rename.proofs.put_replacing.Tie as tie
 
 put-entries-requires : tie.Need-put-entries-requires
-put-entries-requires c κs = (c .before .before .before .before .before .before .pre .0, ((omega arith, omega arith, omega arith), (omega arith, omega arith)))
+put-entries-requires c κs = let s = c .before .before .before .before .before .before .before in (s .pre .0, (s .pre .1 .0, ((omega arith, omega arith, omega arith), (omega arith, omega arith, omega arith))))
 
 put-freed-requires : tie.Need-put-freed-requires
 put-freed-requires c κs =
     let n = c .before .before .before .before .before .before .put-entries .ensures .1 in
-    (c .before .before .before .before .before .before .before .before .before .before .before .before .before .pre .0, (omega arith, (omega (arith, n), omega (arith, n))))
+    let s = c .before .before .before .before .before .before .before .before .before .before .before .before .before .before in
+    (s .pre .0, (s .pre .1 .0, (omega arith, (omega (arith, n), (omega (arith, n), omega (arith, n))))))
 
 same-length : tie.Need-same-length
 same-length c = search needs

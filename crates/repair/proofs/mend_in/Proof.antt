@@ -1,11 +1,12 @@
 -- `repair::mend_in` meets its contract.
 use Prim.Native.Nat.{_*_}
 use mathlib.Core.Path.{ap, _∙_}
+use mathlib.Core.Bool.{not}
 use native.Mathlib.Omega.{arith}
 use Rattle.model.specs.Disk.{view}
 use Rattle.model.specs.WriteList.{recordSize, recordCount}
 use Rattle.repair.proofs.Strays.{marked-is}
-use Rattle.repair.proofs.Decisions.{mends-none, mends-some, mends-short}
+use Rattle.repair.proofs.Decisions.{mends-none, mends-some, mends-short, mends-frozen}
 use borrow.Author.Needs.{needs}
 use Rattle.repair.proofs.mend_in.Statement.{statement}
 use Rattle.repair.proofs.mend_in.Tie as tie
@@ -43,14 +44,28 @@ returns c =
     let f = c .before .first-lacking in
     mends-none d (a .g) (s .pre .0 .is) (m .last .1 .1 .1 .0) (m .ensures .0) (a .list .now) (m .result) (m .ensures .1) (f .result) (f .ensures) (c .if1 .taken)
 
+slice-aggregate-staging : tie.Need-slice-aggregate-staging
+slice-aggregate-staging c = search needs
+
+staging-requires : tie.Need-staging-requires
+staging-requires c κs = search needs
+
 records-for-requires : tie.Need-records-for-requires
 records-for-requires c κs = search needs
 
 mul-needed : tie.Need-mul-needed
 mul-needed c = search needs
 
+slice-aggregate-put-repair : tie.Need-slice-aggregate-put-repair
+slice-aggregate-put-repair c = search needs
+
 put-repair-requires : tie.Need-put-repair-requires
-put-repair-requires c κs = search needs
+put-repair-requires c κs =
+    let t = c .before .before .before .before .before .before .before in
+    let k = t .before .before .before .before .before .before .before .before .before .before in
+    let s = k .before .before .before .before .before .before .before .before .before .before .before .before .before in
+    let e = c .before .before .before .before .records-for .ensures ∙ ap (recordCount 0) (k .marked-sectors .ensures .0) in
+    (t .staging .ensures .1 (c .before .before .before .before .before .if2 .taken), (s .pre .0, (search needs, omega (arith, e, c .before .before .before .if3 .taken))))
 
 same-length-3 : tie.Need-same-length-3
 same-length-3 c = search needs
@@ -63,17 +78,18 @@ same-length-5 c = search needs
 
 returns-2 : tie.Need-returns-2
 returns-2 c =
-    let h = c .before .before .before .before .before .before .before .before .before .before .before .before .before .before in
-    let s = h .before .before .before .before .before .before .before .before .before .before .before .before .before .before in
+    let t = c .before .before .before .before .before .before .before .before .before .before in
+    let k = t .before .before .before .before .before .before .before .before .before .before in
+    let s = k .before .before .before .before .before .before .before .before .before .before .before .before .before in
     let a = s .args in
     let d = view (a .img .now) in
-    let m = c .before .before .before .before .before .before .before .before .before .before .before .before .before .before .before .before .before .before .before .before .before .mark-strays in
-    let f = c .before .before .before .before .before .before .before .before .first-lacking in
-    let n = c .before .before .before .before .before .before .records-for in
-    let e = n .ensures ∙ ap (recordCount 0) (c .before .before .before .before .before .before .before .before .before .before .before .before .before .before .before .marked-sectors .ensures .0) in
+    let m = k .before .before .before .before .before .before .mark-strays in
+    let f = t .before .before .before .first-lacking in
+    let n = c .before .before .before .before .before .before .before .records-for in
+    let e = n .ensures ∙ ap (recordCount 0) (k .marked-sectors .ensures .0) in
     mends-some d (a .g) (s .pre .0 .is) (m .last .1 .1 .1 .0) (m .ensures .0) (a .list .now) (m .result) (m .ensures .1) (f .result) (f .ensures)
-    (c .before .before .before .before .before .before .before .if1 .left) (recordSize * n .result) (omega (arith, e))
-    (omega arith) (c .before .before .put-repair .ensures)
+    (t .before .before .if1 .left) (recordSize * n .result) (t .staging .ensures .0 ∙ ap not (c .before .before .before .before .before .before .before .before .if2 .taken)) (omega (arith, e))
+    (omega (arith, c .before .before .before .before .before .before .if3 .taken)) (c .before .before .put-repair .ensures)
 
 same-length-6 : tie.Need-same-length-6
 same-length-6 c = search needs
@@ -83,15 +99,35 @@ same-length-7 c = search needs
 
 returns-3 : tie.Need-returns-3
 returns-3 c =
-    let s = c .before .before .before .before .before .before .before .before .before .before .before .before .before .before .before .before .before .before .before .before .before .before .before in
+    let t = c .before .before .before .before in
+    let k = t .before .before .before .before .before .before .before .before .before .before in
+    let s = k .before .before .before .before .before .before .before .before .before .before .before .before .before in
     let a = s .args in
     let d = view (a .img .now) in
-    let m = c .before .before .before .before .before .before .before .before .before .before .before .before .before .before .before .before .mark-strays in
-    let f = c .before .before .before .first-lacking in
+    let m = k .before .before .before .before .before .before .mark-strays in
+    let f = t .before .before .before .first-lacking in
     let n = c .before .records-for in
-    let e = n .ensures ∙ ap (recordCount 0) (c .before .before .before .before .before .before .before .before .before .before .marked-sectors .ensures .0) in
-    mends-short d (a .g) (s .pre .0 .is) (m .last .1 .1 .1 .0) (m .ensures .0) (a .list .now) (m .result) (m .ensures .1) (f .result) (f .ensures) (c .before .before .if1 .left)
-    (omega (arith, e, c .if2 .left))
+    let e = n .ensures ∙ ap (recordCount 0) (k .marked-sectors .ensures .0) in
+    mends-short d (a .g) (s .pre .0 .is) (m .last .1 .1 .1 .0) (m .ensures .0) (a .list .now) (m .result) (m .ensures .1) (f .result) (f .ensures) (t .before .before .if1 .left)
+    (t .staging .ensures .0 ∙ ap not (c .before .before .if2 .taken)) (omega (arith, e, c .if3 .left))
+
+same-length-8 : tie.Need-same-length-8
+same-length-8 c = search needs
+
+same-length-9 : tie.Need-same-length-9
+same-length-9 c = search needs
+
+returns-4 : tie.Need-returns-4
+returns-4 c =
+    let t = c .before .before in
+    let k = t .before .before .before .before .before .before .before .before .before .before in
+    let s = k .before .before .before .before .before .before .before .before .before .before .before .before .before in
+    let a = s .args in
+    let d = view (a .img .now) in
+    let m = k .before .before .before .before .before .before .mark-strays in
+    let f = t .before .before .before .first-lacking in
+    mends-frozen d (a .g) (s .pre .0 .is) (m .last .1 .1 .1 .0) (m .ensures .0) (a .list .now) (m .result) (m .ensures .1) (f .result) (f .ensures) (t .before .before .if1 .left)
+    (t .staging .ensures .0 ∙ ap not (c .if2 .left))
 
 pub mend-in-spec : {M : Type 1} → statement M
 mend-in-spec =
@@ -104,8 +140,11 @@ mend-in-spec =
     same-length
     same-length-2
     returns
+    slice-aggregate-staging
+    staging-requires
     records-for-requires
     mul-needed
+    slice-aggregate-put-repair
     put-repair-requires
     same-length-3
     same-length-4
@@ -113,4 +152,7 @@ mend-in-spec =
     returns-2
     same-length-6
     same-length-7
-    returns-3)
+    returns-3
+    same-length-8
+    same-length-9
+    returns-4)

@@ -21,7 +21,9 @@ table-sector-requires : tie.Need-table-sector-requires
 table-sector-requires c κs = search needs
 
 put-copy-requires : tie.Need-put-copy-requires
-put-copy-requires c κs = search needs
+put-copy-requires c κs =
+    let s = c .before .before .before .before .before .before .before .before .before .before .before in
+    (s .pre .0, (omega arith, (s .pre .1 .0 .bounded, (omega arith, omega arith))))
 
 same-length : tie.Need-same-length
 same-length c = search needs
@@ -33,7 +35,7 @@ returns : tie.Need-returns
 returns c =
     let q = c .before .before .before .before in
     let f = c .before .before .before .before .before .before .before .before in
-    let s = c .before .before .before .before .before .before .before .before .before .before .before .before .before .before .before in
+    let s = c .before .before .before .before .before .before .before .before .before .before .before .before .before .before .before .before in
     let a = s .args in
     let held = sym (c .before .before .before .before .before .before .before .before .before .before .holds-marked .ensures)
     ∙ c .before .before .before .before .before .before .before .before .before .if1 .taken in (
@@ -44,10 +46,10 @@ returns c =
 
 returns-2 : tie.Need-returns-2
 returns-2 c =
-    let s = c .before .before .before .before .before .before in
+    let s = c .before .before .before .before .before .before .before in
     let a = s .args in
     let none = sym (c .before .holds-marked .ensures) ∙ c .if1 .left in (
-      rw (freed-miss (isMarked (a .marks .now) (a .g .extents)) (a .g) (view (a .img .now)) (a .t) none) (added-none _ _ _ _),
+      rw (freed-miss (isMarked (a .marks .now) (a .g .extents)) (a .g) (view (a .img .now)) (a .t) none) (added-none _ _ _ _ _),
       (rw none (omega arith), omega arith),
     )
 

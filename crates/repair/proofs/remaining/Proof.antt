@@ -26,7 +26,7 @@ returns c =
     let d = view (a .img .now) in
     ap doneBut (directory-found d (a .g) (orElse 26 (first (fault26 (repaired (catalogueOf d))) (catalogueOf d .geometry .files)) Sound) _ _
     (sym (c .before .before .before .directory-fault .ensures) ∙ c .before .n .given .1)
-    ∙ sym (remains d (a .g) (s .pre .0 .is) (s .pre .1 .0)))
+    ∙ sym (remains d (a .g) (s .pre .0 .is)))
 
 enum-told : tie.Need-enum-told
 enum-told c = search needs
@@ -45,18 +45,18 @@ returns-2 c =
     let s = c .before .before .before .before .before .before .before in
     let a = s .args in
     let d = view (a .img .now) in
-    ap (λ (r : Lowest). doneBut (orElse 26 r Sound)) (sym (c .before .lacking .given .1) ∙ s .pre .1 .1)
+    ap (λ (r : Lowest). doneBut (orElse 26 r Sound)) (sym (c .before .lacking .given .1) ∙ s .pre .1)
     ∙ ap doneBut (directory-none d (a .g) (orElse 26 (first (fault26 (repaired (catalogueOf d))) (catalogueOf d .geometry .files)) Sound)
-    (sym (c .before .before .before .before .before .directory-fault .ensures) ∙ c .before .before .before .enum-told .given .1) ∙ sym (remains d (a .g) (s .pre .0 .is) (s .pre .1 .0)))
+    (sym (c .before .before .before .before .before .directory-fault .ensures) ∙ c .before .before .before .enum-told .given .1) ∙ sym (remains d (a .g) (s .pre .0 .is)))
 
 returns-3 : tie.Need-returns-3
 returns-3 c =
     let s = c .before .before .before .before .before .before .before in
     let a = s .args in
     let d = view (a .img .now) in
-    c .refusal .ensures ∙ ap (λ (r : Lowest). doneBut (orElse 26 r Sound)) (sym (c .before .enum-told2 .given .1) ∙ s .pre .1 .1)
+    c .refusal .ensures ∙ ap (λ (r : Lowest). doneBut (orElse 26 r Sound)) (sym (c .before .enum-told2 .given .1) ∙ s .pre .1)
     ∙ ap doneBut (directory-none d (a .g) (orElse 26 (first (fault26 (repaired (catalogueOf d))) (catalogueOf d .geometry .files)) Sound)
-    (sym (c .before .before .before .before .before .directory-fault .ensures) ∙ c .before .before .before .enum-told .given .1) ∙ sym (remains d (a .g) (s .pre .0 .is) (s .pre .1 .0)))
+    (sym (c .before .before .before .before .before .directory-fault .ensures) ∙ c .before .before .before .enum-told .given .1) ∙ sym (remains d (a .g) (s .pre .0 .is)))
 
 pub remaining-spec : {M : Type 1} → statement M
 remaining-spec =

@@ -1,4 +1,4 @@
--- `search::search_in` meets its contract. A usable extent is free, or none is.
+-- `search::search_in` meets its contract. An extent is free, or none is.
 use mathlib.Core.Path.{sym, ap, _∙_}
 use native.Mathlib.Omega.{arith}
 use Rattle.laws.proofs.Refusals.{image-length, opened}

@@ -22,9 +22,6 @@ Inv-loop img g i o n e₀ e = Seeking (hit img (i .0) o) n e
 abbrev μ-loop : tie.MeasureT-loop
 μ-loop img g i o n e₀ e = n - e
 
-usable-requires : tie.Need-usable-requires Inv-loop μ-loop
-usable-requires c κs = search needs
-
 loop-holds : tie.Need-loop-holds Inv-loop μ-loop
 loop-holds c = seek-start
 
@@ -40,10 +37,10 @@ part-from-requires c κs = search needs
 returns : tie.Need-returns Inv-loop μ-loop
 returns c =
     let b = c .before .before .before .before in
-    let s = b .before .before .before in
+    let s = b .before .before in
     let a = s .args in (
-      rw (extent-of-is (view (a .img .now)) (a .g) (s .pre .0 .is) (a .i .0) (a .o), ← b .before .usable .ensures)
-          (rw (← b .before .usable .ensures) at (c .part-from .ensures .0) ∙ ap indexOf (b .loop .inv .rest)),
+      rw (extent-of-is (view (a .img .now)) (a .g) (s .pre .0 .is) (a .i .0) (a .o))
+          (c .part-from .ensures .0 ∙ ap indexOf (b .loop .inv .rest)),
       c .part-from .ensures .1,
     )
 
@@ -56,7 +53,7 @@ loop-less c = search needs
 loop-again : tie.Need-loop-again Inv-loop μ-loop
 loop-again c =
     let b = c .before .before .before in
-    let a = b .before .before .before .args in
+    let a = b .before .before .args in
     seek-over (b .loop .inv) 128 (omega arith) (nowhere-from (hit (a .img .now) (a .i .0) (a .o)) (b .loop .e) 128 (sym (c .before .holds-part .ensures) ∙ c .if1 .left))
 
 part-from-requires-2 : tie.Need-part-from-requires-2 Inv-loop μ-loop
@@ -65,10 +62,10 @@ part-from-requires-2 c κs = search needs
 returns-2 : tie.Need-returns-2 Inv-loop μ-loop
 returns-2 c =
     let b = c .before .before in
-    let s = b .before .before .before in
+    let s = b .before .before in
     let a = s .args in (
-      rw (extent-of-is (view (a .img .now)) (a .g) (s .pre .0 .is) (a .i .0) (a .o), ← b .before .usable .ensures)
-          (rw (← b .before .usable .ensures) at (c .part-from2 .ensures .0) ∙ ap indexOf (b .loop .inv .rest)),
+      rw (extent-of-is (view (a .img .now)) (a .g) (s .pre .0 .is) (a .i .0) (a .o))
+          (c .part-from2 .ensures .0 ∙ ap indexOf (b .loop .inv .rest)),
       c .part-from2 .ensures .1,
     )
 
@@ -78,7 +75,6 @@ extent-of-spec =
     (tie.spec
     Inv-loop
     μ-loop
-    usable-requires
     loop-holds
     add-loop
     holds-part-requires

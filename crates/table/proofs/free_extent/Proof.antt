@@ -23,9 +23,6 @@ Inv-loop img g n e₀ e = Seeking (hit img g) n e
 abbrev μ-loop : tie.MeasureT-loop
 μ-loop img g n e₀ e = n - e
 
-usable-requires : tie.Need-usable-requires Inv-loop μ-loop
-usable-requires c κs = search needs
-
 loop-holds : tie.Need-loop-holds Inv-loop μ-loop
 loop-holds c = seek-start
 
@@ -41,10 +38,10 @@ free-from-requires c κs = search needs
 returns : tie.Need-returns Inv-loop μ-loop
 returns c =
     let b = c .before .before .before .before in
-    let s = b .before .before .before in
+    let s = b .before .before in
     let a = s .args in
-    rw (free-extent-is (view (a .img .now)) (a .g) (s .pre .is), ← b .before .usable .ensures)
-    (rw (← b .before .usable .ensures) at (c .free-from .ensures) ∙ b .loop .inv .rest)
+    rw (free-extent-is (view (a .img .now)) (a .g) (s .pre .is))
+    (c .free-from .ensures ∙ b .loop .inv .rest)
 
 add-e : tie.Need-add-e Inv-loop μ-loop
 add-e c = search needs
@@ -55,7 +52,7 @@ loop-less c = search needs
 loop-again : tie.Need-loop-again Inv-loop μ-loop
 loop-again c =
     let b = c .before .before .before in
-    let a = b .before .before .before .args in
+    let a = b .before .before .args in
     seek-over (b .loop .inv) 128 (omega arith) (nowhere-from (hit (a .img .now) (a .g)) (b .loop .e) 128 (sym (c .before .holds-free .ensures) ∙ c .if1 .left))
 
 free-from-requires-2 : tie.Need-free-from-requires-2 Inv-loop μ-loop
@@ -64,10 +61,10 @@ free-from-requires-2 c κs = search needs
 returns-2 : tie.Need-returns-2 Inv-loop μ-loop
 returns-2 c =
     let b = c .before .before in
-    let s = b .before .before .before in
+    let s = b .before .before in
     let a = s .args in
-    rw (free-extent-is (view (a .img .now)) (a .g) (s .pre .is), ← b .before .usable .ensures)
-    (rw (← b .before .usable .ensures) at (c .free-from2 .ensures) ∙ b .loop .inv .rest)
+    rw (free-extent-is (view (a .img .now)) (a .g) (s .pre .is))
+    (c .free-from2 .ensures ∙ b .loop .inv .rest)
 
 pub free-extent-spec : {M : Type 1} → statement M
 free-extent-spec =
@@ -75,7 +72,6 @@ free-extent-spec =
     (tie.spec
     Inv-loop
     μ-loop
-    usable-requires
     loop-holds
     add-loop
     holds-free-requires

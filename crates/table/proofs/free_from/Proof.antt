@@ -23,9 +23,6 @@ Inv-loop img g from n e₀ e = (e ≤ n) × (scan (hit img g) (n - e) e ≡ scan
 abbrev μ-loop : tie.MeasureT-loop
 μ-loop img g from n e₀ e = n - e
 
-usable-requires : tie.Need-usable-requires Inv-loop μ-loop
-usable-requires c κs = search needs
-
 loop-holds : tie.Need-loop-holds Inv-loop μ-loop
 loop-holds c = (omega arith, refl)
 
@@ -35,9 +32,8 @@ is-free-requires c κs = search needs
 returns : tie.Need-returns Inv-loop μ-loop
 returns c =
     let b = c .before .before .before in
-    let a = b .before .before .before .args in
-    rw (← b .before .usable .ensures)
-    (sym (scan-here (hit (a .img .now) (a .g)) (b .before .usable .result) (b .loop .e) (omega arith) (sym (c .before .is-free .ensures) ∙ c .if1 .taken)) ∙ b .loop .inv .1)
+    let a = b .before .before .args in
+    (sym (scan-here (hit (a .img .now) (a .g)) (a .g .extents) (b .loop .e) (omega arith) (sym (c .before .is-free .ensures) ∙ c .if1 .taken)) ∙ b .loop .inv .1)
 
 add-e : tie.Need-add-e Inv-loop μ-loop
 add-e c = search needs
@@ -48,15 +44,14 @@ loop-less c = search needs
 loop-again : tie.Need-loop-again Inv-loop μ-loop
 loop-again c =
     let b = c .before .before .before in
-    let a = b .before .before .before .args in
-    (omega arith, sym (scan-next (hit (a .img .now) (a .g)) (b .before .usable .result) (b .loop .e) (omega arith) (sym (c .before .is-free .ensures) ∙ c .if1 .left)) ∙ b .loop .inv .1)
+    let a = b .before .before .args in
+    (omega arith, sym (scan-next (hit (a .img .now) (a .g)) (a .g .extents) (b .loop .e) (omega arith) (sym (c .before .is-free .ensures) ∙ c .if1 .left)) ∙ b .loop .inv .1)
 
 returns-2 : tie.Need-returns-2 Inv-loop μ-loop
 returns-2 c =
     let b = c .before in
-    let a = b .before .before .before .args in
-    rw (← b .before .usable .ensures)
-    (sym (scan-end (hit (a .img .now) (a .g)) (b .before .usable .result) (b .loop .e) (omega arith)) ∙ b .loop .inv .1)
+    let a = b .before .before .args in
+    (sym (scan-end (hit (a .img .now) (a .g)) (a .g .extents) (b .loop .e) (omega arith)) ∙ b .loop .inv .1)
 
 pub free-from-spec : {M : Type 1} → statement M
 free-from-spec =
@@ -64,7 +59,6 @@ free-from-spec =
     (tie.spec
     Inv-loop
     μ-loop
-    usable-requires
     loop-holds
     is-free-requires
     returns

@@ -21,9 +21,6 @@ Inv-loop img g i o from n e₀ e = (e ≤ n) × (scan (hit img (i .0) o) (n - e)
 abbrev μ-loop : tie.MeasureT-loop
 μ-loop img g i o from n e₀ e = n - e
 
-usable-requires : tie.Need-usable-requires Inv-loop μ-loop
-usable-requires c κs = search needs
-
 loop-holds : tie.Need-loop-holds Inv-loop μ-loop
 loop-holds c = (omega arith, refl)
 
@@ -33,9 +30,8 @@ is-part-requires c κs = search needs
 returns : tie.Need-returns Inv-loop μ-loop
 returns c =
     let b = c .before .before .before in
-    let a = b .before .before .before .args in (
-      rw (← b .before .usable .ensures)
-          (ap indexOf (sym (scan-here (hit (a .img .now) (a .i .0) (a .o)) (b .before .usable .result) (b .loop .e) (omega arith) (sym (c .before .is-part .ensures) ∙ c .if1 .taken))
+    let a = b .before .before .args in (
+      (ap indexOf (sym (scan-here (hit (a .img .now) (a .i .0) (a .o)) (a .g .extents) (b .loop .e) (omega arith) (sym (c .before .is-part .ensures) ∙ c .if1 .taken))
           ∙ b .loop .inv .1)),
       omega arith,
     )
@@ -49,15 +45,14 @@ loop-less c = search needs
 loop-again : tie.Need-loop-again Inv-loop μ-loop
 loop-again c =
     let b = c .before .before .before in
-    let a = b .before .before .before .args in
-    (omega arith, sym (scan-next (hit (a .img .now) (a .i .0) (a .o)) (b .before .usable .result) (b .loop .e) (omega arith) (sym (c .before .is-part .ensures) ∙ c .if1 .left)) ∙ b .loop .inv .1)
+    let a = b .before .before .args in
+    (omega arith, sym (scan-next (hit (a .img .now) (a .i .0) (a .o)) (a .g .extents) (b .loop .e) (omega arith) (sym (c .before .is-part .ensures) ∙ c .if1 .left)) ∙ b .loop .inv .1)
 
 returns-2 : tie.Need-returns-2 Inv-loop μ-loop
 returns-2 c =
     let b = c .before in
-    let a = b .before .before .before .args in (
-      rw (← b .before .usable .ensures)
-          (ap indexOf (sym (scan-end (hit (a .img .now) (a .i .0) (a .o)) (b .before .usable .result) (b .loop .e) (omega arith)) ∙ b .loop .inv .1)),
+    let a = b .before .before .args in (
+      (ap indexOf (sym (scan-end (hit (a .img .now) (a .i .0) (a .o)) (a .g .extents) (b .loop .e) (omega arith)) ∙ b .loop .inv .1)),
       omega arith,
     )
 
@@ -67,7 +62,6 @@ part-from-spec =
     (tie.spec
     Inv-loop
     μ-loop
-    usable-requires
     loop-holds
     is-part-requires
     returns

@@ -1,5 +1,5 @@
--- `write::put_if_room` meets its contract. There are no bytes, the list is too short, or the records are put in.
-use Rattle.write.proofs.Laws.{room-none, room-short, room-count, room-done}
+-- `write::put_if_room` meets its contract. The list is too short, or the records are put in.
+use Rattle.write.proofs.Laws.{room-short, room-count, room-done}
 use Prim.Native.Nat.{ℕ}
 use mathlib.Core.Path.{sym, ap, _∙_}
 use native.Mathlib.Omega.{arith}
@@ -12,6 +12,12 @@ use borrow.Author.Needs.{needs}
 use Rattle.write.proofs.put_if_room.Statement.{statement}
 use Rattle.write.proofs.put_if_room.Tie as tie
 
+records-requires : tie.Need-records-requires
+records-requires c κs = search needs
+
+mul-if1 : tie.Need-mul-if1
+mul-if1 c = search needs
+
 refusal-requires : tie.Need-refusal-requires
 refusal-requires c κs = search needs
 
@@ -20,51 +26,26 @@ refused-requires c κs = search needs
 
 returns : tie.Need-returns
 returns c =
-    let s = c .before .before .before .before .before .before in
-    let a = s .args in
-    let len = length-span (a .bytes .now) (a .len) in
-    let span = spanOf (a .bytes .now) (a .len) in
-    rw (c .refused .ensures, c .before .refusal .ensures) (room-none (a .img .now) (s .pre .0) (a .list .now) (a .i .0) (a .offset) span (a .time) (len ∙ c .before .before .if1 .taken))
-
-records-requires : tie.Need-records-requires
-records-requires c κs = search needs
-
-mul-if2 : tie.Need-mul-if2
-mul-if2 c = search needs
-
-refusal-requires-2 : tie.Need-refusal-requires-2
-refusal-requires-2 c κs = search needs
-
-refused-requires-2 : tie.Need-refused-requires-2
-refused-requires-2 c κs = search needs
-
-returns-2 : tie.Need-returns-2
-returns-2 c =
     let s = c .before .before .before .before .before .before .before .before in
     let a = s .args in
     let len = length-span (a .bytes .now) (a .len) in
     let span = spanOf (a .bytes .now) (a .len) in
-    rw (c .refused2 .ensures, c .before .refusal2 .ensures)
-    (room-short (a .img .now) (s .pre .0) (a .list .now) (a .i .0) (a .offset) span (a .time) (λ e. c .before .before .before .before .if1 .left (sym len ∙ e)) (a .z) (a .w .more)
-    (s .pre .1 .1 .1 .1 ∙ ap (λ (x : ℕ). sizeAfter (catalogueOf (view (a .img .now))) (a .i .0) (a .offset) x) (sym len)) (s .pre .1 .1 .0 .0 .needs-one)
-    (omega (arith, len, c .before .before .before .records .ensures .0, c .before .before .if2 .taken)))
+    rw (c .refused .ensures, c .before .refusal .ensures)
+    (room-short (a .img .now) (s .pre .1 .1 .0) (a .list .now) (a .i .0) (a .offset) span (a .time) (s .pre .1 .0 .0) (λ e. omega (arith, s .pre .1 .0 .1, len, e)) (a .z) (a .w .more)
+    (s .pre .1 .1 .1 .1 .1 .1 ∙ ap (λ (x : ℕ). sizeAfter (catalogueOf (view (a .img .now))) (a .i .0) (a .offset) x) (sym len)) (s .pre .1 .1 .1 .1 .0 .0 .needs-one)
+    (omega (arith, len, c .before .before .before .records .ensures .0, c .before .before .if1 .taken)))
 
 put-write-requires : tie.Need-put-write-requires
 put-write-requires c κs =
     let s = c .before .before .before .before .before .before .before in
-    let h = s .pre .1 .1 .1 .0 in (
-      s .pre .1 .0,
-      (
-        s .pre .1 .1 .0,
-        ((h .0, omega (arith, c .before .before .before .if1 .left), h .2, h .3), (s .pre .1 .1 .1 .1, omega (arith, c .before .before .records .ensures .0, c .before .if2 .left))),
-      ),
-    )
+    let h = s .pre .1 .1 .1 .1 .1 .0 in
+    (s .pre .0, (s .pre .1 .1 .1 .0, (s .pre .1 .1 .1 .1 .0, ((h .0, s .pre .1 .0 .1, h .2, h .3), (s .pre .1 .1 .1 .1 .1 .1, omega (arith, c .before .before .records .ensures .0, c .before .if1 .left))))))
 
-refusal-requires-3 : tie.Need-refusal-requires-3
-refusal-requires-3 c κs = search needs
+refusal-requires-2 : tie.Need-refusal-requires-2
+refusal-requires-2 c κs = search needs
 
-mul-t15 : tie.Need-mul-t15
-mul-t15 c =
+mul-t14 : tie.Need-mul-t14
+mul-t14 c =
     let s = c .before .before .before .before .before .before .before .before .before .before .before in
     let a = s .args in
     let len = length-span (a .bytes .now) (a .len) in
@@ -74,39 +55,36 @@ mul-t15 c =
       len,
       c .before .before .before .before .before .before .records .ensures .0,
       c .before .before .before .before .before .before .records .ensures .1,
-      room-count (a .img .now) (s .pre .0) (a .list .now) (a .i .0) (a .offset) span (a .time) (λ e. c .before .before .before .before .before .before .before .if1 .left (sym len ∙ e)) (a .z)
-          (a .w .more) (s .pre .1 .1 .1 .1 ∙ ap (λ (x : ℕ). sizeAfter (catalogueOf (view (a .img .now))) (a .i .0) (a .offset) x) (sym len)) (s .pre .1 .1 .0 .0 .needs-one)
+      room-count (a .img .now) (s .pre .1 .1 .0) (a .list .now) (a .i .0) (a .offset) span (a .time) (s .pre .1 .0 .0) (λ e. omega (arith, s .pre .1 .0 .1, len, e)) (a .z)
+          (a .w .more) (s .pre .1 .1 .1 .1 .1 .1 ∙ ap (λ (x : ℕ). sizeAfter (catalogueOf (view (a .img .now))) (a .i .0) (a .offset) x) (sym len)) (s .pre .1 .1 .1 .1 .0 .0 .needs-one)
           (c .before .before .before .put-write .ensures),
     )
 
 same-length : tie.Need-same-length
 same-length c = search needs
 
-returns-3 : tie.Need-returns-3
-returns-3 c =
+returns-2 : tie.Need-returns-2
+returns-2 c =
     let s = c .before .before .before .before .before .before .before .before .before .before .before in
     let a = s .args in
     let len = length-span (a .bytes .now) (a .len) in
     let span = spanOf (a .bytes .now) (a .len) in
-    rw (c .refusal3 .ensures)
-    (room-done (a .img .now) (s .pre .0) (a .list .now) (a .i .0) (a .offset) span (a .time) (λ e. c .before .before .before .before .before .before .before .if1 .left (sym len ∙ e)) (a .z)
-    (a .w .more) (s .pre .1 .1 .1 .1 ∙ ap (λ (x : ℕ). sizeAfter (catalogueOf (view (a .img .now))) (a .i .0) (a .offset) x) (sym len)) (s .pre .1 .1 .0 .0 .needs-one)
-    (omega (arith, len, c .before .before .before .before .before .before .records .ensures .0, c .before .before .before .before .before .if2 .left)) (c .before .before .before .put-write .ensures))
+    rw (c .refusal2 .ensures)
+    (room-done (a .img .now) (s .pre .1 .1 .0) (a .list .now) (a .i .0) (a .offset) span (a .time) (s .pre .1 .0 .0) (λ e. omega (arith, s .pre .1 .0 .1, len, e)) (a .z)
+    (a .w .more) (s .pre .1 .1 .1 .1 .1 .1 ∙ ap (λ (x : ℕ). sizeAfter (catalogueOf (view (a .img .now))) (a .i .0) (a .offset) x) (sym len)) (s .pre .1 .1 .1 .1 .0 .0 .needs-one)
+    (omega (arith, len, c .before .before .before .before .before .before .records .ensures .0, c .before .before .before .before .before .if1 .left)) (c .before .before .before .put-write .ensures))
 
 pub put-if-room-spec : {M : Type 1} → statement M
 put-if-room-spec =
     tie.close
     (tie.spec
+    records-requires
+    mul-if1
     refusal-requires
     refused-requires
     returns
-    records-requires
-    mul-if2
-    refusal-requires-2
-    refused-requires-2
-    returns-2
     put-write-requires
-    refusal-requires-3
-    mul-t15
+    refusal-requires-2
+    mul-t14
     same-length
-    returns-3)
+    returns-2)

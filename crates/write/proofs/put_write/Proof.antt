@@ -3,6 +3,8 @@ use Rattle.write.proofs.Lists.{written-more, written-kept}
 use lib.ListN.{length, replicate}
 use Prim.Native.Nat.{ℕ}
 use mathlib.Core.Path.{_≡_, sym, ap, _∙_}
+use mathlib.Core.List.{List}
+use Rattle.delete.proofs.Laws.{left}
 use Rattle.model.specs.Disk.{view}
 use Rattle.model.specs.Catalogue.{catalogueOf}
 use Rattle.model.specs.Write.{touchedSectors, sizeAfter}
@@ -24,14 +26,14 @@ sub-touched c = search needs
 
 put-data-requires : tie.Need-put-data-requires
 put-data-requires c κs =
-    let s = c .before .before .before .before in
-    let w = s .pre .1 .0 .0 in
-    let h = s .pre .1 .1 .0 in (
-      s .pre .0,
+    let s = c .before .before .before .before .before in
+    let w = s .pre .1 .1 .0 .0 in
+    let h = s .pre .1 .1 .1 .0 in (
+      s .pre .1 .0,
       (
-        record { file = omega (arith, h .0, s .pre .0 .bounded .files-high); extents = w .extents; taken = w .taken },
+        record { file = omega (arith, h .0, s .pre .1 .0 .bounded .files-high); extents = w .extents; taken = w .taken },
         (
-          omega (arith, s .pre .1 .1 .1 .1),
+          omega (arith, s .pre .1 .1 .1 .1 .1),
           (record { small = omega (arith, h .2); low = omega arith; high = omega (arith, h .1) }, h .3),
         ),
       ),
@@ -47,34 +49,38 @@ sector-requires : tie.Need-sector-requires
 sector-requires c κs = search needs
 
 put-copy-requires : tie.Need-put-copy-requires
-put-copy-requires c κs = search needs
+put-copy-requires c κs = (c .before .before .before .before .before .before .before .before .before .before .before .before .pre .0 .inside, search needs)
 
 taken-sector-requires : tie.Need-taken-sector-requires
-taken-sector-requires c κs = search needs
+taken-sector-requires c κs = let s = c .before .before .before .before .before .before .before .before .before .before .before .before .before .before .before .before .before in (s .pre .1 .0, s .pre .1 .1 .0 .1)
 
 slice-aggregate-put-copy-2 : tie.Need-slice-aggregate-put-copy-2
 slice-aggregate-put-copy-2 c = search needs
 
 table-sector-of-requires : tie.Need-table-sector-of-requires
 table-sector-of-requires c κs =
-    let s = c .before .before .before .before .before .before .before .before .before .before .before .before .before .before .before .before .before .before .before in
-    (s .pre .0 .bounded, s .pre .1 .0 .1)
+    let s = c .before .before .before .before .before .before .before .before .before .before .before .before .before .before .before .before .before .before .before .before in
+    (s .pre .1 .0 .bounded, s .pre .1 .1 .0 .1)
 
 put-copy-requires-2 : tie.Need-put-copy-requires-2
 put-copy-requires-2 c κs =
     let entry = c .before .before .before .before .before .before .before .before in
     let spans = entry .before .before .before .before .before .before .before in
-    let s = spans .before .before .before .before .before in
-    let room = rw (c .before .before .before .before .if1 .taken) at (s .pre .1 .1 .1 .1) in (
-      omega (
-        arith,
-        room,
-        entry .put-copy .ensures .0 .next,
-        spans .put-data .ensures .0,
-        c .before .before .before .before .before .before .before .list2 .given,
-        entry .before .before .before .before .before .before .list .given,
+    let s = spans .before .before .before .before .before .before in
+    let many : length (left (entry .put-copy .ensures .1)) ≡ 2 = ap (λ (l : List ℕ). length l) (entry .put-copy .ensures .1) in
+    let room = rw (c .before .before .before .before .if1 .taken) at (s .pre .1 .1 .1 .1 .1) in (
+      s .pre .0 .inside,
+      (
+        omega (
+          arith,
+          room,
+          entry .put-copy .ensures .0 .next,
+          spans .put-data .ensures .0,
+          c .before .before .before .before .before .before .before .list2 .given,
+          entry .before .before .before .before .before .before .list .given,
+        ),
+        (s .pre .1 .0 .bounded, (omega arith, omega (arith, many))),
       ),
-      (s .pre .0 .bounded, (omega (arith, entry .put-copy .ensures .0 .next), omega arith)),
     )
 
 slice-aggregate-put-commit : tie.Need-slice-aggregate-put-commit
@@ -85,11 +91,12 @@ put-commit-requires c κs =
     let table = c .before .before .before .before .before in
     let entry = table .before .before .before .before .before .before .before .before .before in
     let spans = entry .before .before .before .before .before .before .before in
-    let s = spans .before .before .before .before .before in
-    let room = rw (table .before .before .before .before .before .if1 .taken) at (s .pre .1 .1 .1 .1) in
+    let s = spans .before .before .before .before .before .before in
+    let room = rw (table .before .before .before .before .before .if1 .taken) at (s .pre .1 .1 .1 .1 .1) in
     let n1 = entry .put-copy .ensures .0 .next in
     let n2 = table .put-copy2 .ensures .0 .next in (
-      omega (
+      s .pre .0 .inside,
+      (omega (
         arith,
         room,
         n1,
@@ -100,11 +107,12 @@ put-commit-requires c κs =
         entry .before .before .before .before .before .before .list .given,
       ),
       (
-        omega (arith, s .pre .0 .held),
+        omega (arith, s .pre .1 .0 .held),
         (
-          s .pre .0 .bounded,
+          s .pre .1 .0 .bounded,
           (omega arith, omega arith, omega (arith, n1, n2)),
         ),
+      ),
       ),
     )
 
@@ -121,15 +129,15 @@ returns c =
     let table = commit .before .before .before .before .before .before in
     let entry = table .before .before .before .before .before .before .before .before .before in
     let spans = entry .before .before .before .before .before .before .before in
-    let s = spans .before .before .before .before .before in
+    let s = spans .before .before .before .before .before .before in
     let a = s .args in
-    let w = s .pre .1 .0 .0 in
+    let w = s .pre .1 .1 .0 .0 in
     let len = length-span (a .bytes .now) (a .len) in
     let span = spanOf (a .bytes .now) (a .len) in
     let touched : touchedSectors (a .offset) (a .len) ≡ touchedSectors (a .offset) (length span) = ap (touchedSectors (a .offset)) (sym len) in
-    let room = rw (table .before .before .before .before .before .if1 .taken) at (s .pre .1 .1 .1 .1) in
-    written-more (a .img .now) (a .g) (s .pre .0) (a .i .0) (a .offset) span (a .time) (a .z)
-    (s .pre .1 .1 .1 .0 ∙ ap (λ (x : ℕ). sizeAfter (catalogueOf (view (a .img .now))) (a .i .0) (a .offset) x) (sym len)) (replicate 2 0) (entry .before .sector .result .0)
+    let room = rw (table .before .before .before .before .before .if1 .taken) at (s .pre .1 .1 .1 .1 .1) in
+    written-more (a .img .now) (a .g) (s .pre .1 .0) (s .pre .0) (a .i .0) (a .offset) span (a .time) (a .z)
+    (s .pre .1 .1 .1 .1 .0 ∙ ap (λ (x : ℕ). sizeAfter (catalogueOf (view (a .img .now))) (a .i .0) (a .offset) x) (sym len)) (replicate 2 0) (entry .before .sector .result .0)
     (entry .before .before .before .before .updated-entry .result)
     (rw touched at (spans .put-data .ensures .1)) (entry .before .sector .ensures) (entry .before .before .before .before .updated-entry .ensures) (entry .put-copy .ensures .0)
     (entry .put-copy .ensures .1)
@@ -146,16 +154,18 @@ put-commit-requires-2 : tie.Need-put-commit-requires-2
 put-commit-requires-2 c κs =
     let entry = c .before .before .before .before .before .before in
     let spans = entry .before .before .before .before .before .before .before in
-    let s = spans .before .before .before .before .before in
-    let room = rw (c .before .before .if1 .left) at (s .pre .1 .1 .1 .1) in
+    let s = spans .before .before .before .before .before .before in
+    let room = rw (c .before .before .if1 .left) at (s .pre .1 .1 .1 .1 .1) in
     let n1 = entry .put-copy .ensures .0 .next in (
-      omega (arith, room, n1, spans .put-data .ensures .0, c .before .before .before .before .before .list2 .given, entry .before .before .before .before .before .before .list .given),
+      s .pre .0 .inside,
+      (omega (arith, room, n1, spans .put-data .ensures .0, c .before .before .before .before .before .list2 .given, entry .before .before .before .before .before .before .list .given),
       (
-        omega (arith, s .pre .0 .held),
+        omega (arith, s .pre .1 .0 .held),
         (
-          s .pre .0 .bounded,
+          s .pre .1 .0 .bounded,
           (omega arith, omega arith, omega (arith, n1)),
         ),
+      ),
       ),
     )
 
@@ -167,15 +177,15 @@ returns-2 c =
     let commit = c .before .before in
     let entry = commit .before .before .before .before .before .before .before in
     let spans = entry .before .before .before .before .before .before .before in
-    let s = spans .before .before .before .before .before in
+    let s = spans .before .before .before .before .before .before in
     let a = s .args in
-    let w = s .pre .1 .0 .0 in
+    let w = s .pre .1 .1 .0 .0 in
     let len = length-span (a .bytes .now) (a .len) in
     let span = spanOf (a .bytes .now) (a .len) in
     let touched : touchedSectors (a .offset) (a .len) ≡ touchedSectors (a .offset) (length span) = ap (touchedSectors (a .offset)) (sym len) in
-    let room = rw (commit .before .before .before .if1 .left) at (s .pre .1 .1 .1 .1) in
-    written-kept (a .img .now) (a .g) (s .pre .0) (a .i .0) (a .offset) span (a .time) (a .z)
-    (s .pre .1 .1 .1 .0 ∙ ap (λ (x : ℕ). sizeAfter (catalogueOf (view (a .img .now))) (a .i .0) (a .offset) x) (sym len)) (replicate 2 0) (entry .before .sector .result .0)
+    let room = rw (commit .before .before .before .if1 .left) at (s .pre .1 .1 .1 .1 .1) in
+    written-kept (a .img .now) (a .g) (s .pre .1 .0) (s .pre .0) (a .i .0) (a .offset) span (a .time) (a .z)
+    (s .pre .1 .1 .1 .1 .0 ∙ ap (λ (x : ℕ). sizeAfter (catalogueOf (view (a .img .now))) (a .i .0) (a .offset) x) (sym len)) (replicate 2 0) (entry .before .sector .result .0)
     (entry .before .before .before .before .updated-entry .result)
     (rw touched at (spans .put-data .ensures .1)) (entry .before .sector .ensures) (entry .before .before .before .before .updated-entry .ensures) (entry .put-copy .ensures .0)
     (entry .put-copy .ensures .1)

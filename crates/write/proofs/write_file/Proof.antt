@@ -1,15 +1,10 @@
--- `write::write_file` meets its contract. The offset is too great; or an extent is needed, and one is free or none is; or no
--- extent is needed.
-use Rattle.model.specs.Write.{grows, sizeAfter}
+-- `write::write_file` meets its contract. The offset is too great; or there are no bytes; or K extents are free, or not.
 use Rattle.spans.specs.Touched.{spanOf}
 use Rattle.spans.proofs.Sources.{length-span}
-use Rattle.model.specs.Catalogue.{catalogueOf}
-use Rattle.model.specs.Disk.{view}
-use Rattle.write.proofs.Laws.{file-12, file-13, file-room}
-use Rattle.laws.proofs.Booleans.{and-false}
+use Rattle.write.proofs.Laws.{file-12, file-none, file-full}
 use native.Mathlib.Omega.{arith}
-use mathlib.Core.Path.{sym, ap, _∙_}
-use Prim.Native.Nat.{ℕ, _+_, max}
+use mathlib.Core.Path.{refl, sym, ap, _∙_}
+use mathlib.Core.Bool.{not}
 use borrow.Author.Needs.{needs}
 use Rattle.write.proofs.write_file.Statement.{statement}
 use Rattle.write.proofs.write_file.Tie as tie
@@ -29,87 +24,49 @@ returns c =
     rw (c .refused .ensures, c .before .refusal .ensures)
     (file-12 (a .img .now) (s .pre .0 .judgment) (a .list .now) (a .i .0) (a .offset) span (a .time) (a .size) (s .pre .0 .says) (c .before .before .if1 .taken))
 
-add-most : tie.Need-add-most
-add-most c = search needs
-
-most-requires : tie.Need-most-requires
-most-requires c κs = search needs
-
-need-for-requires : tie.Need-need-for-requires
-need-for-requires c κs = search needs
-
-put-if-room-requires : tie.Need-put-if-room-requires
-put-if-room-requires c κs =
-    let s = c .before .before .before .before .before .before .before .before .before in
-    let a = s .args in
-    let len = length-span (a .bytes .now) (a .len) in
-    let span = spanOf (a .bytes .now) (a .len) in
-    let e = c .before .before .before .before .most .ensures ∙ ap (λ (x : ℕ). max x (a .offset + a .len)) (s .pre .0 .says) in (
-      s .pre .0 .judgment,
-      (
-        s .pre .0 .opened,
-        (
-          c .before .before .before .need-for .ensures,
-          ((s .pre .0 .file, s .pre .0 .short, omega (arith, s .pre .0 .fits, s .pre .0 .short, c .before .before .before .before .before .if1 .left), s .pre .1), e),
-        ),
-      ),
-    )
-
-same-length : tie.Need-same-length
-same-length c = search needs
-
-returns-2 : tie.Need-returns-2
-returns-2 c =
-    let s = c .before .before .before .before .before .before .before .before .before .before .before .before in
-    let a = s .args in
-    let len = length-span (a .bytes .now) (a .len) in
-    let span = spanOf (a .bytes .now) (a .len) in
-    let w = c .before .before .before .before .before .before .need-for .ensures .0 in
-    let e = c .before .before .before .before .before .before .before .most .ensures ∙ ap (λ (x : ℕ). max x (a .offset + a .len)) (s .pre .0 .says) in
-    file-room (a .img .now) (s .pre .0 .judgment) (a .list .now) (a .i .0) (a .offset) span (a .time) (a .size) (s .pre .0 .says)
-    (c .before .before .before .before .before .before .before .before .if1 .left) (c .before .before .before .before .before .before .before .most .result)
-    (e ∙ ap (λ (x : ℕ). sizeAfter (catalogueOf (view (a .img .now))) (a .i .0) (a .offset) x) (sym len))
-    (rw (← w .has-one, c .before .before .before .before .if3 .taken)
-    (and-false (grows (catalogueOf (view (a .img .now))) (a .i .0) (c .before .before .before .before .before .before .before .most .result)))) (c .before .before .put-if-room .ensures)
-
 refusal-requires-2 : tie.Need-refusal-requires-2
 refusal-requires-2 c κs = search needs
 
 refused-requires-2 : tie.Need-refused-requires-2
 refused-requires-2 c κs = search needs
 
-returns-3 : tie.Need-returns-3
-returns-3 c =
-    let s = c .before .before .before .before .before .before .before .before .before .before in
+returns-2 : tie.Need-returns-2
+returns-2 c =
+    let s = c .before .before .before .before .before .before .before in
     let a = s .args in
     let len = length-span (a .bytes .now) (a .len) in
     let span = spanOf (a .bytes .now) (a .len) in
-    let w = c .before .before .before .before .need-for .ensures .0 in
-    let e = c .before .before .before .before .before .most .ensures ∙ ap (λ (x : ℕ). max x (a .offset + a .len)) (s .pre .0 .says) in
     rw (c .refused2 .ensures, c .before .refusal2 .ensures)
-    (file-13 (a .img .now) (s .pre .0 .judgment) (a .list .now) (a .i .0) (a .offset) span (a .time) (a .size) (s .pre .0 .says) (c .before .before .before .before .before .before .if1 .left)
-    (c .before .before .before .before .before .most .result) (e ∙ ap (λ (x : ℕ). sizeAfter (catalogueOf (view (a .img .now))) (a .i .0) (a .offset) x) (sym len))
-    (sym (w .needs-one) ∙ c .before .before .before .if2 .taken) (sym (w .has-one) ∙ c .before .before .if3 .left))
+    (file-none (a .img .now) (s .pre .0 .judgment) (a .list .now) (a .i .0) (a .offset) span (a .time) (a .size) (s .pre .0 .says) (a .g) (s .pre .0 .opened)
+    (c .before .before .before .if1 .left) (len ∙ c .before .before .if2 .taken))
 
-put-if-room-requires-2 : tie.Need-put-if-room-requires-2
-put-if-room-requires-2 c κs =
-    let s = c .before .before .before .before .before .before .before .before in
-    let a = s .args in
-    let len = length-span (a .bytes .now) (a .len) in
-    let span = spanOf (a .bytes .now) (a .len) in
-    let e = c .before .before .before .most .ensures ∙ ap (λ (x : ℕ). max x (a .offset + a .len)) (s .pre .0 .says) in (
-      s .pre .0 .judgment,
-      (
-        s .pre .0 .opened,
-        (
-          c .before .before .need-for .ensures,
-          ((s .pre .0 .file, s .pre .0 .short, omega (arith, s .pre .0 .fits, s .pre .0 .short, c .before .before .before .before .if1 .left), s .pre .1), e),
-        ),
-      ),
-    )
+slice-aggregate-staging : tie.Need-slice-aggregate-staging
+slice-aggregate-staging c = search needs
 
-same-length-2 : tie.Need-same-length-2
-same-length-2 c = search needs
+staging-requires : tie.Need-staging-requires
+staging-requires c κs = (c .before .before .before .before .before .before .pre .0 .opened, refl)
+
+slice-aggregate-write-staged : tie.Need-slice-aggregate-write-staged
+slice-aggregate-write-staged c = search needs
+
+write-staged-requires : tie.Need-write-staged-requires
+write-staged-requires c κs =
+    let s = c .before .before .before .before .before .before .before .before .before .before .before in
+    let taken = c .before .before .if3 .taken in
+    let there = c .before .before .before .before .staging .ensures .0 ∙ ap not taken in
+    (c .before .before .before .before .staging .ensures .1 taken, ((there, omega (arith, c .before .before .before .before .before .before .if2 .left), c .before .before .before .before .before .before .before .if1 .left), (s .pre .0, s .pre .1)))
+
+same-length : tie.Need-same-length
+same-length c = search needs
+
+returns-3 : tie.Need-returns-3
+returns-3 c = c .before .before .write-staged .ensures
+
+refusal-requires-3 : tie.Need-refusal-requires-3
+refusal-requires-3 c κs = search needs
+
+refused-requires-3 : tie.Need-refused-requires-3
+refused-requires-3 c κs = search needs
 
 returns-4 : tie.Need-returns-4
 returns-4 c =
@@ -117,12 +74,9 @@ returns-4 c =
     let a = s .args in
     let len = length-span (a .bytes .now) (a .len) in
     let span = spanOf (a .bytes .now) (a .len) in
-    let w = c .before .before .before .before .before .need-for .ensures .0 in
-    let e = c .before .before .before .before .before .before .most .ensures ∙ ap (λ (x : ℕ). max x (a .offset + a .len)) (s .pre .0 .says) in
-    file-room (a .img .now) (s .pre .0 .judgment) (a .list .now) (a .i .0) (a .offset) span (a .time) (a .size) (s .pre .0 .says)
-    (c .before .before .before .before .before .before .before .if1 .left) (c .before .before .before .before .before .before .most .result)
-    (e ∙ ap (λ (x : ℕ). sizeAfter (catalogueOf (view (a .img .now))) (a .i .0) (a .offset) x) (sym len))
-    (rw (← w .needs-one, c .before .before .before .before .if2 .left)) (c .before .before .put-if-room2 .ensures)
+    rw (c .refused3 .ensures, c .before .refusal3 .ensures)
+    (file-full (a .img .now) (s .pre .0 .judgment) (a .list .now) (a .i .0) (a .offset) span (a .time) (a .size) (s .pre .0 .says)
+    (c .before .before .before .before .before .before .before .if1 .left) (λ e. c .before .before .before .before .before .before .if2 .left (sym len ∙ e)) (c .before .before .before .before .staging .ensures .0 ∙ ap not (c .before .before .if3 .left)))
 
 pub write-file-spec : {M : Type 1} → statement M
 write-file-spec =
@@ -131,15 +85,15 @@ write-file-spec =
     refusal-requires
     refused-requires
     returns
-    add-most
-    most-requires
-    need-for-requires
-    put-if-room-requires
-    same-length
-    returns-2
     refusal-requires-2
     refused-requires-2
+    returns-2
+    slice-aggregate-staging
+    staging-requires
+    slice-aggregate-write-staged
+    write-staged-requires
+    same-length
     returns-3
-    put-if-room-requires-2
-    same-length-2
+    refusal-requires-3
+    refused-requires-3
     returns-4)

@@ -264,7 +264,7 @@ fn versions_at_their_end() {
     });
 }
 
-/// No usable extent is free, though the reserve is.
+/// No extent is free but the one that must stay free.
 #[test]
 fn no_room() {
     on_both(|edition| {

@@ -141,7 +141,7 @@ fn times_around_32_bits() {
     });
 }
 
-/// No usable extent is free, and no entry: 8 for the time goes before 13 and 11.
+/// No extent can be taken, and no entry: 8 for the time goes before 13 and 11.
 #[test]
 fn wide_times_on_a_full_volume() {
     on_both(|edition| {

@@ -148,11 +148,12 @@ fn every_fault() {
         expect(entry_field(0, 14), &id(1_023), (24, 1_023));
         expect(entry_field(500, 14), &900_u64.to_be_bytes(), (24, 500));
         let table = |extent| table_entry(geometry(), extent);
-        for extent in [0, 127, 128, 65_529] {
+        for extent in [0, 127, 128, 65_529, 65_530, 65_534] {
             expect(table(extent), &[4, 0], (25, extent));
         }
+        // The last extents may belong to a file as any other; this one has no such offset.
         for extent in [65_530, 65_534] {
-            expect(table(extent), &[0, 0], (25, extent));
+            expect(table(extent), &[0, 0], (26, 0));
         }
         let owner = |image: &[u8], extent| {
             u64::from(u16::from_be_bytes([
@@ -181,9 +182,14 @@ pub fn one_file(edition: Edition) -> Vec<u8> {
     let geometry = geometry();
     let mut image = blank_of(edition, geometry, geometry.end().0);
     let extents: Vec<u64> = (0..geometry.usable_extents()).rev().collect();
-    let size = geometry.largest_size();
+    let size = size_of_all();
     put_file(&mut image, geometry, 1_023, b"all", size, &extents);
     image
+}
+
+/// The size of a file with all usable extents.
+pub fn size_of_all() -> u64 {
+    geometry().usable_extents() * geometry().extent_bytes()
 }
 
 #[test]
@@ -191,7 +197,7 @@ fn one_file_with_everything() {
     on_both(|edition| {
         let _alone = alone();
         let geometry = geometry();
-        let size = geometry.largest_size();
+        let size = size_of_all();
         let mut image = one_file(edition);
         assert_eq!(alike(&Request::Check, &image, Lent::NONE).0.code(), 0);
         let mut draw = Draw::new(42);

@@ -2,6 +2,7 @@
 //! one extent, every number of files, images of exactly the volume and one sector less.
 
 use crate::counts::{count, Compared};
+use crate::full_volume::alone;
 use crate::shared::{alike, calls, on_both, output, with_each_buffer, Both};
 use oracle::draw::Draw;
 use oracle::layout::{put16, put64, Edition, Geometry, SECTOR};
@@ -13,10 +14,16 @@ use oracle::testing::volumes::ANY;
 use oracle::testing::{Filled, Subject};
 use oracle::{Lent, Request};
 
-/// Fills a volume with files of random lengths in random extents, as many as there are.
-fn fill(image: &mut [u8], geometry: Geometry, draw: &mut Draw) -> Vec<(Vec<u8>, u64)> {
+/// Fills a volume with files of random lengths in random extents of the first so many, as many as there
+/// are. Gives the files and what is left of these extents.
+fn fill(
+    image: &mut [u8],
+    geometry: Geometry,
+    extents: u64,
+    draw: &mut Draw,
+) -> (Vec<(Vec<u8>, u64)>, Vec<u64>) {
     let extent_bytes = geometry.extent_bytes();
-    let mut free: Vec<u64> = (0..geometry.usable_extents()).collect();
+    let mut free: Vec<u64> = (0..extents).collect();
     for at in (1..free.len()).rev() {
         free.swap(at, draw.below(at as u64 + 1) as usize);
     }
@@ -40,7 +47,7 @@ fn fill(image: &mut [u8], geometry: Geometry, draw: &mut Draw) -> Vec<(Vec<u8>, 
         files.push((name, size));
         index += draw.between(1, geometry.files() / 12);
     }
-    files
+    (files, free)
 }
 
 /// Every reading call on the files, with spans around the extents' edges.
@@ -132,7 +139,7 @@ fn land_a_part(image: &mut [u8], list: &[u8], draw: &mut Draw) {
     cut.apply(&groups, image);
 }
 
-/// An owner in the first reserve extent, a size at its bound and above it, the last entry.
+/// An owner in the extents around the first of the last K, a size at its bound and above it, the last entry.
 fn edges_alike(image: &mut [u8], geometry: Geometry) {
     let usable = geometry.usable_extents();
     let mut try_field = |at: usize, width: usize, number: u64| {
@@ -172,7 +179,7 @@ fn one_geometry(
     let mut image = blank_of(edition, geometry, geometry.end().0);
     let empty = [(b"none".to_vec(), 0)];
     all_alike(&image, geometry, &empty, &mut draw);
-    let files = fill(&mut image, geometry, &mut draw);
+    let (files, _) = fill(&mut image, geometry, geometry.usable_extents(), &mut draw);
     all_alike(&image, geometry, &files, &mut draw);
     changes_alike(&image, geometry, &files, &mut draw);
     edges_alike(&mut image, geometry);
@@ -225,6 +232,49 @@ fn reserves_of_several_extents() {
         one_geometry(edition, (1_024, 253 * 128, 128), 2, 5);
         one_geometry(edition, (1_024, 253 * 128 + 1, 128), 3, 6);
     });
+}
+
+/// Other writers' volumes: files in any extents, the last ones too, and so many left free.
+#[test]
+fn foreign_volumes() {
+    on_both(|edition| {
+        let _alone = alone();
+        for (seed, (files, extents, extent_sectors, reserve)) in [
+            (255, 40, 131, 1),
+            (300, 257, 128, 1),
+            (255, 125 * 128 + 1, 128, 2),
+            (300, 126 * 128 + 1, 129, 2),
+            (1_024, 253 * 128 + 1, 128, 3),
+        ]
+        .into_iter()
+        .enumerate()
+        {
+            let geometry = Geometry::new(files, extents, extent_sectors).expect("in the bounds");
+            assert_eq!(geometry.reserve_extents(), reserve);
+            for left in [0, reserve - 1, reserve, reserve + 1, reserve + 5] {
+                one_foreign_volume(edition, geometry, left, seed as u64);
+            }
+        }
+    });
+}
+
+fn one_foreign_volume(edition: Edition, geometry: Geometry, left: u64, seed: u64) {
+    let mut draw = Draw::new(seed);
+    let mut image = blank_of(edition, geometry, geometry.end().0);
+    let (files, mut free) = fill(&mut image, geometry, geometry.extents(), &mut draw);
+    // One more file has all that are not to be left.
+    let rest = free.split_off((left as usize).min(free.len()));
+    let (last, size) = (
+        geometry.files() - 1,
+        rest.len() as u64 * geometry.extent_bytes(),
+    );
+    put_file(&mut image, geometry, last, b"rest", size, &rest);
+    all_alike(&image, geometry, &files, &mut draw);
+    changes_alike(&image, geometry, &files, &mut draw);
+    edges_alike(&mut image, geometry);
+    if free.len() as u64 >= geometry.reserve_extents() {
+        cut_changes_alike(&mut image, &files, &mut draw);
+    }
 }
 
 /// Volumes far longer than any image are refused, and no product overflows.

@@ -2,7 +2,7 @@
 //! with 515, with their cuts and recoveries, on an image of 4.3 GB; and renames that need the whole
 //! reserve.
 
-use crate::full_volume::{alone, geometry, one_file};
+use crate::full_volume::{alone, geometry, one_file, size_of_all};
 use crate::shared::{alike, on_both, only_list, Both};
 use oracle::layout::{Edition, Geometry, SECTOR};
 use oracle::lists::RECORD;
@@ -18,7 +18,7 @@ fn longest_delete() {
         let _alone = alone();
         let geometry = geometry();
         let mut image = one_file(edition);
-        let size = geometry.largest_size();
+        let size = size_of_all();
 
         let request = delete(b"all");
         let length = 1_051 * RECORD;
@@ -54,7 +54,7 @@ fn longest_delete() {
 }
 
 /// The power fails in the middle of the targets; recovery ends the change.
-fn cut_and_recovered(image: &mut [u8], geometry: Geometry, list: &[u8], targets: usize) {
+pub fn cut_and_recovered(image: &mut [u8], geometry: Geometry, list: &[u8], targets: usize) {
     let groups = groups(list);
     let every_third = Cut {
         groups_before: 2,
@@ -125,7 +125,7 @@ fn longest_rename() {
 fn two_files(edition: Edition, geometry: Geometry, new: u64, all: u64) -> Vec<u8> {
     let mut image = blank_of(edition, geometry, geometry.end().0);
     let extents: Vec<u64> = (0..geometry.usable_extents()).collect();
-    let size = geometry.largest_size();
+    let size = extents.len() as u64 * geometry.extent_bytes();
     put_file(&mut image, geometry, new, b"new", 0, &[]);
     put_file(&mut image, geometry, all, b"all", size, &extents);
     image

@@ -16,6 +16,7 @@ mod cuts;
 mod damage;
 mod editions;
 mod faults;
+mod foreign;
 mod formats;
 mod full_volume;
 mod geometries;

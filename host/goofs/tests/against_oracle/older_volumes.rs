@@ -1,19 +1,20 @@
-//! Volumes made when the reserve had K = (T + 2) / S extents: where it has one more now, a file that
-//! holds that extent is at fault, 22 if its size exceeds the new bound, else 25.
+//! Volumes made when K was (T + 2) / S: where it is one more now, they are sound all the same. One with
+//! fewer than K extents free can't be changed any more, and is still read.
 
 use crate::counts::{count, Compared};
 use crate::full_volume::alone;
-use crate::shared::{alike, calls, on_both, Both};
-use oracle::layout::{put16, put64, superblock, Geometry, SECTOR};
+use crate::shared::{alike, on_both, Both};
+use oracle::layout::{put16, put64, superblock, Edition, Geometry, SECTOR};
 use oracle::lists::RECORD;
 use oracle::testing::images::{blank_of, put_file};
-use oracle::testing::requests::shortened;
-use oracle::testing::volumes::ANY;
+use oracle::testing::requests::{
+    create, delete, find, list, read, rename, resize, shortened, write,
+};
 use oracle::testing::Subject;
-use oracle::{Answer, Lent, Request};
+use oracle::{Lent, Request};
 
-/// Number of extents, sectors of an extent, and the extents of the reserve before and now. The
-/// first four are the geometries of our own formats with extents of 128 sectors.
+/// Number of extents, sectors of an extent, and K before and now. The first four are the geometries of
+/// our own formats with extents of 128 sectors.
 const GROWN: [(u64, u64, u64, u64); 7] = [
     (126 * 128, 128, 1, 2),
     (254 * 128, 128, 2, 3),
@@ -25,93 +26,118 @@ const GROWN: [(u64, u64, u64, u64); 7] = [
     (255 * 128, 257, 1, 2),
 ];
 
-/// The fault and its place, that every call which judges the volume must tell.
-fn fault_alike(image: &[u8]) -> (u64, u64, u64) {
-    count(Compared::DamagedImages, 1);
-    let (answer, _) = alike(&Request::Check, image, Lent::NONE);
-    let Answer::Check(check) = answer else {
-        panic!("a check's answer");
-    };
-    for request in calls() {
-        let (answer, _) = alike(&request, image, ANY);
-        if check.code != 0 && request != Request::Summary {
-            assert_eq!(answer.code(), check.code, "{}", shortened(&request));
+/// Longer than every list of these volumes.
+const LONG: Lent = Lent::both(1_053 * RECORD);
+
+/// Asks calls of every kind. Each with a target gives the first number, each that takes an extent the
+/// second; the others are done.
+fn calls_alike(image: &[u8], with_target: u64, with_extent: u64) {
+    let size = oracle::find(image, b"old").size;
+    for (expected, request) in [
+        (0, Request::Summary),
+        (0, Request::Check),
+        (0, find(b"old")),
+        (with_target, create(b"new", 77)),
+        (with_target, delete(b"old")),
+        (with_target, delete(b"ab")),
+        (with_target, resize(b"old", 0)),
+        (with_target, resize(b"old", size - 1)),
+        (0, resize(b"old", size)),
+        (with_extent, resize(b"ab", 1)),
+        (with_target, write(b"old", 0, vec![1; 600])),
+        (with_extent, write(b"ab", 0, vec![1])),
+        (0, write(b"ab", 0, Vec::new())),
+        (with_target, rename(b"old", b"new")),
+        (with_target, rename(b"ab", b"old")),
+        (0, rename(b"ab", b"ab")),
+        (0, read(b"old", size - 1, 600)),
+        (0, list(3)),
+    ] {
+        let (answer, filled) = alike(&request, image, LONG);
+        assert_eq!(answer.code(), expected, "{}", shortened(&request));
+        if with_target == 13 {
+            assert!(filled.list.is_empty(), "{}", shortened(&request));
         }
     }
     assert_eq!(Both.recover(image, 0).0.code, 0);
-    (check.code, check.fault, check.place)
+    assert_eq!(Both.repair(image, 0).0.code, 0);
 }
 
+/// "old" has these extents, "ab" is empty.
+fn older(edition: Edition, geometry: Geometry, extents: &[u64], short_by: u64) -> Vec<u8> {
+    let mut image = blank_of(edition, geometry, geometry.end().0);
+    let size = extents.len() as u64 * geometry.extent_bytes() - short_by;
+    put_file(&mut image, geometry, 7, b"old", size, extents);
+    put_file(&mut image, geometry, 3, b"ab", 0, &[]);
+    image
+}
+
+/// All extents that a file could have before; all but one; and the last of them alone.
 #[test]
-fn files_in_the_new_reserve() {
+fn full_then_and_now() {
     on_both(|edition| {
         let _alone = alone();
         for (extents, extent_sectors, before, now) in GROWN {
             let geometry = Geometry::new(255, extents, extent_sectors).expect("within the bounds");
             assert_eq!(geometry.reserve_extents(), now);
             assert_eq!(now, before + 1);
-            let newly_reserved = extents - now;
-            let extent_bytes = 512 * extent_sectors;
-            let bound = newly_reserved * extent_bytes;
-            let all: Vec<u64> = (0..=newly_reserved).collect();
-            for (size, extents, expected) in [
-                // That extent alone; with all others but one, in either order; with all others.
-                (1, &all[newly_reserved as usize..], (7, 25, newly_reserved)),
-                (bound, &all[1..], (7, 25, newly_reserved)),
-                (bound - extent_bytes + 1, &all[1..], (7, 25, newly_reserved)),
-                (bound + 1, &all[..], (7, 22, 7)),
-                (bound + extent_bytes, &all[..], (7, 22, 7)),
-                // All that are usable now.
-                (bound, &all[..newly_reserved as usize], (0, 0, 0)),
-            ] {
-                let mut image = blank_of(edition, geometry, geometry.end().0);
-                put_file(&mut image, geometry, 7, b"old", size, extents);
-                put_file(&mut image, geometry, 3, b"ab", 0, &[]);
-                assert_eq!(fault_alike(&image), expected, "{geometry:?}, size {size}");
+            let all: Vec<u64> = (0..extents - before).collect();
+            let last = all.len() - 1;
+            for short_by in [0, geometry.extent_bytes() - 1] {
+                let image = |held: &[u64]| older(edition, geometry, held, short_by);
+                calls_alike(&image(&all), 13, 13);
+                calls_alike(&image(&all[1..]), 0, 13);
+                calls_alike(&image(&all[..last]), 0, 13);
+                calls_alike(&image(&all[2..]), 0, 0);
+                calls_alike(&image(&all[last..]), 0, 0);
             }
         }
     });
 }
 
-/// Two files, of which one holds the extent and the other all that are usable now.
+/// Two files, of which one holds the extent that no file could get now.
 #[test]
 fn beside_another_file() {
     on_both(|edition| {
         let _alone = alone();
         let geometry = Geometry::new(255, 16_128, 128).expect("within the bounds");
-        let usable: Vec<u64> = (0..16_126).collect();
-        let mut image = blank_of(edition, geometry, geometry.end().0);
-        let size = 16_126 * 65_536;
-        put_file(&mut image, geometry, 0, b"all", size, &usable);
+        let others: Vec<u64> = (0..16_126).collect();
+        let mut image = older(edition, geometry, &others, 0);
+        calls_alike(&image, 0, 13);
         put_file(&mut image, geometry, 254, b"one", 65_536, &[16_126]);
-        assert_eq!(fault_alike(&image), (7, 25, 16_126));
-        // Of a size that no volume of this length could hold: 22 goes first.
-        put64(&mut image, 2 * SECTOR + 2, size + 1);
-        assert_eq!(fault_alike(&image), (7, 22, 0));
+        calls_alike(&image, 13, 13);
+        // The largest size that a volume of this length could hold, and one byte more: 22.
+        put64(&mut image, 9 * SECTOR + 2, 16_128 * 65_536);
+        assert_eq!(fault_alike(&image), (26, 7));
+        put64(&mut image, 9 * SECTOR + 2, 16_128 * 65_536 + 1);
+        assert_eq!(fault_alike(&image), (22, 7));
     });
 }
 
-/// Where T + 2 is no multiple of S nothing moved: the last extent that was usable still is.
+fn fault_alike(image: &[u8]) -> (u64, u64) {
+    count(Compared::DamagedImages, 1);
+    let (answer, _) = alike(&Request::Check, image, Lent::NONE);
+    assert_eq!(answer.code(), 7);
+    let told = oracle::check(image);
+    (told.fault, told.place)
+}
+
+/// A file in the last extent is as sound as in any other, whether K grew or not.
 #[test]
-fn reserves_that_did_not_grow() {
+fn files_in_the_last_extent() {
     on_both(|edition| {
         let _alone = alone();
-        for (extents, extent_sectors, reserve) in [
-            (4, 128, 1),
-            (125 * 128, 128, 1),
-            (126 * 128 + 1, 128, 2),
-            (126 * 128, 129, 1),
-            (65_535, 128, 5),
+        for (extents, extent_sectors) in [
+            (4, 128),
+            (125 * 128, 128),
+            (126 * 128, 128),
+            (126 * 128 + 1, 128),
+            (126 * 128, 129),
+            (65_535, 128),
         ] {
             let geometry = Geometry::new(255, extents, extent_sectors).expect("within the bounds");
-            let table_sectors = extents.div_ceil(128);
-            assert_eq!((table_sectors + 2).div_ceil(extent_sectors), reserve);
-            assert_eq!(geometry.reserve_extents(), reserve);
-            let last = extents - reserve - 1;
-            for (extent, expected) in [(last, (0, 0, 0)), (last + 1, (7, 25, last + 1))] {
-                let mut image = blank_of(edition, geometry, geometry.end().0);
-                put_file(&mut image, geometry, 7, b"old", 1, &[extent]);
-                assert_eq!(fault_alike(&image), expected);
+            for extent in [geometry.usable_extents() - 1, extents - 1] {
+                calls_alike(&older(edition, geometry, &[extent], 0), 0, 0);
             }
         }
     });

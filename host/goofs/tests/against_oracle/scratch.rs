@@ -104,7 +104,8 @@ fn with_the_largest_directory_and_table() {
         let name_at = edition.name();
         expect(entry_field(65_534, name_at), b"file 00000", (23, 65_534));
         expect(entry_field(9, 14), &[0; 8], (24, 9));
-        expect(table_entry(geometry, 65_534), &[0, 0], (25, 65_534));
+        // Every number below 65,535 is a file's.
+        expect(table_entry(geometry, 65_534), &[0, 0], (26, 0));
         expect(table_entry(geometry, 0) + 2, &[0, 1], (26, usable - 1));
     });
 }

@@ -344,25 +344,7 @@ pub fn only_list(length: usize) -> Lent {
 /// Puts a call with long buffers, exact ones, either of them a byte too short, and none. Gives the
 /// code and the lengths that were filled.
 pub fn with_each_buffer(request: &Request, image: &[u8]) -> (u64, Lent) {
-    let (answer, filled) = alike(request, image, ANY);
-    alike(request, image, Lent::NONE);
-    let exact = Lent {
-        output: filled.output.len(),
-        list: filled.list.len(),
-    };
-    if answer.code() == code::DONE {
-        assert!(alike(request, image, exact) == (answer, filled));
-        let short_output = exact
-            .output
-            .checked_sub(1)
-            .map(|output| Lent { output, ..exact });
-        let short_list = exact.list.checked_sub(1).map(|list| Lent { list, ..exact });
-        for short in [short_output, short_list].into_iter().flatten() {
-            let (refused, _) = alike(request, image, short);
-            assert_eq!(refused.code(), code::BUFFER_TOO_SHORT);
-        }
-    }
-    (answer.code(), exact)
+    oracle::testing::with_each_buffer(&Both, request, image)
 }
 
 /// Calls of every kind on `some_files`; none is refused there.

@@ -1,7 +1,8 @@
 //! A write list held against the rules of its four groups, and its contents against the ledger
 //! before and after the call. It asks nothing of the code that made the list.
 
-use crate::layout::{get64, put16, put32, put64, Extent, Geometry, SECTOR};
+use super::images::table_entry;
+use crate::layout::{get16, get64, put16, put32, put64, Extent, Geometry, SECTOR};
 use crate::ledger::{File, Ledger};
 use crate::lists::{BARRIER, RECORD};
 use crate::power::{groups, Group, Record};
@@ -42,7 +43,7 @@ pub fn audit_groups(
     let journal_sectors = targets.len().div_ceil(32);
     let (data, staged) = groups[0].split_at(groups[0].len() - targets.len() - journal_sectors);
     let (copies, journal) = staged.split_at(targets.len());
-    audit_staging(geometry, copies, journal, targets);
+    audit_staging(geometry, image, copies, journal, targets);
     (data.len(), target_sectors(targets))
 }
 
@@ -68,11 +69,31 @@ fn audit_superblock(group: &Group, image: &[u8], journal_length: u16) {
     assert_eq!((group[0].sector, group[0].contents), (0, &expected[..]));
 }
 
-/// The k-th copy stands in the k-th reserve sector, and the journal names the copy first.
-fn audit_staging(geometry: Geometry, copies: &[Record], journal: &[Record], targets: &Group) {
+/// The sectors of the K highest extents that are free in the image's table, in rising order.
+pub fn staging_sectors(geometry: Geometry, image: &[u8]) -> Vec<u64> {
+    let is_free = |extent: &u64| get16(image, table_entry(geometry, *extent)) == 65_535;
+    let highest = (0..geometry.extents()).rev().filter(is_free);
+    let mut extents: Vec<u64> = highest.take(geometry.reserve_extents() as usize).collect();
+    extents.reverse();
+    let sectors = extents.into_iter().flat_map(|extent| {
+        let start = geometry.extent_at(Extent(extent)).0;
+        start..start + geometry.extent_sectors()
+    });
+    sectors.collect()
+}
+
+/// The k-th copy stands in the k-th staging sector, and the journal names the copy first.
+fn audit_staging(
+    geometry: Geometry,
+    image: &[u8],
+    copies: &[Record],
+    journal: &[Record],
+    targets: &Group,
+) {
+    let staging = staging_sectors(geometry, image);
     let mut expected_journal = vec![0; journal.len() * SECTOR];
     for (k, (copy, target)) in copies.iter().zip(targets).enumerate() {
-        assert_eq!(copy.sector, geometry.reserve_at().0 + k as u64);
+        assert_eq!(copy.sector, staging[k]);
         assert_eq!(copy.contents, target.contents);
         put64(&mut expected_journal, 16 * k, copy.sector);
         put64(&mut expected_journal, 16 * k + 8, target.sector);

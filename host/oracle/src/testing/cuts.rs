@@ -2,6 +2,7 @@
 //! recovery. Large groups are cut by all prefixes, all singles, all but one, and some random subsets.
 
 use super::audit::audit;
+use super::foreign::{calls_with_lists, foreign_volume};
 use super::requests::{create, delete, list, read, rename, resize, write};
 use super::slices::{differing, expected_slice};
 use super::volumes::{format_list, sample_of, Volume, ANY};
@@ -27,7 +28,7 @@ pub fn two_files(edition: Edition) -> Volume {
 }
 
 /// Each kind of call on `two_files`, with lists of every shape.
-fn calls_with_lists(draw: &mut Draw) -> Vec<Request> {
+fn calls_on_two_files(draw: &mut Draw) -> Vec<Request> {
     vec![
         create(b"gamma", 3),
         delete(b"alpha"),
@@ -61,7 +62,7 @@ fn calls_with_lists(draw: &mut Draw) -> Vec<Request> {
 /// Cuts each kind of call on the sample everywhere.
 pub fn cut_each_kind_of_call(subject: &dyn Subject, edition: Edition) -> Counts {
     let mut draw = Draw::new(12);
-    let requests = calls_with_lists(&mut draw);
+    let requests = calls_on_two_files(&mut draw);
     cut_everywhere(subject, &two_files(edition), &requests, &mut draw)
 }
 
@@ -83,6 +84,44 @@ pub fn cut_over_two_table_sectors(subject: &dyn Subject, edition: Edition) -> Co
         rename(b"new", b"all"),
     ];
     cut_everywhere(subject, &volume, &requests, &mut Draw::new(14))
+}
+
+/// Another writer's volume of six extents: the files have the first, the third and the last. Copies
+/// are staged in the fifth.
+pub fn foreign_files(edition: Edition) -> Volume {
+    let format = FormatRequest {
+        sectors: 546 + 255 + 6 * 128,
+        ..sample_of(edition)
+    };
+    let mut volume = Volume::formatted(&Oracle, &format);
+    volume.put_file(3, b"alpha", 70_000, &[5, 2]);
+    volume.put_file(7, b"be ta", 9, &[0]);
+    volume.compare();
+    volume
+}
+
+/// Cuts calls on another writer's volume everywhere.
+pub fn cut_on_a_foreign_volume(subject: &dyn Subject, edition: Edition) -> Counts {
+    let mut draw = Draw::new(15);
+    let requests = [
+        create(b"gamma", 3),
+        delete(b"alpha"),
+        write(b"alpha", 69_000, draw.bytes(65_000)),
+        write(b"be ta", 0, draw.bytes(5)),
+        resize(b"alpha", 1),
+        rename(b"be ta", b"alpha"),
+        read(b"be ta", 1, 3),
+        list(3),
+    ];
+    let volume = foreign_files(edition);
+    cut_everywhere(subject, &volume, &requests, &mut draw)
+}
+
+/// Cuts everywhere the calls of another writer's volume with these free extents.
+pub fn cut_with_free_extents(subject: &dyn Subject, edition: Edition, free: &[u64]) -> Counts {
+    let volume = foreign_volume(edition, free);
+    let requests = calls_with_lists(&volume);
+    cut_everywhere(subject, &volume, &requests, &mut Draw::new(16))
 }
 
 /// Cuts each of the calls everywhere; some cuts leave it undone, some done.

@@ -3,6 +3,7 @@
 
 use std::collections::BTreeMap;
 
+use super::foreign::foreign_volume;
 use super::images::edition_of;
 use super::volumes::some_files_of;
 use crate::answers::CheckAnswer;
@@ -49,7 +50,7 @@ pub type Spoil = fn(&mut [u8]);
 
 /// Each spoils `some_files` of either edition, and beside it stands the fault with its place; (0, 0)
 /// for none.
-pub const FAULTS: [((u64, u64), Spoil); 37] = [
+pub const FAULTS: [((u64, u64), Spoil); 39] = [
     // Also an entry that was free.
     ((21, 254), |image| put16(image, entry_field(254, 0), 1)),
     ((21, 0), |image| put16(image, entry_field(0, 0), 65_534)),
@@ -70,10 +71,10 @@ pub const FAULTS: [((u64, u64), Spoil); 37] = [
     ((22, 0), |image| image[name_field(image, 0, 0)] = 0),
     ((22, 2), |image| image[name_field(image, 2, 2)] = 0),
     ((22, 2), |image| {
-        put64(image, entry_field(2, 2), 5 * 65_536 + 1)
+        put64(image, entry_field(2, 2), 6 * 65_536 + 1)
     }),
     ((22, 2), |image| put64(image, entry_field(2, 2), u64::MAX)),
-    ((26, 2), |image| put64(image, entry_field(2, 2), 5 * 65_536)),
+    ((26, 2), |image| put64(image, entry_field(2, 2), 6 * 65_536)),
     ((0, 0), |image| {
         image[entry_field(3, 2)..entry_field(4, 0)].fill(0)
     }),
@@ -94,11 +95,18 @@ pub const FAULTS: [((u64, u64), Spoil); 37] = [
         put64(image, entry_field(3, 14), 1);
         put64(image, SECTOR + 4, 0);
     }),
-    // A free file, no file, the reserve; a free extent's offset and the padding are not judged.
+    // A free file, no file; a free extent's offset and the padding are not judged, and the last
+    // extent may be taken as any other.
     ((25, 4), |image| put16(image, table_field(4, 0), 3)),
     ((25, 0), |image| put16(image, table_field(0, 0), 255)),
     ((25, 0), |image| put16(image, table_field(0, 0), 65_534)),
-    ((25, 5), |image| put16(image, table_field(5, 0), 4)),
+    ((25, 5), |image| put16(image, table_field(5, 0), 3)),
+    ((26, 4), |image| put16(image, table_field(5, 0), 4)),
+    ((0, 0), |image| {
+        put16(image, table_field(5, 0), 4);
+        put16(image, table_field(5, 2), 0);
+        put64(image, entry_field(4, 2), 1);
+    }),
     ((0, 0), |image| put16(image, table_field(5, 2), 4)),
     ((0, 0), |image| {
         image[table_field(6, 0)..table_field(128, 0)].fill(0)
@@ -115,15 +123,19 @@ pub const FAULTS: [((u64, u64), Spoil); 37] = [
     ((26, 0), |image| put16(image, table_field(0, 0), 0)),
 ];
 
-/// Spoils up to three fields of `some_files`, of both editions in turn, so often, each time anew, and
-/// has the image judged. Makes sure that every fault and state was met many times.
+/// Spoils up to three fields of `some_files` and of other writers' volumes, of both editions in turn, so
+/// often, each time anew, and has the image judged. Makes sure that every fault and state was met many
+/// times.
 pub fn spoil_fields(rounds: usize, judge: fn(&[u8]) -> CheckAnswer) {
-    let sound = Edition::BOTH.map(|edition| some_files_of(edition).image);
+    let own = Edition::BOTH.map(|edition| some_files_of(edition).image);
+    let full = foreign_volume(Edition::First, &[]).image;
+    let scattered = foreign_volume(Edition::Second, &[1, 3]).image;
+    let sound = [own, [full, scattered]].concat();
     let mut image = sound[0].clone();
     let mut draw = Draw::new(21);
     let mut seen = BTreeMap::new();
     for round in 0..rounds {
-        image[..METADATA].copy_from_slice(&sound[round % 2][..METADATA]);
+        image[..METADATA].copy_from_slice(&sound[round % sound.len()][..METADATA]);
         for _ in 0..draw.between(1, 3) {
             spoil_a_field(&mut image, &mut draw);
         }
@@ -137,7 +149,7 @@ pub fn spoil_fields(rounds: usize, judge: fn(&[u8]) -> CheckAnswer) {
     }
 }
 
-/// Changes one field of `some_files`, mostly to a value that is an edge of some rule.
+/// Changes one field of a volume of six extents, mostly to a value that is an edge of some rule.
 fn spoil_a_field(image: &mut [u8], draw: &mut Draw) {
     let index = *draw.pick(&[0, 1, 2, 3, 4, 5, 6, 254]);
     let other = draw.below(8);

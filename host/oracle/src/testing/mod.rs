@@ -7,6 +7,7 @@ pub mod buffers;
 pub mod cases;
 pub mod cuts;
 pub mod damage;
+pub mod foreign;
 pub mod images;
 pub mod records;
 pub mod repairs;
@@ -22,6 +23,7 @@ use crate::request::{Answer, Lent, Request};
 use crate::sorted_check::scratch_length;
 use crate::FormatRequest;
 use buffers::{LentBuffer, LentScratch};
+use volumes::ANY;
 
 /// The bytes that a call put at the start of its lent buffers.
 #[derive(Clone, Debug, Default, PartialEq, Eq)]
@@ -139,6 +141,30 @@ pub fn checks_alike(subject: &dyn Subject, image: &[u8]) -> CheckAnswer {
     plain
 }
 
+/// Puts a call with long buffers, exact ones, either of them a byte too short, and none. Gives the
+/// code and the lengths that were filled.
+pub fn with_each_buffer(subject: &dyn Subject, request: &Request, image: &[u8]) -> (u64, Lent) {
+    let (answer, filled) = subject.ask(request, image, ANY);
+    subject.ask(request, image, Lent::NONE);
+    let exact = Lent {
+        output: filled.output.len(),
+        list: filled.list.len(),
+    };
+    if answer.code() == code::DONE {
+        assert!(subject.ask(request, image, exact) == (answer, filled));
+        let short_output = exact
+            .output
+            .checked_sub(1)
+            .map(|output| Lent { output, ..exact });
+        let short_list = exact.list.checked_sub(1).map(|list| Lent { list, ..exact });
+        for short in [short_output, short_list].into_iter().flatten() {
+            let (refused, _) = subject.ask(request, image, short);
+            assert_eq!(refused.code(), code::BUFFER_TOO_SHORT);
+        }
+    }
+    (answer.code(), exact)
+}
+
 /// What runs and cuts went through.
 #[derive(Clone, Debug, Default)]
 pub struct Counts {
@@ -163,6 +189,9 @@ pub struct Counts {
     pub several_table_sectors: usize,
     /// Changes of files whose names nobody can type.
     pub older_names: usize,
+    /// Lists whose copies don't stand in the last extents, and calls without any free extent.
+    pub scattered_copies: usize,
+    pub without_room: usize,
     /// Lists of read and list, which set an access time, and those that were cut.
     pub access_times: usize,
     pub cut_access_times: usize,

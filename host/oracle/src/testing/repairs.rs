@@ -1,7 +1,7 @@
 //! Leaked and damaged volumes, repaired: a slow second reading says the answer and the list, and
 //! what repair promises is looked at on the image.
 
-use super::audit::audit_groups;
+use super::audit::{audit_groups, staging_sectors};
 use super::damage::entry_field;
 use super::images::{blank, put_file, table_entry};
 use super::volumes::ANY_LIST;
@@ -66,10 +66,11 @@ impl Reading<'_> {
         })
     }
 
-    /// The lowest reserve entry that isn't free.
-    fn taken_reserve(&self) -> Option<u64> {
-        let mut reserve = self.geometry.usable_extents()..self.geometry.extents();
-        reserve.find(|extent| self.table(*extent).0 != 65_535)
+    fn free(&self) -> u64 {
+        let extents = 0..self.geometry.extents();
+        extents
+            .filter(|extent| self.table(*extent).0 == 65_535)
+            .count() as u64
     }
 }
 
@@ -85,12 +86,12 @@ pub fn repaired_alike(subject: &dyn Subject, image: &[u8]) -> RepairAnswer {
     let geometry = summary(image).geometry().expect("check found one");
     let reading = Reading { image, geometry };
     let (answer, list) = subject.repair(image, ANY_LIST);
-    if let Some(extent) = reading.taken_reserve() {
-        assert_eq!(answer, Refusal::not_sound(25, extent).into());
+    let freed = reading.freed();
+    if !freed.is_empty() && reading.free() < geometry.reserve_extents() {
+        assert_eq!(answer, Refusal::new(code::NO_ROOM).into());
         assert_eq!(subject.repair(image, 0).0, answer);
         return answer;
     }
-    let freed = reading.freed();
     assert_eq!(
         (answer.code, answer.freed),
         (code::DONE, freed.len() as u64)
@@ -141,8 +142,8 @@ fn freed_sectors(geometry: Geometry, freed: &[u64]) -> Vec<u64> {
     sectors
 }
 
-/// Makes sure that nothing of the volume changed but the freed entries, the journal and the reserve:
-/// so no byte of a file.
+/// Makes sure that nothing of the volume changed but the freed entries, the journal and what copies
+/// are staged in: so no byte of a file.
 fn only_freed(reading: &Reading, freed: &[u64], after: &[u8]) {
     let mut expected = reading.image.to_vec();
     for extent in freed {
@@ -150,18 +151,16 @@ fn only_freed(reading: &Reading, freed: &[u64], after: &[u8]) {
         expected[at..at + 4].fill(255);
     }
     let geometry = reading.geometry;
-    for unfixed in [
-        geometry.journal_at().0..geometry.table_at().0,
-        geometry.reserve_at().0..geometry.end().0,
-    ] {
-        let bytes = unfixed.start as usize * SECTOR..unfixed.end as usize * SECTOR;
+    let journal = geometry.journal_at().0..geometry.table_at().0;
+    for unfixed in journal.chain(staging_sectors(geometry, reading.image)) {
+        let bytes = unfixed as usize * SECTOR..(unfixed as usize + 1) * SECTOR;
         expected[bytes.clone()].copy_from_slice(&after[bytes]);
     }
     assert!(expected == after, "more changed than the freed entries");
 }
 
 /// A volume whose table leaked: owners that are free or no file, offsets at or above the count,
-/// offsets twice; now and then an entry is gone, a reserve entry taken, or a directory entry spoilt.
+/// offsets twice; now and then an entry is gone, no extent is free, or a directory entry spoilt.
 pub fn draw_leaky(draw: &mut Draw) -> Vec<u8> {
     let extents = match draw.below(8) {
         0 => draw.between(129, 140),
@@ -169,8 +168,7 @@ pub fn draw_leaky(draw: &mut Draw) -> Vec<u8> {
     };
     let geometry = Geometry::new(255, extents, 128).expect("within the bounds");
     let mut image = blank(geometry, geometry.end().0);
-    let usable = geometry.usable_extents();
-    let mut left: Vec<u64> = (0..usable).filter(|_| !draw.one_in(3)).collect();
+    let mut left: Vec<u64> = (0..extents).filter(|_| !draw.one_in(3)).collect();
     for index in 0..5 {
         let count = draw.below(4).min(left.len() as u64);
         let extents: Vec<u64> = (0..count)
@@ -187,8 +185,7 @@ pub fn draw_leaky(draw: &mut Draw) -> Vec<u8> {
         );
     }
     for _ in 0..draw.below(8) {
-        let below = if draw.one_in(8) { extents } else { usable };
-        let extent = draw.below(below);
+        let extent = draw.below(extents);
         let at = table_entry(geometry, extent);
         match draw.below(4) {
             0 => put16(
@@ -209,6 +206,14 @@ pub fn draw_leaky(draw: &mut Draw) -> Vec<u8> {
     }
     if draw.one_in(4) {
         spoil_an_entry(&mut image, draw);
+    }
+    if draw.one_in(10) {
+        for extent in 0..extents {
+            let at = table_entry(geometry, extent);
+            if get16(&image, at) == 65_535 {
+                put16(&mut image, at, 200);
+            }
+        }
     }
     image
 }

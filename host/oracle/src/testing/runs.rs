@@ -18,13 +18,13 @@ use crate::draw::Draw;
 use crate::layout::{put32, superblock, Geometry, LONGEST_SPAN, SECTOR};
 use crate::ledger::{File, Ledger};
 use crate::lists::RECORD;
-use crate::power::{draw_cut, groups, sector_numbers};
+use crate::power::{data_sectors, draw_cut, groups, sector_numbers};
 use crate::request::{Answer, Lent, Request};
 use crate::FormatRequest;
 
 const SEED_VARIABLE: &str = "RUN_SEED";
 
-/// Names that stand on older volumes only.
+/// Names that stand on the volumes of older builds and other writers only.
 const OLDER_NAMES: [&[u8]; 3] = [&[255; 200], b"\xe4/\x01", b"a b"];
 
 /// Makes this many runs, or those that RUN_SEED asks for.
@@ -70,6 +70,8 @@ impl Counts {
             self.several_extents,
             self.lost_records,
             self.older_names,
+            self.scattered_copies,
+            self.without_room,
             self.access_times,
             self.cut_access_times,
             self.renames,
@@ -101,9 +103,9 @@ fn random_run(subject: &dyn Subject, seed: u64, counts: &mut Counts) {
     let _told_on_failure = Replay(seed);
     let mut draw = Draw::new(seed);
     counts.runs += 1;
-    let (two_table_sectors, full_directory) = match draw.below(64) {
+    let (two_table_sectors, full_directory) = match draw.below(40) {
         0 => (true, false),
-        1..=4 => (false, true),
+        1..=3 => (false, true),
         _ => (false, false),
     };
     let geometry = if two_table_sectors {
@@ -127,7 +129,7 @@ fn random_run(subject: &dyn Subject, seed: u64, counts: &mut Counts) {
         run.fill_the_directory();
     }
     if run.draw.one_in(4) {
-        run.put_older_files();
+        run.put_foreign_files();
     }
     run.volume.compare();
     run.volume.disturb(&mut run.draw);
@@ -213,15 +215,27 @@ impl Run<'_> {
         }
     }
 
-    /// Files of an older volume, whose names nobody can type; some have the next free extents.
-    fn put_older_files(&mut self) {
+    /// Files of older builds and other writers: their names can't be typed, and their extents are
+    /// scattered. Sometimes they leave fewer than K free, exactly K, or one more.
+    fn put_foreign_files(&mut self) {
+        let reserve = self.volume.ledger.geometry().reserve_extents();
+        let least = *self.draw.pick(&[0, reserve, reserve + 1]);
+        let all = self.draw.one_in(2);
         for name in OLDER_NAMES {
             let ledger = &self.volume.ledger;
             let Some(slot) = ledger.slots().iter().position(Option::is_none) else {
                 return;
             };
-            let free = ledger.free_extents().take(self.draw.below(3) as usize);
-            let extents: Vec<u64> = free.map(|extent| extent.0).collect();
+            let mut free: Vec<u64> = ledger.free_extents().map(|extent| extent.0).collect();
+            let most = (free.len() as u64).saturating_sub(least);
+            let count = if all {
+                most
+            } else {
+                self.draw.below(3).min(most)
+            };
+            let extents: Vec<u64> = (0..count)
+                .map(|_| free.swap_remove(self.draw.below(free.len() as u64) as usize))
+                .collect();
             let extent_bytes = ledger.geometry().extent_bytes();
             let size = (extents.len() as u64 * extent_bytes).saturating_sub(self.draw.below(2_000));
             self.volume.put_file(slot as u64, name, size, &extents);
@@ -266,6 +280,8 @@ impl Run<'_> {
         assert!(told.output == output, "{}", shortened(request));
         if list.is_empty() {
             assert!(after == self.volume.ledger, "{}", shortened(request));
+            let full = self.volume.ledger.free_extents().next().is_none();
+            self.counts.without_room += usize::from(full);
             return;
         }
         audit(
@@ -419,9 +435,12 @@ impl Run<'_> {
         let in_table = targets.iter().filter(|target| target.sector >= table_at);
         let replaced = after.files().count() < before.files().count();
         let extents = self.files().any(|file| file.extents.len() > 1);
+        let copy = groups(list)[0][data_sectors(&groups(list))].sector;
+        let elsewhere = copy != before.geometry().reserve_at().0;
         let counts = &mut *self.counts;
         counts.several_table_sectors += usize::from(in_table.count() > 1);
         counts.several_extents += usize::from(extents);
+        counts.scattered_copies += usize::from(elsewhere);
         if request
             .name()
             .is_some_and(|name| OLDER_NAMES.contains(&name))

@@ -75,7 +75,7 @@ fn longest_delete() {
 
     // The offsets fall while the extents rise, so that their order says nothing.
     let extents: Vec<u64> = (0..geometry.usable_extents()).rev().collect();
-    let size = geometry.largest_size();
+    let size = geometry.usable_extents() * 65_536;
     put_file(&mut image, geometry, 3, b"l", size, &extents);
     assert_eq!(check(&image).code, 0);
 

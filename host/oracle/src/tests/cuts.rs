@@ -5,7 +5,8 @@ use crate::ledger::CutReport;
 use crate::power::{groups, Cut};
 use crate::request::Request;
 use crate::testing::cuts::{
-    cut_each_kind_of_call, cut_over_two_table_sectors, cut_the_format, two_files,
+    cut_each_kind_of_call, cut_on_a_foreign_volume, cut_over_two_table_sectors, cut_the_format,
+    cut_with_free_extents, two_files,
 };
 use crate::testing::requests::{delete, list, read, resize, write};
 use crate::testing::volumes::ANY;
@@ -25,6 +26,23 @@ fn of_each_kind_of_call_with_wide_times() {
 fn over_two_table_sectors() {
     for edition in Edition::BOTH {
         cut_over_two_table_sectors(&Oracle, edition);
+    }
+}
+
+#[test]
+fn on_a_foreign_volume() {
+    for edition in Edition::BOTH {
+        cut_on_a_foreign_volume(&Oracle, edition);
+    }
+}
+
+/// Exactly K extents free, staged in below and above the files'; and one more, which a file may take.
+#[test]
+fn with_k_extents_free_and_one_more() {
+    for edition in Edition::BOTH {
+        for free in [&[0][..], &[5], &[2, 3]] {
+            cut_with_free_extents(&Oracle, edition, free);
+        }
     }
 }
 

@@ -60,11 +60,6 @@ fn plain_check(image: &[u8]) -> CheckAnswer {
     };
 
     let extent_bytes = 512 * extent_sectors;
-    let mut reserve = 0;
-    while reserve * extent_sectors < table_sectors + 3 {
-        reserve += 1;
-    }
-    let usable = extents - reserve;
     let at = |file: u128, field| (2 + file) as usize * 512 + field;
     let mark = |file| number(image, at(file, 0), 2);
     let occupied: Vec<u128> = (0..files).filter(|file| mark(*file) == 65_535).collect();
@@ -81,7 +76,7 @@ fn plain_check(image: &[u8]) -> CheckAnswer {
     }
     for &file in &occupied {
         let bad_length = !(1..=longest_name).contains(&name_length(file));
-        if bad_length || name(file).contains(&0) || size(file) > usable * extent_bytes {
+        if bad_length || name(file).contains(&0) || size(file) > extents * extent_bytes {
             return not_sound(22, file);
         }
     }
@@ -100,7 +95,7 @@ fn plain_check(image: &[u8]) -> CheckAnswer {
     }
     for extent in 0..extents {
         let free = owner(extent) == 65_535;
-        if !free && (extent >= usable || !occupied.contains(&owner(extent))) {
+        if !free && !occupied.contains(&owner(extent)) {
             return not_sound(25, extent);
         }
     }

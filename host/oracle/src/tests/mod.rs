@@ -7,6 +7,7 @@ mod comparison;
 mod cuts;
 mod directories;
 mod editions;
+mod foreign;
 mod journals;
 mod judging;
 mod names;

@@ -156,7 +156,7 @@ fn longest_rename() {
     let geometry = Geometry::new(255, 65_535, 128).expect("within the bounds");
     let mut image = blank(geometry, geometry.end().0);
     let extents: Vec<u64> = (0..geometry.usable_extents()).collect();
-    let size = geometry.largest_size();
+    let size = geometry.usable_extents() * 65_536;
     put_file(&mut image, geometry, 3, b"large", size, &extents);
     put_file(&mut image, geometry, 200, b"new", 0, &[]);
     let length = 1_053 * RECORD;
@@ -172,9 +172,8 @@ fn longest_rename() {
     assert!(last_copy < geometry.end().0);
 }
 
-/// With 126 table sectors and extents of 128 sectors the reserve grew from one extent to two. A
-/// file that holds the one that was usable before is at fault: 22 if its size exceeds the bound
-/// now, else 25.
+/// With 126 table sectors and extents of 128 sectors the reserve grew from one extent to two. Older
+/// volumes stay sound; a full one has no room for copies any more.
 #[test]
 fn older_volumes() {
     let format = FormatRequest {
@@ -183,17 +182,15 @@ fn older_volumes() {
     };
     let geometry = format.geometry().expect("there is one");
     assert_eq!(geometry.reserve_extents(), 2);
-    let newly_reserved = 16_126;
-    let all: Vec<u64> = (0..=newly_reserved).collect();
-    let most = newly_reserved * 65_536;
-    for (size, extents, expected) in [
-        (1, &[newly_reserved][..], (25, newly_reserved)),
-        (most + 1, &all, (22, 7)),
-        (most, &all[..16_126], (0, 0)),
-    ] {
+    let last_usable = 16_126;
+    for (free, code) in [(1, code::NO_ROOM), (2, code::DONE)] {
         let mut image = blank(geometry, geometry.end().0);
-        put_file(&mut image, geometry, 7, b"old", size, extents);
-        let judged = check(&image);
-        assert_eq!((judged.fault, judged.place), expected);
+        let extents: Vec<u64> = (free - 1..=last_usable).collect();
+        let size = extents.len() as u64 * 65_536;
+        put_file(&mut image, geometry, 7, b"old", size, &extents);
+        assert_eq!(check(&image).code, 0);
+        let lent = Lent::both(1_053 * RECORD);
+        let (answer, _) = Oracle.ask(&rename(b"old", b"new"), &image, lent);
+        assert_eq!(answer.code(), code);
     }
 }

@@ -76,18 +76,26 @@ fn list_of_a_repair() {
     assert_eq!(sector_numbers(&list), expected);
 }
 
-/// A reserve entry that isn't free is refused 7 with 25, whatever check says.
+/// Leaks that leave fewer than K extents free can't be mended: 13, before 14. With nothing to free
+/// the answer is 0.
 #[test]
-fn taken_reserve() {
+fn without_room() {
     let mut image = some_files().image;
-    put16(&mut image, table_field(5, 0), 1);
-    put16(&mut image, table_field(0, 0), 3);
-    put16(&mut image, entry_field(0, 0), 7);
-    assert_eq!(check(&image).fault, 21);
-    assert_eq!(
-        repaired_alike(&Oracle, &image),
-        Refusal::not_sound(25, 5).into()
-    );
+    put16(&mut image, table_field(5, 0), 3);
+    assert_eq!(check(&image).fault, 25);
+    assert_eq!(repaired_alike(&Oracle, &image), Refusal::new(13).into());
+    // The last extent is taken as any other: it is freed, and the copy stands in the third.
+    put16(&mut image, table_field(2, 0), 65_535);
+    let (answer, list) = Oracle.repair(&image, ANY_LIST);
+    assert_eq!((answer.freed, answer.fault, answer.place), (1, 26, 1));
+    assert_eq!(sector_numbers(&list)[0], 290 + 2 * 128);
+    repaired_alike(&Oracle, &image);
+
+    let mut full = some_files().image;
+    put16(&mut full, table_field(5, 0), 4);
+    put16(&mut full, table_field(5, 2), 0);
+    put64(&mut full, entry_field(4, 2), 1);
+    assert_eq!(repaired_alike(&Oracle, &full), RepairAnswer::default());
 }
 
 /// All entries of the largest table: 512 targets.

@@ -71,7 +71,8 @@ fn largest_directory_and_table() {
     expect(entry_field(65_534, 14), &id(7), (24, 65_534));
     expect(entry_field(9, 14), &[0; 8], (24, 9));
     expect(entry_field(9, 14), &900_u64.to_be_bytes(), (24, 9));
-    expect(table_entry(geometry, 65_534), &[0, 0], (25, 65_534));
+    // Every number below 65,535 is a file's.
+    expect(table_entry(geometry, 65_534), &[0, 0], (26, 0));
     expect(
         entry_field(65_534, 2),
         &[0, 0, 0, 0, 0, 0, 0, 1],

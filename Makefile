@@ -2,11 +2,12 @@
 # make test   proves every crate from nothing, tries the must-fail edits, runs the programs and the tests of the host side
 # make bench  each call beside plain Rust in one run
 # make mutants   every wrong definition of host/definition-edits, with the statement that it makes false (84 of them took 12 minutes)
+# make vectors   the folder vectors/: small volumes of every kind as text, and what stands on each, for the tests of other readers
 # make install PREFIX=DIR [DESTDIR=DIR]   installs the command, its manual and completion, the header, the library and a pkg-config
 #             file; make uninstall removes them
 PREFIX ?= /usr/local
 DESTDIR ?=
-.PHONY: demo test bench mutants install uninstall
+.PHONY: demo test bench mutants vectors install uninstall
 
 demo:
 	@tests/demo
@@ -27,3 +28,6 @@ install:
 
 uninstall:
 	@packaging/install --remove "$(PREFIX)" "$(DESTDIR)"
+
+vectors:
+	@cargo run --manifest-path host/Cargo.toml --offline --release --quiet -p vectors -- write vectors

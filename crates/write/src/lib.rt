@@ -45,14 +45,7 @@ fn taken_sector(img: &[u8], g: Geometry, x: Extent, i: FileIndex, offset: u64) -
 // ---- what a write needs
 
 // What file i, whose size is given, needs for the new size z. More than K are free where the lowest is below the lowest staging extent.
-fn need_for(
-    img: &[u8],
-    g: Geometry,
-    stages: &[u64],
-    i: FileIndex,
-    size: u64,
-    z: u64,
-) -> Growth
+fn need_for(img: &[u8], g: Geometry, stages: &[u64], i: FileIndex, size: u64, z: u64) -> Growth
     requires { ⌜ StagesOf g (view (now img)) (now stages) ⌝ }
     requires { ⌜ lacksReserve (catalogueOf (view (now img))) ≡ false ⌝ }
     requires { ⌜ Opened (now img) g ⌝ }

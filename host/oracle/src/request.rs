@@ -96,6 +96,14 @@ impl Request {
         }
     }
 
+    /// All names that the call is given, where it is a call by name.
+    pub fn names(&self) -> Vec<&[u8]> {
+        match self {
+            Request::Rename { old, new, .. } => vec![old, new],
+            _ => self.name().into_iter().collect(),
+        }
+    }
+
     /// The name of the file that the call is about; of a rename the old one.
     pub fn name(&self) -> Option<&[u8]> {
         match self {

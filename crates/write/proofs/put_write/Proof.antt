@@ -96,23 +96,24 @@ put-commit-requires c κs =
     let n1 = entry .put-copy .ensures .0 .next in
     let n2 = table .put-copy2 .ensures .0 .next in (
       s .pre .0 .inside,
-      (omega (
-        arith,
-        room,
-        n1,
-        n2,
-        spans .put-data .ensures .0,
-        c .before .before .before .before .list3 .given,
-        table .before .before .before .before .before .before .before .before .list2 .given,
-        entry .before .before .before .before .before .before .list .given,
-      ),
       (
-        omega (arith, s .pre .1 .0 .held),
-        (
-          s .pre .1 .0 .bounded,
-          (omega arith, omega arith, omega (arith, n1, n2)),
+        omega (
+          arith,
+          room,
+          n1,
+          n2,
+          spans .put-data .ensures .0,
+          c .before .before .before .before .list3 .given,
+          table .before .before .before .before .before .before .before .before .list2 .given,
+          entry .before .before .before .before .before .before .list .given,
         ),
-      ),
+        (
+          omega (arith, s .pre .1 .0 .held),
+          (
+            s .pre .1 .0 .bounded,
+            (omega arith, omega arith, omega (arith, n1, n2)),
+          ),
+        ),
       ),
     )
 
@@ -158,14 +159,15 @@ put-commit-requires-2 c κs =
     let room = rw (c .before .before .if1 .left) at (s .pre .1 .1 .1 .1 .1) in
     let n1 = entry .put-copy .ensures .0 .next in (
       s .pre .0 .inside,
-      (omega (arith, room, n1, spans .put-data .ensures .0, c .before .before .before .before .before .list2 .given, entry .before .before .before .before .before .before .list .given),
       (
-        omega (arith, s .pre .1 .0 .held),
+        omega (arith, room, n1, spans .put-data .ensures .0, c .before .before .before .before .before .list2 .given, entry .before .before .before .before .before .before .list .given),
         (
-          s .pre .1 .0 .bounded,
-          (omega arith, omega arith, omega (arith, n1)),
+          omega (arith, s .pre .1 .0 .held),
+          (
+            s .pre .1 .0 .bounded,
+            (omega arith, omega arith, omega (arith, n1)),
+          ),
         ),
-      ),
       ),
     )
 

@@ -34,14 +34,14 @@ put-if-room-requires c κs =
       (
         (s .pre .1 .0 .0, s .pre .1 .0 .1),
         (
-      s .pre .1 .1 .0 .judgment,
-      (
-        s .pre .1 .1 .0 .opened,
-        (
-          c .before .before .before .need-for .ensures,
-          ((s .pre .1 .1 .0 .file, s .pre .1 .1 .0 .short, omega (arith, s .pre .1 .1 .0 .fits, s .pre .1 .1 .0 .short, s .pre .1 .0 .2), s .pre .1 .1 .1), e),
-        ),
-      ),
+          s .pre .1 .1 .0 .judgment,
+          (
+            s .pre .1 .1 .0 .opened,
+            (
+              c .before .before .before .need-for .ensures,
+              ((s .pre .1 .1 .0 .file, s .pre .1 .1 .0 .short, omega (arith, s .pre .1 .1 .0 .fits, s .pre .1 .1 .0 .short, s .pre .1 .0 .2), s .pre .1 .1 .1), e),
+            ),
+          ),
         ),
       ),
     )
@@ -93,14 +93,14 @@ put-if-room-requires-2 c κs =
       (
         (s .pre .1 .0 .0, s .pre .1 .0 .1),
         (
-      s .pre .1 .1 .0 .judgment,
-      (
-        s .pre .1 .1 .0 .opened,
-        (
-          c .before .before .need-for .ensures,
-          ((s .pre .1 .1 .0 .file, s .pre .1 .1 .0 .short, omega (arith, s .pre .1 .1 .0 .fits, s .pre .1 .1 .0 .short, s .pre .1 .0 .2), s .pre .1 .1 .1), e),
-        ),
-      ),
+          s .pre .1 .1 .0 .judgment,
+          (
+            s .pre .1 .1 .0 .opened,
+            (
+              c .before .before .need-for .ensures,
+              ((s .pre .1 .1 .0 .file, s .pre .1 .1 .0 .short, omega (arith, s .pre .1 .1 .0 .fits, s .pre .1 .1 .0 .short, s .pre .1 .0 .2), s .pre .1 .1 .1), e),
+            ),
+          ),
         ),
       ),
     )

@@ -11,6 +11,7 @@ mod foreign;
 mod journals;
 mod judging;
 mod names;
+mod neighbours;
 mod refusals;
 mod renames;
 mod repairs;

@@ -3,12 +3,12 @@ _goofs() {
     local goofs=$1 word=${COMP_WORDS[COMP_CWORD]} command=${COMP_WORDS[1]} names name
     COMPREPLY=()
     if [ "$COMP_CWORD" -eq 1 ]; then
-        names=$("$goofs" --help 2> /dev/null | sed -n 's/^  goofs \([a-z]*\) CARD.*/\1/p')
+        names=$("$goofs" --help 2> /dev/null | sed -n 's/^  goofs \([a-z]*\) \(LOG \)\{0,1\}CARD.*/\1/p')
         mapfile -t COMPREPLY < <(compgen -W "$names help --help --version" -- "$word")
         return
     fi
     if [[ $command == help && $COMP_CWORD -eq 2 ]]; then
-        names=$("$goofs" --help 2> /dev/null | sed -n 's/^  goofs \([a-z]*\) CARD.*/\1/p')
+        names=$("$goofs" --help 2> /dev/null | sed -n 's/^  goofs \([a-z]*\) \(LOG \)\{0,1\}CARD.*/\1/p')
         mapfile -t COMPREPLY < <(compgen -W "$names" -- "$word")
         return
     fi

@@ -12,6 +12,7 @@ use goofs::change::{Change, Format};
 use goofs::device::{Device, Disk, SECTOR};
 use goofs::error::{Error, Refusal};
 use goofs::image::{Edition, Image, State};
+use goofs::log::Line;
 use goofs::save::MODE;
 use goofs::system::{self, Held};
 use goofs::volume::{self, Stage, Volume};
@@ -19,9 +20,10 @@ use goofs::volume::{self, Stage, Volume};
 use crate::arguments::Arguments;
 use crate::card;
 use crate::failure::{
-    not_beside, of_card, of_file, of_names, of_opening, of_rename, of_several, or_frozen, quoted, Detail,
-    Failure,
+    not_beside, of_card, of_file, of_names, of_opening, of_rename, of_several, or_frozen, quoted,
+    Detail, Failure,
 };
+use crate::logging;
 use crate::output::{print, sync_folder};
 use crate::progress::Progress;
 use crate::reading::{all_there, leftovers};
@@ -244,9 +246,23 @@ fn format_disk(
     }
     .map_err(of_file(card))?;
     drop(taken);
+    let mut log = logging::log(arguments, card)?;
     let _held = Held::new();
     let mut progress = Progress::new("records", records);
-    volume::format(disk, request, &mut |done| progress.at(done)).map_err(|error| match error {
+    if let Some(log) = &mut log {
+        log.begin(&Line::Format(*request)).map_err(|cause| {
+            of_card(card)(Error::Unlogged {
+                changes_done: 0,
+                cause,
+            })
+        })?;
+    }
+    let formatted = volume::format(disk, request, &mut |done| progress.at(done));
+    if let (Some(mut log), Ok(())) = (log, &formatted) {
+        // Best effort, as for any call.
+        let _ = log.end(&Line::Done);
+    }
+    formatted.map_err(|error| match error {
         // There is nothing to recover in a format.
         Error::Interrupted(_) => Failure::Other(format!(
             "{}: {error}.\nNext: when the medium can be written again, give the command again, with --yes.",
@@ -367,7 +383,7 @@ pub fn rm(arguments: &Arguments) -> Result<(), Failure> {
             return Err(Failure::Usage(format!("{name} is given twice")));
         }
     }
-    let mut volume = card::volume(card, arguments.wait()?)?;
+    let mut volume = logging::volume(arguments, card)?;
     let image = volume.image().map_err(of_card(card))?;
     edition_for(card, image, time)?;
     let space = Space::of(image);
@@ -376,14 +392,18 @@ pub fn rm(arguments: &Arguments) -> Result<(), Failure> {
         name: name.as_bytes(),
         time,
     });
-    apply(&mut volume, &Vec::from_iter(removals)).map_err(or_frozen(card, space, of_removals(card, names)))
+    apply(&mut volume, &Vec::from_iter(removals)).map_err(or_frozen(
+        card,
+        space,
+        of_removals(card, names),
+    ))
 }
 
 /// Makes failures of several removals, which say what became of each file.
 fn of_removals<'r>(card: &'r OsStr, names: &'r [OsString]) -> impl Fn(Error) -> Failure + 'r {
     move |error| {
         let others = match &error {
-            Error::Stopped { changes_done } => {
+            Error::Stopped { changes_done } | Error::Unlogged { changes_done, .. } => {
                 of_several(names, *changes_done, "Removed", "Not removed")
             }
             // Of the one at which the medium failed, the recovery decides.
@@ -407,7 +427,7 @@ pub fn mv(arguments: &Arguments) -> Result<(), Failure> {
     let time = time(arguments)?;
     let (card, old, new) = (&places[0], places[1].as_bytes(), places[2].as_bytes());
     not_beside(new, "take another NEW")?;
-    let mut volume = card::volume(card, arguments.wait()?)?;
+    let mut volume = logging::volume(arguments, card)?;
     let image = volume.image().map_err(of_card(card))?;
     let (edition, space) = (edition_for(card, image, time)?, Space::of(image));
     let replaced = image.find(new);
@@ -434,7 +454,7 @@ pub fn mv(arguments: &Arguments) -> Result<(), Failure> {
 
 pub fn recover(arguments: &Arguments) -> Result<(), Failure> {
     let card = &arguments.places(&["CARD"])?[0];
-    let mut volume = card::volume(card, arguments.wait()?)?;
+    let mut volume = logging::volume(arguments, card)?;
     let _held = Held::new();
     if let Some(budget) = arguments.count("budget")? {
         let written = volume

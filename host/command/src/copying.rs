@@ -17,6 +17,7 @@ use crate::card;
 use crate::changing::{apply, edition_for};
 use crate::failure::{of_call, of_card, of_file, of_several, quoted, Failure};
 use crate::folder::Targets;
+use crate::logging;
 use crate::output::{print, print_bytes, print_error, save, Kept};
 use crate::progress::Progress;
 use crate::reading::{leftovers, no_time_set, touch};
@@ -154,7 +155,7 @@ fn opened(
         let files = files(card, &image, names)?;
         return Ok((Opened::Image(image), files));
     };
-    let mut volume = card::volume(card, wait)?;
+    let mut volume = logging::volume(arguments, card)?;
     let image = volume.image().map_err(of_card(card))?;
     edition_for(card, image, time)?;
     let found = files(card, image, names)?;

@@ -597,6 +597,16 @@ impl fmt::Display for Failure {
                         "{card}: {error}. The volume is clean.\n\
                          Next: see what is done: goofs ls {card}; and give the command again to do the rest."
                     ),
+                    Error::Unlogged { changes_done, .. } => write!(
+                        f,
+                        "{card}: {error}.{}\n\
+                         Next: see that the log's disk has room and can be written, or name another log; see \
+                         what is done: goofs ls {card}; and give the command again to do the rest.",
+                        match changes_done {
+                            0 => " Nothing was changed.",
+                            _ => "",
+                        }
+                    ),
                     Error::Interrupted(_) => write!(
                         f,
                         "{card}: {error}.\nNext: when the medium can be written again, \
@@ -703,6 +713,13 @@ mod tests {
             (Error::Unreadable(cause()), "reader"),
             (Error::Unsettled(cause()), "give the command again"),
             (Error::Stopped { changes_done: 0 }, "goofs ls 'a card'"),
+            (
+                Error::Unlogged {
+                    changes_done: 0,
+                    cause: cause(),
+                },
+                "another log",
+            ),
             (
                 Error::Interrupted(Interrupted {
                     writes: 7,

@@ -24,6 +24,7 @@ goofs - files on a volume that survives a cut of the power
   goofs salvage CARD FOLDER           copy the whole files of a volume that is not sound
   goofs format CARD [--sectors N]     make an empty volume
   goofs trial CARD CHANGE ...         try a change with cuts of the power, in memory
+  goofs audit LOG CARD                hold a card against the log of its calls
 
 CARD is an image file or a block device, such as /dev/sdb; lsblk shows which devices there are.
 To begin, in an image file of 4 MiB:
@@ -89,7 +90,7 @@ not sound, too, and changes nothing.
 ";
 
 pub const LS: &str = "\
-goofs ls CARD [--accessed] [--numeric | --json] [--touch [--time T]]
+goofs ls CARD [--accessed] [--numeric | --json] [--touch [--time T] [--log LOG]]
 
 Lists the files in the directory's order: size, version, id, mode (octal), time of the last change and
 name. A name is printed as a word for the shell, so that it can be given back as it stands there: in
@@ -101,6 +102,7 @@ quotes where it needs them, and as $'...' where it has bytes that a terminal doe
   --touch     set the access time of the directory, the root's, which info shows; without a file it
               stays. The card is then opened for writing, and no one else may have it open
   --time T    with --touch, this time, in seconds since 1970, on edition 1 up to 4294967295; else now
+  --log LOG   with --touch, append each call to this file before its first write, for goofs audit
 
 Without --touch the card is opened for reading only and no access time is set, as on a file system that
 is mounted with noatime.
@@ -110,8 +112,8 @@ error, too, with what to do about it.
 ";
 
 pub const GET: &str = "\
-goofs get CARD NAME... [--as FILE] [-p] [--touch [--time T]]
-goofs get CARD --all FOLDER [--replace] [-p] [--touch [--time T]]
+goofs get CARD NAME... [--as FILE] [-p] [--touch [--time T] [--log LOG]]
+goofs get CARD --all FOLDER [--replace] [-p] [--touch [--time T] [--log LOG]]
 
 Copies files from the card: one to the standard output, or several into a folder. If one of the names
 is not there, nothing is copied; if a copy fails later, it says which files are copied, each whole.
@@ -126,6 +128,7 @@ is not there, nothing is copied; if a copy fails later, it says which files are 
   --touch       set the access time of each file, which ls --accessed shows, before the first is copied.
                 The card is then opened for writing, and no one else may have it open
   --time T      with --touch, this time, in seconds since 1970, on edition 1 up to 4294967295; else now
+  --log LOG     with --touch, append each call to this file before its first write, for goofs audit
 
 Without --touch the card is opened for reading only and no access time is set, as on a file system that
 is mounted with noatime.
@@ -142,7 +145,7 @@ bytes then is cut: each part but the last has %+ behind it and is a folder for t
 ";
 
 pub const PUT: &str = "\
-goofs put CARD FILE... [--as NAME] [--id ID] [--mode M] [--time T] [--in-place]
+goofs put CARD FILE... [--as NAME] [--id ID] [--mode M] [--time T] [--in-place] [--log LOG]
 
 Copies files to the card, each under the last part of its own name. A file of that name on the card is
 replaced. A name has 1 to 476 letters, digits and signs of ASCII, without space and slash; on a volume
@@ -152,6 +155,7 @@ of edition 2 it has 1 to 468.
   --mode M    the mode of new files, octal; else that of the file that is replaced, or 644
   --time T    the time of the change, in seconds since 1970, on edition 1 up to 4294967295; else now
   --in-place  write over a file that is there, which keeps its id and mode
+  --log LOG   append each call to this file before its first write, for goofs audit
 
 A file is written beside the old one, as NAME.goofs-saving, and when it is whole it takes the name, in
 one change with the end of the old file. So after a cut of the power and `goofs recover`, NAME is the
@@ -170,12 +174,13 @@ is room for it on the card.
 ";
 
 pub const WRITE: &str = "\
-goofs write CARD NAME OFFSET FILE [--time T]
+goofs write CARD NAME OFFSET FILE [--time T] [--log LOG]
 
 Writes the bytes of FILE into the file NAME on the card, from byte OFFSET on, which is at most the
 file's size; `-` as FILE is the standard input. Bytes before and behind them stay, and the file grows
 where they reach past its end. OFFSET may be given as in 64K.
   --time T    the time of the change, in seconds since 1970, on edition 1 up to 4294967295; else now
+  --log LOG   append each call to this file before its first write, for goofs audit
 
 More than 65536 bytes are several changes, one after the other. All are tried in memory first: if one is
 refused, for want of room too, nothing is changed. After a cut of the power and `goofs recover`, each of
@@ -184,11 +189,12 @@ command again then: it writes the same bytes. To have the old file or the new on
 ";
 
 pub const RM: &str = "\
-goofs rm CARD NAME... [--time T]
+goofs rm CARD NAME... [--time T] [--log LOG]
 
 Removes files. Their extents are free at once. On a volume that is frozen (see goofs info --help) no
 file can be removed.
   --time T    the time of the change, in seconds since 1970, on edition 1 up to 4294967295; else now
+  --log LOG   append each call to this file before its first write, for goofs audit
 
 Each file is removed by a change of its own, whole or not at all, in the order of the NAMEs. All are
 tried in memory first: if one of the names is not there, nothing is removed. If the card fails, or
@@ -196,12 +202,13 @@ Ctrl-C is pressed, in the middle, it says which files are removed and which are 
 ";
 
 pub const MV: &str = "\
-goofs mv CARD OLD NEW [--time T]
+goofs mv CARD OLD NEW [--time T] [--log LOG]
 
 Gives the file OLD the name NEW, in one change. A file that has the name NEW already is replaced: it is
 removed with the same change, which is told. After a cut of the power and `goofs recover` both files
 are as before, or only the one is there, as NEW. It keeps its size, id and mode.
   --time T    the time of the change, in seconds since 1970, on edition 1 up to 4294967295; else now
+  --log LOG   append each call to this file before its first write, for goofs audit
 
 NEW has 1 to 476 letters, digits and signs of ASCII, without space and slash; on a volume of edition 2
 it has 1 to 468. OLD may be a name with other bytes, from a volume of before this rule, as ls prints
@@ -209,17 +216,18 @@ it.
 ";
 
 pub const RESIZE: &str = "\
-goofs resize CARD NAME SIZE [--time T]
+goofs resize CARD NAME SIZE [--time T] [--log LOG]
 
 Gives the file another size, in bytes, or as in 64K or 4M. What is added is zero.
   --time T    the time of the change, in seconds since 1970, on edition 1 up to 4294967295; else now
+  --log LOG   append each call to this file before its first write, for goofs audit
 
 A file grows by at most 65536 bytes at a time, so growing by more is several changes, one after the
 other, each atomic. All are tried in memory first: if one is refused, nothing is changed.
 ";
 
 pub const RECOVER: &str = "\
-goofs recover CARD [--budget N]
+goofs recover CARD [--budget N] [--log LOG]
 
 Finishes a change that a cut of the power interrupted. A recovery may itself be cut; then recover
 again. On a clean volume there is nothing to do, and nothing is changed. If the volume is not sound
@@ -228,10 +236,11 @@ after it, the fault is printed and the exit status is 1.
                For each N sectors that are still to be copied it takes one call, and one call more.
                Sectors that show their copy already are passed over: after a write to the card has
                failed, recover without it
+  --log LOG    append each call to this file before its first write, for goofs audit
 ";
 
 pub const REPAIR: &str = "\
-goofs repair CARD [--yes]
+goofs repair CARD [--yes] [--log LOG]
 
 For a volume that is clean but not sound. Shows which extents belong to no file that is there, lie past
 the end of their file, or have a place in it that a lower extent has already; asks; and frees them, all
@@ -242,6 +251,7 @@ the card first (dd if=CARD of=COPY). If the volume is not sound after it, the fa
 exit status is 1. A repair needs free extents for its own change, and those that it would free don't
 count: where too few are free it is refused (13), and no command mends the volume.
   --yes        do not ask
+  --log LOG    append each call to this file before its first write, for goofs audit
 ";
 
 pub const SALVAGE: &str = "\
@@ -268,7 +278,7 @@ that of another format. Names are escaped as by goofs get --all.
 
 pub const FORMAT: &str = "\
 goofs format CARD [--sectors N | --size B] [--files F] [--edition E] [--id ID] [--mode M] [--time T]
-             [--sparse] [--yes]
+             [--sparse] [--yes] [--log LOG]
 
 Makes an empty volume. A CARD that isn't there is made, as an image file; then --size or --sectors is
 needed.
@@ -286,6 +296,7 @@ needed.
                when the disk is full, changes then fail. Else the blocks are taken at once
   --yes        needed where CARD holds a volume or other data: they are lost. Without it, the whole
                place of the volume is read first, to see that it holds nothing but zeros
+  --log LOG    append each call to this file before its first write, for goofs audit
 
 A format that is cut leaves an unfinished volume: format again. A block device that is mounted is
 refused.
@@ -324,4 +335,23 @@ The table has a line for each change:
   after        ends that are as after
   different    anything else; the exit status is then 1
 The last line says in how many of its ways the first recovery after each cut was cut.
+";
+
+pub const AUDIT: &str = "\
+goofs audit LOG CARD [--from COPY] [--settle]
+
+Says in one line whether the volume on CARD is what the calls in LOG give, after a cut of the power too.
+The log has a line for each call, which was kept before the call's first write: every command that
+changes a card makes one with --log LOG, and RELAY.md (in docs, or share/doc/goofs) has the format for
+other boxes. The card is recovered in memory and only read. A ledger is fed the calls alone; then
+superblock, root, directory, allocation table and every byte of every file must be what it says. Of the
+last call, if the log does not say that it was done, it says whether it is done, or not done and which
+of its data sectors landed. Else it says file by file what differs, and the exit status is 1.
+  --from COPY  the log begins with this volume, a copy of the card from before the first call; needed
+               where its first call is not a format
+  --settle     note in the log what became of the last call, so that the log can go on from here
+
+A last line that is cut off is told: the power failed while it was written, and its call had not begun.
+Where the log goes on after a cut without that note, both ends of the call are followed. The bytes of all
+files are held in memory, several times.
 ";

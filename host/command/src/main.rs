@@ -4,20 +4,24 @@
 #![forbid(unsafe_code)]
 
 mod arguments;
+mod audit;
 mod card;
 mod changing;
 mod copying;
+mod differences;
 mod escape;
 mod failure;
 mod folder;
 mod help;
 mod json;
+mod logging;
 mod map;
 mod output;
 mod picture;
 mod progress;
 mod reading;
 mod repairing;
+mod replay;
 mod salvaging;
 mod space;
 mod svg;
@@ -60,43 +64,55 @@ const fn command(
     }
 }
 
-const COMMANDS: [Command; 15] = [
+const COMMANDS: [Command; 16] = [
     command("info", help::INFO, &[], &["json"], reading::info),
     command("check", help::CHECK, &[], &["json"], reading::check),
     command("map", help::MAP, &["color", "svg"], &[], map::map),
     command(
         "ls",
         help::LS,
-        &["time"],
+        &["time", "log"],
         &["accessed", "json", "numeric", "touch"],
         reading::ls,
     ),
     command(
         "get",
         help::GET,
-        &["all", "as", "time"],
+        &["all", "as", "time", "log"],
         &["preserve", "replace", "touch"],
         copying::get,
     ),
     command(
         "put",
         help::PUT,
-        &["as", "id", "mode", "time"],
+        &["as", "id", "mode", "time", "log"],
         &["in-place"],
         writing::put,
     ),
-    command("write", help::WRITE, &["time"], &[], write_at::write),
-    command("rm", help::RM, &["time"], &[], changing::rm),
-    command("mv", help::MV, &["time"], &[], changing::mv),
-    command("resize", help::RESIZE, &["time"], &[], writing::resize),
+    command("write", help::WRITE, &["time", "log"], &[], write_at::write),
+    command("rm", help::RM, &["time", "log"], &[], changing::rm),
+    command("mv", help::MV, &["time", "log"], &[], changing::mv),
+    command(
+        "resize",
+        help::RESIZE,
+        &["time", "log"],
+        &[],
+        writing::resize,
+    ),
     command(
         "recover",
         help::RECOVER,
-        &["budget"],
+        &["budget", "log"],
         &[],
         changing::recover,
     ),
-    command("repair", help::REPAIR, &[], &["yes"], repairing::repair),
+    command(
+        "repair",
+        help::REPAIR,
+        &["log"],
+        &["yes"],
+        repairing::repair,
+    ),
     command(
         "salvage",
         help::SALVAGE,
@@ -107,7 +123,9 @@ const COMMANDS: [Command; 15] = [
     command(
         "format",
         help::FORMAT,
-        &["sectors", "size", "files", "edition", "id", "mode", "time"],
+        &[
+            "sectors", "size", "files", "edition", "id", "mode", "time", "log",
+        ],
         &["sparse", "yes"],
         changing::format,
     ),
@@ -118,6 +136,7 @@ const COMMANDS: [Command; 15] = [
         &["every", "in-place"],
         trial::run,
     ),
+    command("audit", help::AUDIT, &["from"], &["settle"], audit::audit),
 ];
 
 /// A call of the volume code takes some hundred KiB of stack, and the stack that the program is started
@@ -200,11 +219,12 @@ mod tests {
             name, help, known, ..
         } in &COMMANDS
         {
-            assert!(
-                help::OVERVIEW.contains(&format!("\n  goofs {name} CARD")),
-                "{name}"
-            );
-            assert!(help.starts_with(&format!("goofs {name} CARD")), "{name}");
+            let usage = match *name {
+                "audit" => "goofs audit LOG CARD".to_string(),
+                _ => format!("goofs {name} CARD"),
+            };
+            assert!(help::OVERVIEW.contains(&format!("\n  {usage}")), "{name}");
+            assert!(help.starts_with(&usage), "{name}");
             for option in known.options.iter().chain(known.flags) {
                 let option = format!("--{option}");
                 assert!(help.contains(&option), "{name} {option}");

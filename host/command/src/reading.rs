@@ -15,6 +15,7 @@ use crate::card;
 use crate::changing::{edition_for, time};
 use crate::failure::{of_call, of_card, quoted, to_a_larger_card, Failure};
 use crate::json;
+use crate::logging;
 use crate::output::{print, print_error};
 use crate::space::Space;
 use crate::text;
@@ -166,8 +167,12 @@ pub fn touch(arguments: &Arguments) -> Result<Option<u64>, Failure> {
     if arguments.flag("touch") {
         return time(arguments).map(Some);
     }
-    match arguments.word("time") {
-        Some(_) => Err(Failure::Usage("--time is for --touch".to_string())),
+    let for_touch = ["time", "log"];
+    let given = for_touch
+        .iter()
+        .find(|option| arguments.word(option).is_some());
+    match given {
+        Some(option) => Err(Failure::Usage(format!("--{option} is for --touch"))),
         None => Ok(None),
     }
 }
@@ -189,7 +194,7 @@ fn files(arguments: &Arguments, card: &OsStr) -> Result<Vec<Entry>, Failure> {
     let Some(time) = touch(arguments)? else {
         return card::read(card, wait)?.entries().map_err(of_card(card));
     };
-    let mut volume = card::volume(card, wait)?;
+    let mut volume = logging::volume(arguments, card)?;
     let image = volume.image().map_err(of_card(card))?;
     edition_for(card, image, time)?;
     let is_frozen = image.is_frozen();

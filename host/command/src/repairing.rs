@@ -8,15 +8,15 @@ use goofs::error::{Error, Refusal};
 use goofs::system::Held;
 
 use crate::arguments::Arguments;
-use crate::card;
 use crate::changing::print_done;
 use crate::failure::{extents, format_anew, of_card, quoted, Detail, Failure};
+use crate::logging;
 use crate::output::print;
 use crate::text;
 
 pub fn repair(arguments: &Arguments) -> Result<(), Failure> {
     let card = &arguments.places(&["CARD"])?[0];
-    let mut volume = card::volume(card, arguments.wait()?)?;
+    let mut volume = logging::volume(arguments, card)?;
     let image = volume.image().map_err(of_card(card))?;
     let repair = image.repair().map_err(of_repair(card))?;
     if repair.freed.is_empty() {

@@ -11,6 +11,7 @@ use crate::arguments::Arguments;
 use crate::card;
 use crate::changing::{apply, edition_for, print_done, time};
 use crate::failure::{no_room, of_call, of_card, quoted, Detail, Failure};
+use crate::logging;
 use crate::space::Space;
 use crate::text;
 use crate::writing::{contents, of_source, size};
@@ -28,7 +29,7 @@ pub fn write(arguments: &Arguments) -> Result<(), Failure> {
         .map_err(of_source(file))?
         .ok_or_else(|| no_room(card, name, space))?;
 
-    let mut volume = card::volume(card, arguments.wait()?)?;
+    let mut volume = logging::volume(arguments, card)?;
     let image = volume.image().map_err(of_card(card))?;
     // Another program may have changed the card meanwhile.
     if self::room(card, image, name, offset, time)? < data.len() as u64 {
@@ -80,7 +81,9 @@ fn room(card: &OsStr, image: &Image, name: &[u8], offset: u64, time: u64) -> Res
 /// How many bytes are in the file after a write that broke off, if that is known.
 fn written(error: &Error, all: usize) -> String {
     let (pieces, is_known) = match error {
-        Error::Stopped { changes_done } => (*changes_done, true),
+        Error::Stopped { changes_done } | Error::Unlogged { changes_done, .. } => {
+            (*changes_done, true)
+        }
         Error::Interrupted(cut) => (cut.changes_done, false),
         _ => return String::new(),
     };

@@ -18,6 +18,7 @@ use crate::failure::{
     in_place_instead, no_room, no_room_for_both, not_beside, of_call, of_card, of_file, of_new,
     or_frozen, quoted, Failure,
 };
+use crate::logging;
 use crate::progress::Progress;
 use crate::space::Space;
 use crate::text;
@@ -331,7 +332,7 @@ pub fn put(arguments: &Arguments) -> Result<(), Failure> {
     drop(image);
     let contents = read_all(card, space, &puts)?;
 
-    let mut volume = card::volume(card, arguments.wait()?)?;
+    let mut volume = logging::volume(arguments, card)?;
     let image = volume.image().map_err(of_card(card))?;
     let puts = look_up(card, image, &sources, &new_file, in_place, time)?;
     let space = Space::of(image);
@@ -373,7 +374,7 @@ pub fn resize(arguments: &Arguments) -> Result<(), Failure> {
     let places = arguments.places(&["CARD", "NAME", "SIZE"])?;
     let time = time(arguments)?;
     let (card, name, size) = (&places[0], places[1].as_bytes(), size(&places[2])?);
-    let mut volume = card::volume(card, arguments.wait()?)?;
+    let mut volume = logging::volume(arguments, card)?;
     let image = volume.image().map_err(of_card(card))?;
     let (edition, space) = (image.summary().edition, Space::of(image));
     let changes = resize_changes(card, image, name, size, time)?;

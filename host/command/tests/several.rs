@@ -112,6 +112,37 @@ fn removals_that_break_off() {
     assert!(broken > 30 && stopped > 5, "{broken} and {stopped}");
 }
 
+/// The log's disk is full before one of the calls: what is said of each file is true.
+#[test]
+fn removals_that_cannot_be_logged() {
+    let folder = Folder::new("rm-unlogged");
+    let base = sample(&folder);
+    let card = folder.file("copy");
+    let mut left = Vec::new();
+    // A block of the limit has 512 or 1,024 bytes, as the shell likes. The card is shorter than the limit.
+    for block in [512, 1_024] {
+        for room in (0..400).step_by(40) {
+            fs::copy(&base, &card).unwrap();
+            let mut before = b"goofs ".to_vec();
+            before.resize(2_000 * block - room - 1, b'x');
+            before.push(b'\n');
+            let log = folder.write("log", &before);
+            let words = [&NAMES[..], &["--log", log.to_str().unwrap()]].concat();
+            let said = with_limit("-f 2000", "rm", &card, &words);
+            let (now, err) = (listed(&card), said.err);
+            assert_eq!(said.status == 0, now.is_empty(), "{err}");
+            if said.status != 0 {
+                assert_eq!(named(&err, "Not removed: "), now, "{err}");
+                let removed = named(&err, "Removed: ");
+                assert_eq!([removed, now.clone()].concat(), NAMES, "{err}");
+                assert!(err.contains("log"), "{err}");
+            }
+            left.push(now.len());
+        }
+    }
+    assert!((0..=4).all(|count| left.contains(&count)), "{left:?}");
+}
+
 /// A copy that fails in the middle: those before it are whole, and all are named.
 #[test]
 fn copies_that_break_off() {

@@ -6,7 +6,7 @@ use std::fs;
 use std::path::{Path, PathBuf};
 use std::process::Command;
 
-use shared::{bad, faulty, formatted, good, run, Folder};
+use shared::{bad, faulty, formatted, good, run, with_limit, Folder};
 
 fn pattern(length: usize, first: usize) -> Vec<u8> {
     (first..first + length).map(|i| (i % 251) as u8).collect()
@@ -132,4 +132,40 @@ fn a_write_that_breaks_off() {
         assert!(get(&folder, &card) == expected);
     }
     assert!(broken > 20, "{broken}");
+}
+
+/// The log's disk is full before the second call: what is said of the bytes is true.
+#[test]
+fn a_write_that_cannot_be_logged() {
+    let folder = Folder::new("write-unlogged");
+    let base = sample(&folder);
+    let card = folder.file("unlogged");
+    let data = pattern(131_072, 77);
+    let file = folder.write("data", &data);
+    let mut halves = 0;
+    // A block of the limit has 512 or 1,024 bytes, as the shell likes. The card is shorter than the limit.
+    for block in [512, 1_024] {
+        fs::copy(&base, &card).unwrap();
+        let mut before = b"goofs ".to_vec();
+        before.resize(2_000 * block - 200_001, b'x');
+        before.push(b'\n');
+        let log = folder.write("log", &before);
+        let words = [
+            "f",
+            "0",
+            file.to_str().unwrap(),
+            "--log",
+            log.to_str().unwrap(),
+        ];
+        let said = with_limit("-f 2000", "write", &card, &words);
+        if said
+            .err
+            .contains("Written: the first 65536 of 131072 bytes; no more.")
+        {
+            assert_eq!(said.status, 1);
+            assert!(get(&folder, &card) == data[..65_536]);
+            halves += 1;
+        }
+    }
+    assert_eq!(halves, 1);
 }

@@ -197,6 +197,11 @@ pub enum Error {
     NameBeside,
     /// The caller stopped between two changes. These are done; nothing was written of the others.
     Stopped { changes_done: usize },
+    /// The log could not be written, so the call was not begun. The changes before it are done.
+    Unlogged {
+        changes_done: usize,
+        cause: io::Error,
+    },
     /// A write or a barrier failed in the middle of a list.
     Interrupted(Interrupted),
     /// An earlier change was interrupted, so what stands on the device isn't known here any more.
@@ -242,6 +247,14 @@ impl fmt::Display for Error {
             Error::Stopped { changes_done } => {
                 write!(f, "stopped after {changes_done} changes, each done whole")
             }
+            Error::Unlogged {
+                changes_done,
+                cause,
+            } => write!(
+                f,
+                "the log could not be written ({cause}), so the change was not begun; \
+                 {changes_done} changes before went through whole"
+            ),
             Error::Interrupted(cut) => write!(
                 f,
                 "the medium failed ({}): of {} sector writes {} are on it, {} more may be; \
@@ -258,6 +271,7 @@ impl std::error::Error for Error {
         match self {
             Error::Refused(refusal) => Some(refusal),
             Error::Unreadable(cause) | Error::Unsettled(cause) => Some(cause),
+            Error::Unlogged { cause, .. } => Some(cause),
             Error::Interrupted(cut) => Some(&cut.cause),
             _ => None,
         }

@@ -34,6 +34,7 @@ pub mod change;
 pub mod device;
 pub mod error;
 pub mod image;
+pub mod log;
 #[allow(unsafe_code)]
 pub mod map;
 pub mod names;

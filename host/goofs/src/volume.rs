@@ -8,6 +8,7 @@ use crate::change::{step, Change, Format, List, Repair, Step, FORMAT_BARRIERS};
 use crate::device::{Device, SECTOR};
 use crate::error::{Error, Interrupted};
 use crate::image::{Entry, Image, State};
+use crate::log::{Line, Log};
 use crate::save::Save;
 
 #[derive(Debug)]
@@ -16,6 +17,7 @@ pub struct Volume<D> {
     image: Image,
     /// Set while a list is on its way: if it breaks off, the image isn't what the device holds.
     unknown: bool,
+    log: Option<Log>,
 }
 
 /// How far changes are.
@@ -58,7 +60,13 @@ impl<D: Device> Volume<D> {
             device,
             image,
             unknown: false,
+            log: None,
         })
+    }
+
+    /// From now on each call that writes is logged before its first write.
+    pub fn log_to(&mut self, log: Log) {
+        self.log = Some(log);
     }
 
     /// The volume as it stands on the device. After an interrupted change it must be opened again.
@@ -102,7 +110,7 @@ impl<D: Device> Volume<D> {
                 return Err(Error::Stopped { changes_done: done });
             }
             let list = self.image.list_of(change)?;
-            self.carry_out(&list, done)?;
+            self.carry_out(&list, &|| change.into(), done)?;
             stopped = progress(Stage::Done, done + 1).is_break();
         }
         Ok(())
@@ -127,7 +135,7 @@ impl<D: Device> Volume<D> {
     /// extents is refused with `NoRoom`.
     pub fn repair(&mut self) -> Result<Repair, Error> {
         let repair = self.image()?.repair()?;
-        self.carry_out(&repair.list, 0)?;
+        self.carry_out(&repair.list, &|| Line::Repair, 0)?;
         Ok(repair)
     }
 
@@ -142,7 +150,13 @@ impl<D: Device> Volume<D> {
         time: u64,
     ) -> Result<usize, Error> {
         let (count, list) = self.image()?.read_touching(name, offset, output, time)?;
-        self.carry_out(&list, 0)?;
+        let line = || Line::Read {
+            name: name.to_vec(),
+            offset,
+            count: output.len() as u64,
+            time,
+        };
+        self.carry_out(&list, &line, 0)?;
         Ok(count)
     }
 
@@ -160,7 +174,7 @@ impl<D: Device> Volume<D> {
     /// Finishes a change that was cut. Gives whether there was one.
     pub fn recover(&mut self) -> Result<bool, Error> {
         let list = self.image()?.recovery()?;
-        self.carry_out(&list, 0)?;
+        self.carry_out(&list, &|| Line::Recover, 0)?;
         Ok(!list.is_empty())
     }
 
@@ -170,11 +184,26 @@ impl<D: Device> Volume<D> {
     /// writes it again.
     pub fn recover_slice(&mut self, budget: u64) -> Result<usize, Error> {
         let list = self.image()?.recovery_slice(budget)?;
-        self.carry_out(&list, 0)?;
+        self.carry_out(&list, &|| Line::Recover, 0)?;
         Ok(list.steps().filter(|step| *step != Step::Barrier).count())
     }
 
-    fn carry_out(&mut self, list: &List, changes_done: usize) -> Result<(), Error> {
+    /// A call without writes is not logged.
+    fn carry_out(
+        &mut self,
+        list: &List,
+        line: &dyn Fn() -> Line,
+        changes_done: usize,
+    ) -> Result<(), Error> {
+        let mut logged = None;
+        if let (Some(log), false) = (&mut self.log, list.is_empty()) {
+            let line = line();
+            log.begin(&line).map_err(|cause| Error::Unlogged {
+                changes_done,
+                cause,
+            })?;
+            logged = Some(line);
+        }
         // In memory first: a list that doesn't fit the image must not touch the device.
         self.image.carry_out(list)?;
         self.unknown = true;
@@ -186,6 +215,12 @@ impl<D: Device> Volume<D> {
                 .map_err(|cause| sending.broken_off(writes as u64, changes_done, cause))?;
         }
         self.unknown = false;
+        match (&mut self.log, logged) {
+            // A recovery says nothing of the call that was cut.
+            (_, None | Some(Line::Recover)) | (None, _) => (),
+            // Best effort: without it the call is taken for one that may have been cut.
+            (Some(log), _) => drop(log.end(&Line::Done)),
+        }
         Ok(())
     }
 }
@@ -295,6 +330,8 @@ mod tests {
     use crate::device::Memory;
     use crate::error::Refusal;
     use crate::image::Edition;
+    use crate::log::Sink;
+    use std::sync::{Arc, Mutex};
 
     const SAMPLE: Format = Format {
         sectors: 1_313,
@@ -539,6 +576,144 @@ mod tests {
             _ => ControlFlow::Continue(()),
         });
         assert!(outcome.is_ok());
+    }
+
+    /// What comes to the log and to the medium, in one row.
+    #[derive(Clone, Debug, Default)]
+    struct Row(Arc<Mutex<Vec<String>>>);
+
+    impl Row {
+        fn add(&self, what: &str) {
+            self.0.lock().unwrap().push(what.to_string());
+        }
+    }
+
+    #[derive(Debug)]
+    struct Sent {
+        row: Row,
+        /// How many calls can be logged.
+        left: u64,
+    }
+
+    impl Sink for Sent {
+        fn send(&mut self, bytes: &[u8]) -> io::Result<()> {
+            let read = crate::log::read(bytes).unwrap();
+            for (_, line) in read.lines {
+                self.row.add(&line.to_string());
+            }
+            Ok(())
+        }
+
+        fn sync(&mut self) -> io::Result<()> {
+            self.row.add("sync");
+            self.left = self
+                .left
+                .checked_sub(1)
+                .ok_or_else(|| io::Error::other("the line is broken"))?;
+            Ok(())
+        }
+    }
+
+    struct Rowed {
+        medium: Memory,
+        row: Row,
+    }
+
+    impl Device for Rowed {
+        fn length(&self) -> u64 {
+            self.medium.length()
+        }
+
+        fn read(&self, first: u64, into: &mut [u8]) -> io::Result<()> {
+            self.medium.read(first, into)
+        }
+
+        fn write(&mut self, first: u64, contents: &[u8]) -> io::Result<()> {
+            if self
+                .row
+                .0
+                .lock()
+                .unwrap()
+                .last()
+                .is_none_or(|last| last != "writes")
+            {
+                self.row.add("writes");
+            }
+            self.medium.write(first, contents)
+        }
+
+        fn barrier(&mut self) -> io::Result<()> {
+            Ok(())
+        }
+    }
+
+    /// Each call that writes has its line before its first write, and done after its last; a call that is
+    /// refused or has nothing to do has none.
+    #[test]
+    fn calls_are_logged_before_they_write() {
+        let row = Row::default();
+        let device = Rowed {
+            medium: formatted(),
+            row: row.clone(),
+        };
+        let mut volume = Volume::open(device).unwrap();
+        volume.log_to(Log::new(Sent {
+            row: row.clone(),
+            left: u64::MAX,
+        }));
+        row.0.lock().unwrap().clear();
+        volume.save(b"f", b"ab", 5).unwrap();
+        assert!(!volume.recover().unwrap());
+        let same = Change::Rename {
+            old: b"f",
+            new: b"f",
+            time: 6,
+        };
+        volume.apply(&[same]).unwrap();
+        assert!(volume
+            .apply(&[Change::Delete {
+                name: b"g",
+                time: 6
+            }])
+            .is_err());
+        volume.read(b"f", 1, &mut [0; 4], 7).unwrap();
+        volume.entries(8).unwrap();
+        let mut expected = vec!["start"];
+        for call in [
+            "create name=f.goofs-saving id=901 mode=644 time=5",
+            "write name=f.goofs-saving offset=0 time=5 data=6162",
+            "rename old=f.goofs-saving new=f time=5",
+            "read name=f offset=1 count=4 time=7",
+            "list index=0 time=8",
+        ] {
+            expected.extend([call, "sync", "writes", "done"]);
+        }
+        assert_eq!(*row.0.lock().unwrap(), expected);
+    }
+
+    /// Where a call can't be logged, nothing of it is written.
+    #[test]
+    fn nothing_is_done_unlogged() {
+        for left in 0..3 {
+            let mut volume = Volume::open(formatted()).unwrap();
+            let row = Row::default();
+            volume.log_to(Log::new(Sent {
+                row: row.clone(),
+                left,
+            }));
+            let failed = volume.save(b"f", b"ab", 5);
+            let Err(Error::Unlogged { changes_done, .. }) = failed else {
+                panic!("the log failed");
+            };
+            assert_eq!(changes_done as u64, left);
+            let image = volume.image().unwrap();
+            assert_eq!(image.entries().unwrap().len() as u64, left.min(1));
+            let held = image.bytes().to_vec();
+            assert!(volume.into_device().bytes[..held.len()] == held);
+            let logged = row.0.lock().unwrap();
+            let done = logged.iter().filter(|line| *line == "done").count();
+            assert_eq!(done as u64, left);
+        }
     }
 
     /// The image in memory stays what the device holds, and a refused batch writes nothing.

@@ -147,6 +147,11 @@ impl Ledger {
         self.slots[slot] = Some(file);
     }
 
+    /// Sets the root's fields, of a volume that was there before.
+    pub fn put_root(&mut self, root: Root) {
+        self.root = root;
+    }
+
     /// What the call would answer.
     pub fn answer(&self, request: &Request, lent: Lent) -> Answer {
         self.expect(request, lent).0.answer

@@ -17,7 +17,7 @@
 //! - `report`: the text of the small program that describes a superblock.
 //!
 //! What a run of calls must answer is told a second time, without image and list, by `ledger`,
-//! which is fed the `request`s; `compare` holds an image against it. `power` cuts lists, and `draw`
+//! which is fed the `request`s; `compare` holds an image against it, and `described` makes one of an image. `power` cuts lists, and `draw`
 //! is the generator behind its random choices. `testing` holds what tests of these rules share,
 //! also the tests of other programs: volumes, damage, random runs, cuts.
 
@@ -27,6 +27,7 @@ pub mod answers;
 pub mod calls;
 pub mod changes;
 mod compare;
+mod described;
 pub mod draw;
 pub mod format;
 pub mod judge;

@@ -256,3 +256,33 @@ pub fn trial(card: &Path, rest: &[&str]) -> ([u64; 7], [u64; 2]) {
         .collect();
     (numbers.try_into().unwrap(), ways.try_into().unwrap())
 }
+
+/// Runs the session of an indented text, line by line: each command prints what stands behind it. Gives
+/// the number of commands.
+pub fn run_session(text: &str, folder: &Folder) -> usize {
+    let program = Path::new(env!("CARGO_BIN_EXE_goofs")).parent().unwrap();
+    let path = format!("{}:{}", program.display(), std::env::var("PATH").unwrap());
+    let lines: Vec<&str> = text
+        .lines()
+        .filter_map(|line| line.strip_prefix("    "))
+        .collect();
+    let mut lines = &lines[..];
+    let mut commands = 0;
+    while let Some((first, rest)) = lines.split_first() {
+        let words = first
+            .strip_prefix("$ ")
+            .expect("a command stands before its output");
+        let end = rest.iter().position(|line| line.starts_with("$ "));
+        let (expected, next) = rest.split_at(end.unwrap_or(rest.len()));
+        let said = run(Command::new("sh")
+            .args(["-c", &format!("{words} 2>&1")])
+            .env("PATH", &path)
+            .current_dir(folder.file(".")));
+        let printed = said.text();
+        let printed: Vec<&str> = printed.lines().collect();
+        assert_eq!(printed, expected, "{words}");
+        lines = next;
+        commands += 1;
+    }
+    commands
+}

@@ -3,6 +3,9 @@
  *     detector --format SECTORS IMAGE   makes the image file IMAGE with an empty volume
  *     detector IMAGE                    prints the calibration
  *     detector IMAGE TEXT               saves TEXT as the calibration, reads it back and prints it
+ *     detector --set IMAGE              prints the calibration set, three files that belong together
+ *     detector --set IMAGE TEMPERATURE BEAM TIMING
+ *                                       saves these texts as the set, reads it back and prints it
  *     detector --boot IMAGE             finishes a change that was cut, a few sectors at a time, as a boot loader does
  *
  * Each other start first finishes a change that was cut, and removes what a save that was cut has left. The calls take some hundred KiB of
@@ -26,15 +29,26 @@
 
 #include "goofs.h"
 
-/* The calibration fills exactly one sector, padded with zeros, and never has another size. */
+/* A calibration fills exactly one sector, padded with zeros, and never has another size. */
 enum { CALIBRATION_SIZE = GOOFS_SECTOR };
 
 /* A calibration is written beside the one that is there, under a name of its own, and takes the name with a rename when it is whole.
  * So after a cut anywhere the name stands for the old one or the new one, of any size. Written over the old one it would not: a
  * write's data sectors go to their places before the start mark. The command goofs has the same name for a file beside another. */
-static const uint8_t name[] = "calibration";
-static const uint8_t beside[] = "calibration.goofs-saving";
-enum { NAME_LENGTH = sizeof name - 1, BESIDE_LENGTH = sizeof beside - 1 };
+struct part {
+    const char *name, *beside;
+};
+static const struct part calibration = {"calibration", "calibration.goofs-saving"};
+
+/* Temperature table, beam pattern and timing belong to one transducer: a box that loads two of one and one of another counts fish wrong.
+ * Each is written beside, and all take their names in one change, so that after a cut anywhere all three are the old ones or all three
+ * the new ones. */
+enum { PARTS = 3 };
+static const struct part set[PARTS] = {
+    {"temperature", "temperature.goofs-saving"},
+    {"beam", "beam.goofs-saving"},
+    {"timing", "timing.goofs-saving"},
+};
 
 /* Edition 2 stores times past the year 2106. A card of edition 1 is used as well, while its times last: the calls look at the
  * superblock. */
@@ -69,6 +83,7 @@ static union {
     uint8_t create[GOOFS_CREATE_LIST];
     uint8_t write[GOOFS_WRITE_LIST];
     uint8_t rename[GOOFS_RENAME_LIST];
+    uint8_t rename_set[GOOFS_RENAME_SET_LIST];
     uint8_t removal[GOOFS_DELETE_LIST];
     uint8_t recover[GOOFS_RECOVER_LIST];
     uint8_t slice[GOOFS_SLICE_LIST(SLICE)];
@@ -266,14 +281,37 @@ static void boot(struct card *card)
     } while (slice.count != 0);
 }
 
+/* A name as the calls take it, without the 0 at its end. */
+static const uint8_t *bytes(const char *name)
+{
+    return (const uint8_t *)name;
+}
+
+/* Removes a file beside that a save did not come to rename. Gives GOOFS_NO_ROOM where it can't be removed. */
+static uint64_t remove_beside(struct card *card, const struct part *part)
+{
+    goofs_change_result answer = goofs_delete(card->image, card->length, bytes(part->beside), strlen(part->beside),
+                                              (uint64_t)time(NULL), list.removal, sizeof list.removal);
+
+    if (answer.code == GOOFS_NOT_THERE)
+        return GOOFS_DONE;
+    if (answer.code == GOOFS_NO_ROOM)
+        return answer.code;
+    done("delete", answer.code);
+    carry_out(card, list.removal, answer.length);
+    fputs("detector: removed what a save that was cut had left\n", stderr);
+    return GOOFS_DONE;
+}
+
 /* What a detector does first when it is switched on: make sure of what it reads, finish a change that was cut, see whether the volume
- * is sound, and remove a file beside that a save did not come to rename. Gives GOOFS_NO_ROOM where that can't be removed, as another
+ * is sound, and remove files beside that a save did not come to rename. Gives GOOFS_NO_ROOM where one can't be removed, as another
  * program has filled the card and no change can be made to it any more; what is on it can still be read. */
 static uint64_t start(struct card *card)
 {
     goofs_summary_result summary;
     goofs_check_result check;
-    goofs_change_result answer;
+    uint64_t code;
+    int i;
 
     /* What the system shows may not be on the medium, if a barrier has failed or a program was ended. It is asked to forget that;
      * but it need not, so a mark is sent again before anything rests on it (see goofs.h). */
@@ -297,81 +335,134 @@ static uint64_t start(struct card *card)
         fprintf(stderr, "detector: fault %" PRIu64 " at %s %" PRIu64 "\n", check.fault,
                 check.fault == GOOFS_FAULT_TABLE ? "extent" : "file", check.place);
     done("check", check.code);
-    answer = goofs_delete(card->image, card->length, beside, BESIDE_LENGTH, (uint64_t)time(NULL), list.removal, sizeof list.removal);
-    if (answer.code == GOOFS_NOT_THERE)
-        return GOOFS_DONE;
-    if (answer.code == GOOFS_NO_ROOM)
-        return answer.code;
-    done("delete", answer.code);
-    carry_out(card, list.removal, answer.length);
-    fputs("detector: removed what a save that was cut had left\n", stderr);
-    return GOOFS_DONE;
+    code = remove_beside(card, &calibration);
+    for (i = 0; i < PARTS && code == GOOFS_DONE; i++)
+        code = remove_beside(card, &set[i]);
+    return code;
 }
 
-/* The calibration's entry. Without one the code is GOOFS_NOT_THERE and the size, like all other numbers of a refusal, 0. */
-static goofs_find_result find(const struct card *card)
+/* A calibration's entry. Without one the code is GOOFS_NOT_THERE and the size, like all other numbers of a refusal, 0. */
+static goofs_find_result find(const struct card *card, const struct part *part)
 {
-    goofs_find_result found = goofs_find(card->image, card->length, name, NAME_LENGTH);
+    goofs_find_result found = goofs_find(card->image, card->length, bytes(part->name), strlen(part->name));
 
     if (found.code != GOOFS_NOT_THERE)
         done("find", found.code);
-    if (found.size != 0 && found.size != CALIBRATION_SIZE)
-        failure("the file 'calibration' has another size, so this program did not save it");
+    if (found.size != 0 && found.size != CALIBRATION_SIZE) {
+        fprintf(stderr, "detector: the file '%s' has another size, so this program did not save it\n", part->name);
+        exit(1);
+    }
     return found;
 }
 
-/* A save needs a free entry and a free extent beside the old calibration. If it is refused, that one stays as it is. */
-static void save(struct card *card, const char *text)
+/* Writes a calibration beside. It needs a free entry and a free extent beside the old one. If it is refused, that one stays as it is. */
+static void save_beside(struct card *card, const struct part *part, const char *text, uint64_t now)
 {
-    uint64_t now = (uint64_t)time(NULL);
-    uint8_t calibration[CALIBRATION_SIZE] = {0};
+    uint8_t contents[CALIBRATION_SIZE] = {0};
+    const uint8_t *beside = bytes(part->beside);
+    size_t length = strlen(part->beside);
     goofs_change_result answer;
     uint64_t id = 0;
 
-    if (strlen(text) > sizeof calibration)
+    if (strlen(text) > sizeof contents)
         failure("the text is too long");
-    memcpy(calibration, text, strlen(text));
-    (void)find(card); /* a calibration of another program is not replaced */
+    memcpy(contents, text, strlen(text));
+    (void)find(card, part); /* a calibration of another program is not replaced */
     /* The start has removed any file beside, so here GOOFS_ALREADY_THERE means that the id is taken. Only the root and the files have
      * ids, and a refusal changes nothing: a free id is found after at most one attempt for each of them. */
     do {
         id++;
-        answer = goofs_create(card->image, card->length, beside, BESIDE_LENGTH, id, MODE, now, list.create, sizeof list.create);
+        answer = goofs_create(card->image, card->length, beside, length, id, MODE, now, list.create, sizeof list.create);
     } while (answer.code == GOOFS_ALREADY_THERE);
     done("create", answer.code);
     carry_out(card, list.create, answer.length);
-    answer = goofs_write(card->image, card->length, beside, BESIDE_LENGTH, 0, calibration, sizeof calibration, now, list.write,
-                         sizeof list.write);
+    answer = goofs_write(card->image, card->length, beside, length, 0, contents, sizeof contents, now, list.write, sizeof list.write);
     done("write", answer.code);
     carry_out(card, list.write, answer.length);
+}
+
+static void save(struct card *card, const char *text)
+{
+    uint64_t now = (uint64_t)time(NULL);
+    const struct part *part = &calibration;
+    goofs_change_result answer;
+
+    save_beside(card, part, text, now);
     /* The swap, in one change: from its start mark on the name stands for the new calibration, and the old one is gone. */
-    answer = goofs_rename(card->image, card->length, beside, BESIDE_LENGTH, name, NAME_LENGTH, now, list.rename, sizeof list.rename);
+    answer = goofs_rename(card->image, card->length, bytes(part->beside), strlen(part->beside), bytes(part->name), strlen(part->name), now,
+                          list.rename, sizeof list.rename);
     done("rename", answer.code);
     carry_out(card, list.rename, answer.length);
 }
 
-static void print(const struct card *card)
+/* Until the last change the three old files and the three new ones are on the card. */
+static void save_set(struct card *card, char *const texts[])
 {
-    uint8_t calibration[CALIBRATION_SIZE];
+    uint64_t now = (uint64_t)time(NULL);
+    uint8_t names[2 * PARTS * GOOFS_LONGEST_NAME];
+    uint64_t lengths[2 * PARTS];
+    size_t at = 0;
+    goofs_change_result answer;
+    int i;
+
+    for (i = 0; i < 2 * PARTS; i++) {
+        const struct part *part = &set[i / 2];
+        const char *name = i % 2 == 0 ? part->beside : part->name;
+
+        if (i % 2 == 0)
+            save_beside(card, part, texts[i / 2], now);
+        lengths[i] = strlen(name);
+        memcpy(names + at, name, strlen(name));
+        at += strlen(name);
+    }
+    /* The change-over: from its start mark on all three names stand for the new files, and the old ones are gone. */
+    answer = goofs_rename_set(card->image, card->length, names, at, lengths, 2 * PARTS, now, list.rename_set, sizeof list.rename_set);
+    if (answer.code == GOOFS_BAD_ARGUMENT || answer.code == GOOFS_NOT_THERE)
+        fprintf(stderr, "detector: rename %" PRIu64 " of the set\n", answer.place);
+    done("rename set", answer.code);
+    carry_out(card, list.rename_set, answer.length);
+}
+
+static void print(const struct card *card, const struct part *part)
+{
+    uint8_t contents[CALIBRATION_SIZE];
     goofs_read_result answer;
 
-    if (find(card).size == 0) {
+    if (find(card, part).size == 0) {
         puts("no calibration");
         return;
     }
     /* The list would set the access time. It is not carried out: a start that only reads then wears the card as little as it can, and
      * any time will do. */
-    answer = goofs_read(card->image, card->length, name, NAME_LENGTH, 0, sizeof calibration, 0, calibration, sizeof calibration,
+    answer = goofs_read(card->image, card->length, bytes(part->name), strlen(part->name), 0, sizeof contents, 0, contents, sizeof contents,
                         list.access, sizeof list.access);
     done("read", answer.code);
-    printf("%.*s\n", (int)answer.count, (const char *)calibration); /* ends at the padding, or at the sector's end */
+    printf("%.*s\n", (int)answer.count, (const char *)contents); /* ends at the padding, or at the sector's end */
+}
+
+/* All parts of the set, or that there is none: this program leaves no other card. */
+static void print_set(const struct card *card)
+{
+    int present = 0;
+    int i;
+
+    for (i = 0; i < PARTS; i++)
+        present += find(card, &set[i]).size != 0;
+    if (present != 0 && present != PARTS)
+        failure("a part of the set is missing, so this program did not save it");
+    if (present == 0)
+        puts("no calibration set");
+    for (i = 0; i < PARTS && present != 0; i++) {
+        printf("%s: ", set[i].name);
+        print(card, &set[i]);
+    }
 }
 
 int main(int argc, char **argv)
 {
     struct card card = {-1, NULL, 0};
     const char *path;
-    int is_boot;
+    int is_boot, is_set, words;
 
     if (argc == 4 && strcmp(argv[1], "--format") == 0) {
         char *end;
@@ -385,11 +476,14 @@ int main(int argc, char **argv)
         return 0;
     }
     is_boot = argc == 3 && strcmp(argv[1], "--boot") == 0;
-    if (argc < 2 || argc > 3 || (argv[1][0] == '-' && !is_boot)) {
-        fputs("usage: detector --format SECTORS IMAGE\n       detector IMAGE [TEXT]\n       detector --boot IMAGE\n", stderr);
+    is_set = argc >= 3 && strcmp(argv[1], "--set") == 0;
+    words = argc - (is_boot || is_set ? 3 : 2); /* behind IMAGE */
+    if (argc < 2 || (argv[1][0] == '-' && !is_boot && !is_set) || (words != 0 && words != (is_set ? PARTS : 1))) {
+        fputs("usage: detector --format SECTORS IMAGE\n       detector IMAGE [TEXT]\n"
+              "       detector --set IMAGE [TEMPERATURE BEAM TIMING]\n       detector --boot IMAGE\n", stderr);
         return 2;
     }
-    path = argv[is_boot ? 2 : 1];
+    path = argv[argc - 1 - words];
     card.file = open(path, O_RDWR);
     if (card.file < 0)
         system_failure(path);
@@ -399,12 +493,18 @@ int main(int argc, char **argv)
     } else {
         uint64_t code = start(&card);
 
-        if (argc == 3) {
+        if (words != 0) {
             done("delete", code); /* a save needs the name beside */
-            save(&card, argv[2]);
+            if (is_set)
+                save_set(&card, argv + argc - PARTS);
+            else
+                save(&card, argv[argc - 1]);
             load(&card); /* so that what is printed is what stands in the file */
         }
-        print(&card);
+        if (is_set)
+            print_set(&card);
+        else
+            print(&card, &calibration);
     }
     free(card.image);
     if (close(card.file) != 0)

@@ -5,8 +5,9 @@
  * any bytes and any arguments. Measured, a call uses at most 16 KiB of stack on a volume of 255 files and 3 extents, and with 65,535 of
  * each at most 331 KiB (repair; resize 266 KiB, check 257 KiB).
  *
- * `code` is a number of `enum goofs_code`; the lowest whose condition holds is given. With any code but 0 all other result numbers
- * are 0 (except fault and place with 7) and no byte of a buffer has changed.
+ * `code` is a number of `enum goofs_code`; the lowest whose condition holds is given (but see goofs_rename_set). With any code but 0 all
+ * other result numbers are 0 (except fault and place with 7, and place with 8 and 9 of goofs_rename_set) and no byte of a buffer has
+ * changed.
  *
  * A changing call reads the image and fills a write list with records of GOOFS_RECORD bytes: the record's position in the list, from
  * 0 on (8), a sector number (8), contents (512); numbers are big-endian. Number 2^64 - 1 with 512 zero bytes is a barrier: nothing
@@ -81,6 +82,7 @@ extern "C" {
 #define GOOFS_LONGEST_NAME_2 468       /* of edition 2 */
 #define GOOFS_LATEST_TIME_1 UINT32_MAX /* of edition 1 */
 #define GOOFS_LONGEST_TRANSFER 65536
+#define GOOFS_MOST_RENAMES 8 /* in one change */
 #define GOOFS_BARRIER UINT64_MAX
 
 /* The records of a change with so many data sectors and targets: the data, a copy of each target, the journal (32 entries in a
@@ -89,12 +91,13 @@ extern "C" {
 #define GOOFS_RECOVERY_RECORDS(targets) ((targets) + 1 + 2)
 
 /* The longest list that each call can give, in bytes. Targets are the root, the entry, that of a file which a rename replaces, and
- * at most 512 sectors of the allocation table; a write touches at most 129 data sectors and one of the table; a journal has at most
- * 1,024 entries. */
+ * at most 512 sectors of the allocation table; a set of renames has two entries for each, and so 1,081 records; a write touches at most
+ * 129 data sectors and one of the table; a journal has at most 1,024 entries. */
 #define GOOFS_ACCESS_LIST (GOOFS_RECORDS(0, 1) * GOOFS_RECORD) /* of goofs_read and goofs_list: this long or empty */
 #define GOOFS_CREATE_LIST (GOOFS_RECORDS(0, 2) * GOOFS_RECORD)
 #define GOOFS_DELETE_LIST (GOOFS_RECORDS(0, 2 + 512) * GOOFS_RECORD)
 #define GOOFS_RENAME_LIST (GOOFS_RECORDS(0, 3 + 512) * GOOFS_RECORD)
+#define GOOFS_RENAME_SET_LIST (GOOFS_RECORDS(0, 1 + 2 * GOOFS_MOST_RENAMES + 512) * GOOFS_RECORD)
 #define GOOFS_RESIZE_LIST (GOOFS_RECORDS(0, 1 + 512) * GOOFS_RECORD)
 #define GOOFS_WRITE_LIST (GOOFS_RECORDS(129, 2) * GOOFS_RECORD)
 #define GOOFS_RECOVER_LIST (GOOFS_RECOVERY_RECORDS(1024) * GOOFS_RECORD)
@@ -120,13 +123,16 @@ enum goofs_code {
                                   * to that has a byte other than 33 to 126, or a slash; on edition 1 a time above 4,294,967,295;
                                   * create with id 0; a read or write of more than 65,536 bytes; a resize that grows by more than
                                   * that; a list index past the directory; a format without a geometry or of another edition; a
-                                  * bad record; a slice with budget 0 */
-    GOOFS_NOT_THERE = 9,         /* no such name, listed entry is free, or format position past the last record */
+                                  * bad record; a slice with budget 0; a set of no renames or of more than eight, or with lengths
+                                  * that don't fit its names. Of a set `place` is the rename with the bad name */
+    GOOFS_NOT_THERE = 9,         /* no such name, listed entry is free, or format position past the last record; of a set `place` is
+                                  * the rename whose old name is not there when its turn comes */
     GOOFS_ALREADY_THERE = 10,    /* create: name already there, or id an occupied entry's or the root's */
     GOOFS_DIRECTORY_FULL = 11,   /* create: no free entry */
     GOOFS_PAST_THE_END = 12,     /* offset greater than size */
     GOOFS_NO_ROOM = 13,          /* one more extent is needed and fewer than K + 1 are free; or something is to be changed and fewer
-                                  * than K are free: the volume is frozen */
+                                  * than K are free: the volume is frozen; or a set of renames changes more sectors than K extents
+                                  * have */
     GOOFS_BUFFER_TOO_SHORT = 14  /* list or output too short for the answer, in read and list either of them, or scratch for the
                                   * check */
 };
@@ -238,6 +244,23 @@ goofs_change_result goofs_delete(const uint8_t *image, size_t image_length, cons
  * empty list, on a frozen volume too. */
 goofs_change_result goofs_rename(const uint8_t *image, size_t image_length, const uint8_t *old_name, size_t old_length,
                                  const uint8_t *new_name, size_t new_length, uint64_t time, uint8_t *list, size_t list_length);
+
+/* Up to GOOFS_MOST_RENAMES renames as one change, at one time: after a cut and a recovery all of them are done, or none. `names` holds
+ * old and new names in turn, one after the other, `lengths` the length of each of `count` names, two for each rename. They are applied
+ * in order, each to the names as those before it leave them: a to b, b to a is no swap, as the first deletes b's file; a to t, b to a,
+ * t to b is one.
+ *
+ * A count of 0, an odd one or one above 16, lengths that don't add up to `names_length` (as whole numbers: a sum that is right in 64
+ * bits only is none), and on edition 1 a time that it doesn't store give 8 with place 0, before any rename is looked at. Then the first
+ * rename that goofs_rename would refuse with 8 or 9 when its turn comes fixes the answer, and `place` is its place, from 0 on; later
+ * ones are not looked at, though one of them may have the lower number. A sector that several renames change stands in the list once,
+ * as it is in the end. The versions of root and entry rise once for each rename that is applied to them; one to itself is judged as the
+ * others and changes nothing.
+ *
+ * 13 also if the sectors to be changed are more than K extents have, which needs T + 17 above K * S. Gives 0 to 9, 13 and 14. List: at
+ * most GOOFS_RENAME_SET_LIST; empty if each has the same name twice, on a frozen volume too. */
+goofs_change_result goofs_rename_set(const uint8_t *image, size_t image_length, const uint8_t *names, size_t names_length,
+                                     const uint64_t *lengths, size_t count, uint64_t time, uint8_t *list, size_t list_length);
 
 /* Another size: extents behind it are freed, or zeros are written at the end, at most 65,536. Gives 0 to 9, 13 and 14. List: at
  * most GOOFS_RESIZE_LIST. The same size gives an empty list, on a frozen volume too. */

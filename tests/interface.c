@@ -1,4 +1,4 @@
-/* Tests of the C interface through include/goofs.h: all sixteen calls on volumes of both editions, every result number, every byte of
+/* Tests of the C interface through include/goofs.h: all seventeen calls on volumes of both editions, every result number, every byte of
  * every buffer. What is expected is worked out from document 01 and stands here as plain numbers. The last line is 'N passed, M failed',
  * where a test is one function of the tables at the end, on one edition.
  *
@@ -20,7 +20,7 @@
 
 #include "goofs.h"
 
-enum { SECTORS = 1313, IMAGE = SECTORS * 512, LONGEST = GOOFS_RENAME_LIST };
+enum { SECTORS = 1313, IMAGE = SECTORS * 512, LONGEST = GOOFS_RENAME_SET_LIST };
 
 /* Before anything is written, each byte of a medium and of a lent buffer has one of these values, so that stray bytes show. */
 enum { MEDIUM = 0xA5, LENT = 0xC3 };
@@ -298,18 +298,37 @@ static void land(uint8_t *image, size_t records)
 
 /* -------------------- calls, with all they may touch */
 
-enum kind { CREATE, DELETE, RENAME, RESIZE, WRITE };
+enum kind { CREATE, DELETE, RENAME, RENAME_SET, RESIZE, WRITE };
 
 struct change {
     enum kind kind;
-    const char *name;
+    const char *name; /* of a set all its names, old and new in turn, with spaces between them */
     uint64_t id;
     uint32_t mode;
     uint64_t time, at; /* of a write the offset, of a resize the new size */
     const uint8_t *data;
     size_t data_length;
     const char *new_name;
+    uint64_t place; /* of a set that is refused */
 };
+
+/* The names joined, and their lengths. */
+static goofs_change_result call_set(const char *words, uint64_t time, uint8_t *list, size_t room)
+{
+    static uint8_t names[512];
+    uint64_t lengths[24] = {0};
+    size_t count = 1, length = 0;
+
+    for (; *words; words++) {
+        if (*words == ' ') {
+            count++;
+        } else {
+            names[length++] = (uint8_t)*words;
+            lengths[count - 1]++;
+        }
+    }
+    return goofs_rename_set(medium.bytes, IMAGE, names, length, lengths, count, time, list, room);
+}
 
 static goofs_change_result call(const struct change *c, uint8_t *list, size_t room)
 {
@@ -326,6 +345,8 @@ static goofs_change_result call(const struct change *c, uint8_t *list, size_t ro
         return goofs_delete(medium.bytes, IMAGE, name, length, time, list, room);
     case RENAME:
         return goofs_rename(medium.bytes, IMAGE, name, length, new_name, new_length, time, list, room);
+    case RENAME_SET:
+        return call_set(c->name, time, list, room);
     case RESIZE:
         return goofs_resize(medium.bytes, IMAGE, name, length, c->at, time, list, room);
     default:
@@ -342,6 +363,8 @@ static size_t longest(enum kind kind)
         return GOOFS_DELETE_LIST;
     case RENAME:
         return GOOFS_RENAME_LIST;
+    case RENAME_SET:
+        return GOOFS_RENAME_SET_LIST;
     case RESIZE:
         return GOOFS_RESIZE_LIST;
     default:
@@ -410,8 +433,8 @@ static void refused(uint64_t code, struct change c)
 {
     hold();
     lend();
-    IS(goofs_change_result, call(&c, lent.bytes, sizeof lent.bytes), .code = code);
-    IS(goofs_change_result, call(&c, NULL, 0), .code = code);
+    IS(goofs_change_result, call(&c, lent.bytes, sizeof lent.bytes), .code = code, .place = c.place);
+    IS(goofs_change_result, call(&c, NULL, 0), .code = code, .place = c.place);
     lent_is(__LINE__, NULL, 0);
     held_is(__LINE__);
 }
@@ -548,11 +571,12 @@ static void read_refused(uint64_t code, const char *name, uint64_t offset, uint6
 
 enum { NOT_THESE = 0, SUMMARY = 1, RECOVER = 2 };
 
-/* check, find, list, read, create, delete, rename, resize and write, and those that are named besides, refuse the image. Arguments
- * that are bad in every other way change nothing, as the lowest number is given. */
+/* check, find, list, read, create, delete, rename, a set of renames, resize and write, and those that are named besides, refuse the
+ * image. Arguments that are bad in every other way change nothing, as the lowest number is given. */
 static void all_refuse(int besides, const uint8_t *image, size_t length, uint64_t code, uint64_t fault, uint64_t place)
 {
-    static const uint8_t beam[] = "beam", created[] = "new", one[] = "1";
+    static const uint8_t beam[] = "beam", created[] = "new", one[] = "1", both[] = "beamnew";
+    static const uint64_t lengths[] = {4, 3};
     int bad;
 
     hold();
@@ -578,6 +602,9 @@ static void all_refuse(int besides, const uint8_t *image, size_t length, uint64_
            .place = place);
         IS(goofs_change_result, goofs_rename(image, length, name, name_length, new_name, new_length, time, out, room), .code = code,
            .fault = fault, .place = place);
+        IS(goofs_change_result,
+           goofs_rename_set(image, length, bad ? NULL : both, bad ? 0 : 7, bad ? NULL : lengths, bad ? 0 : 2, time, out, room),
+           .code = code, .fault = fault, .place = place);
         IS(goofs_change_result, goofs_resize(image, length, name, name_length, number, time, out, room), .code = code, .fault = fault,
            .place = place);
         IS(goofs_change_result, goofs_write(image, length, name, name_length, number, data, data_length, time, out, room),
@@ -696,6 +723,7 @@ static void macros(void)
     NUMBER(GOOFS_LONGEST_NAME_2, 468);
     NUMBER(GOOFS_LATEST_TIME_1, 4294967295);
     NUMBER(GOOFS_LONGEST_TRANSFER, 65536);
+    NUMBER(GOOFS_MOST_RENAMES, 8);
     NUMBER(GOOFS_BARRIER, UINT64_C(18446744073709551615));
     /* The names stand for the numbers of the rules. */
     NUMBER(GOOFS_DONE, 0);
@@ -723,14 +751,15 @@ static void macros(void)
     NUMBER(GOOFS_STATE_WAITING, 1);
     NUMBER(GOOFS_STATE_DAMAGED, 2);
     NUMBER(GOOFS_STATE_UNFINISHED, 3);
-    NUMBER(GOOFS_ACCESS_LIST, 4752);    /* 1 copy, journal, start mark, 1 target, end mark, 4 barriers: 9 records */
-    NUMBER(GOOFS_CREATE_LIST, 5808);    /* 2 copies, journal, start mark, 2 targets, end mark, 4 barriers: 11 records */
-    NUMBER(GOOFS_DELETE_LIST, 554928);  /* 514 copies, 17 journal sectors, 2 marks, 514 targets, 4 barriers: 1,051 */
-    NUMBER(GOOFS_RENAME_LIST, 555984);  /* 515 copies, 17 journal sectors, 2 marks, 515 targets, 4 barriers: 1,053 */
-    NUMBER(GOOFS_RESIZE_LIST, 553872);  /* 513 copies, 17 journal sectors, 2 marks, 513 targets, 4 barriers: 1,049 */
-    NUMBER(GOOFS_WRITE_LIST, 73920);    /* 129 data sectors, 2 copies, journal, 2 marks, 2 targets, 4 barriers: 140 */
-    NUMBER(GOOFS_REPAIR_LIST, 552288);  /* 512 copies, 16 journal sectors, 2 marks, 512 targets, 4 barriers: 1,046 */
-    NUMBER(GOOFS_RECOVER_LIST, 542256); /* 1,024 targets, end mark, 2 barriers: 1,027 */
+    NUMBER(GOOFS_ACCESS_LIST, 4752);       /* 1 copy, journal, start mark, 1 target, end mark, 4 barriers: 9 records */
+    NUMBER(GOOFS_CREATE_LIST, 5808);       /* 2 copies, journal, start mark, 2 targets, end mark, 4 barriers: 11 records */
+    NUMBER(GOOFS_DELETE_LIST, 554928);     /* 514 copies, 17 journal sectors, 2 marks, 514 targets, 4 barriers: 1,051 */
+    NUMBER(GOOFS_RENAME_LIST, 555984);     /* 515 copies, 17 journal sectors, 2 marks, 515 targets, 4 barriers: 1,053 */
+    NUMBER(GOOFS_RENAME_SET_LIST, 570768); /* 529 copies, 17 journal sectors, 2 marks, 529 targets, 4 barriers: 1,081 */
+    NUMBER(GOOFS_RESIZE_LIST, 553872);     /* 513 copies, 17 journal sectors, 2 marks, 513 targets, 4 barriers: 1,049 */
+    NUMBER(GOOFS_WRITE_LIST, 73920);       /* 129 data sectors, 2 copies, journal, 2 marks, 2 targets, 4 barriers: 140 */
+    NUMBER(GOOFS_REPAIR_LIST, 552288);     /* 512 copies, 16 journal sectors, 2 marks, 512 targets, 4 barriers: 1,046 */
+    NUMBER(GOOFS_RECOVER_LIST, 542256);    /* 1,024 targets, end mark, 2 barriers: 1,027 */
     NUMBER(GOOFS_RESERVE(4, 128), 1);
     NUMBER(GOOFS_RESERVE(125 * 128, 128), 1);
     NUMBER(GOOFS_RESERVE(125 * 128 + 1, 128), 2);
@@ -1195,6 +1224,184 @@ static void renames_cut(void)
     }
 }
 
+/* T-13: renames in order as one change. "beam" is in entry 0, version 1, "gain" in entry 1, version 0; the root's version is 2. */
+static void rename_sets(void)
+{
+    uint8_t contents[4][512];
+
+    /* A swap through a third name: the root's version rises by 3, that of "beam" by 2, that of "gain" by 1. 3 copies: 13 records. */
+    two_files();
+    memset(medium.bytes + 2 * 512 + name_at() + 4, 0x5A, 508 - name_at());
+    wanted.length = 0;
+    root(contents[0], 5, 1004);
+    entry(contents[1], (struct entry){.size = 3000, .version = 3, .id = BEAM_ID, .mode = BEAM_MODE, .access_time = 1001,
+                                      .change_time = 1004, .name = "gain"});
+    entry(contents[2], (struct entry){.version = 1, .id = GAIN_ID, .mode = GAIN_MODE, .access_time = 1003, .change_time = 1004,
+                                      .name = "beam"});
+    want_commit(3, (const uint64_t[]){1, 2, 3}, contents);
+    NUMBER(wanted.length, 6864);
+    GIVES(RENAME_SET, "beam t gain beam t gain", .time = 1004);
+    READS("gain", 0, 65536, data, 3000);
+    READS("beam", 0, 65536, NULL, 0);
+
+    /* No swap: "gain" is deleted by the first rename. */
+    two_files();
+    wanted.length = 0;
+    root(contents[0], 4, 1004);
+    entry(contents[1], (struct entry){.size = 3000, .version = 3, .id = BEAM_ID, .mode = BEAM_MODE, .access_time = 1001,
+                                      .change_time = 1004, .name = "beam"});
+    memset(contents[2], 0, 512);
+    want_commit(3, (const uint64_t[]){1, 2, 3}, contents);
+    GIVES(RENAME_SET, "beam gain gain beam", .time = 1004);
+    IS(goofs_find_result, goofs_find(medium.bytes, IMAGE, (const uint8_t *)"gain", 4), .code = 9);
+
+    /* Renamed away, then replaced: zeros, once, and its extent is freed. 4 copies: 15 records. */
+    two_files();
+    wanted.length = 0;
+    root(contents[0], 4, 1004);
+    memset(contents[1], 0, 512);
+    entry(contents[2], (struct entry){.version = 1, .id = GAIN_ID, .mode = GAIN_MODE, .access_time = 1003, .change_time = 1004,
+                                      .name = "t"});
+    table(contents[3], FREE, FREE, FREE, FREE);
+    want_commit(4, (const uint64_t[]){1, 2, 3, 289}, contents);
+    NUMBER(wanted.length, 7920);
+    GIVES(RENAME_SET, "beam t gain t", .time = 1004);
+
+    /* Onto a name and away again: what was there is gone. */
+    two_files();
+    wanted.length = 0;
+    root(contents[0], 4, 1004);
+    entry(contents[2], (struct entry){.version = 2, .id = GAIN_ID, .mode = GAIN_MODE, .access_time = 1003, .change_time = 1004,
+                                      .name = "t"});
+    want_commit(4, (const uint64_t[]){1, 2, 3, 289}, contents);
+    GIVES(RENAME_SET, "gain beam beam t", .time = 1004);
+
+    /* Eight, away and back: versions that are 4,294,967,295 are followed by 0, 1 and so on up to 7. One to itself counts for none. */
+    two_files();
+    put(medium.bytes + 512, 4, UINT32_MAX);
+    put(medium.bytes + 2 * 512 + 10, 4, UINT32_MAX);
+    wanted.length = 0;
+    root(contents[0], 7, 1004);
+    entry(contents[1], (struct entry){.size = 3000, .version = 7, .id = BEAM_ID, .mode = BEAM_MODE, .access_time = 1001,
+                                      .change_time = 1004, .name = "beam"});
+    want_commit(2, (const uint64_t[]){1, 2}, contents);
+    GIVES(RENAME_SET, "beam t t beam beam t t beam beam t t beam beam t t beam", .time = 1004);
+    wanted.length = 0;
+    root(contents[0], 8, 1005);
+    entry(contents[1], (struct entry){.size = 3000, .version = 8, .id = BEAM_ID, .mode = BEAM_MODE, .access_time = 1001,
+                                      .change_time = 1005, .name = "b"});
+    want_commit(2, (const uint64_t[]){1, 2}, contents);
+    GIVES(RENAME_SET, "gain gain beam b b b", .time = 1005);
+    wanted.length = 0; /* all of them to itself */
+    GIVES(RENAME_SET, "gain gain b b", .time = 1006);
+    GIVES(RENAME_SET, "b b b b b b b b b b b b b b b b", .time = 1006);
+
+    /* One is a rename. */
+    two_files();
+    wanted.length = 0;
+    root(contents[0], 3, 1004);
+    memset(contents[1], 0, 512);
+    entry(contents[2], (struct entry){.version = 1, .id = GAIN_ID, .mode = GAIN_MODE, .access_time = 1003, .change_time = 1004,
+                                      .name = "beam"});
+    want_commit(4, (const uint64_t[]){1, 2, 3, 289}, contents);
+    lend();
+    IS(goofs_change_result,
+       goofs_rename(medium.bytes, IMAGE, (const uint8_t *)"gain", 4, (const uint8_t *)"beam", 4, late(1004), lent.bytes, LONGEST),
+       .length = 7920);
+    lent_is(__LINE__, wanted.bytes, 7920);
+    GIVES(RENAME_SET, "gain beam", .time = 1004);
+}
+
+/* The numbers of a set, and their places. */
+static void rename_sets_refused(void)
+{
+    static const uint64_t ones[] = {1, 1, 1, 1, 1, 1, 1, 1, 1, 1, 1, 1, 1, 1, 1, 1, 1, 1};
+    static const struct {
+        size_t names, count;
+        uint64_t lengths[4];
+    } shapes[] = {
+        {0, 0, {0}},
+        {8, 0, {0}},
+        {4, 1, {4}},
+        {8, 1, {8}},
+        {8, 3, {4, 4, 0}},
+        {8, 2, {4, 3}},
+        {8, 2, {4, 5}},
+        {7, 2, {4, 4}},
+        {0, 2, {4, 4}},
+        /* these add up in 64 bits only */
+        {8, 2, {UINT64_MAX, 9}},
+        {8, 2, {9, UINT64_MAX}},
+        {8, 4, {4, 4, UINT64_MAX, 1}},
+        {8, 4, {4, 4, UINT64_C(1) << 63, UINT64_C(1) << 63}},
+    };
+    const uint8_t *names = (const uint8_t *)"beamgain", *many = (const uint8_t *)"bbbbbbbbbbbbbbbbbb";
+    size_t k;
+
+    two_files();
+    hold();
+    lend();
+    for (k = 0; k < sizeof shapes / sizeof *shapes; k++) {
+        from = (int)k;
+        IS(goofs_change_result,
+           goofs_rename_set(medium.bytes, IMAGE, shapes[k].names ? names : NULL, shapes[k].names,
+                            shapes[k].count ? shapes[k].lengths : NULL, shapes[k].count, 7, lent.bytes, sizeof lent.bytes),
+           .code = 8);
+    }
+    /* sixteen lengths are good: there is no file "b"; seventeen and eighteen are not looked at */
+    IS(goofs_change_result, goofs_rename_set(medium.bytes, IMAGE, many, 16, ones, 16, 7, lent.bytes, sizeof lent.bytes), .code = 9);
+    IS(goofs_change_result, goofs_rename_set(medium.bytes, IMAGE, many, 17, ones, 17, 7, lent.bytes, sizeof lent.bytes), .code = 8);
+    IS(goofs_change_result, goofs_rename_set(medium.bytes, IMAGE, many, 18, ones, 18, 7, lent.bytes, sizeof lent.bytes), .code = 8);
+    /* two names of no byte */
+    IS(goofs_change_result, goofs_rename_set(medium.bytes, IMAGE, NULL, 0, (const uint64_t[]){0, 0}, 2, 7, NULL, 0), .code = 8);
+    IS(goofs_change_result, goofs_rename_set(medium.bytes, IMAGE, names, 8, (const uint64_t[]){4, 4, 0, 0}, 4, 7, NULL, 0), .code = 8,
+       .place = 1);
+    lent_is(__LINE__, NULL, 0);
+    held_is(__LINE__);
+
+    REFUSED(9, RENAME_SET, "none x", .place = 0);
+    REFUSED(9, RENAME_SET, "beam x none y a/b c", .place = 1); /* the first, though a later one has the lower number */
+    REFUSED(8, RENAME_SET, "beam x x a/b none y", .place = 1);
+    REFUSED(9, RENAME_SET, "beam x beam y", .place = 1); /* no more */
+    REFUSED(9, RENAME_SET, "beam gain beam beam", .place = 1);
+    REFUSED(9, RENAME_SET, "beam t t gain gain beam t x", .place = 3);
+    REFUSED(9, RENAME_SET, "beam beam none none", .place = 1);
+    REFUSED(9, RENAME_SET, "beam t t beam beam t t beam beam t t beam beam t none beam", .place = 7);
+    IS(goofs_change_result, call_set("beam t t gain", late(7), NULL, 0), .code = 14);
+}
+
+/* A swap of which any number of records landed in order: with the start mark, which is the sixth, both names are changed over after a
+ * recovery, and without it neither is. */
+static void rename_sets_cut(void)
+{
+    static uint8_t list[6864];
+    size_t landed;
+    goofs_length_result recovery;
+
+    two_files();
+    IS(goofs_change_result, call_set("beam t gain beam t gain", late(1004), list, sizeof list), .length = 6864);
+    for (landed = 0; landed <= 13; landed++) {
+        two_files();
+        from = (int)landed;
+        NUMBER(goofs_carry_out(medium.bytes, IMAGE, list, landed * 528), 0);
+        recovery = goofs_recover(medium.bytes, IMAGE, lent.bytes, sizeof lent.bytes);
+        NUMBER(recovery.code, 0);
+        NUMBER(recovery.length, landed >= 6 && landed < 12 ? 6 * 528 : 0); /* 3 targets, the end mark, 2 barriers */
+        NUMBER(goofs_carry_out(medium.bytes, IMAGE, lent.bytes, (size_t)recovery.length), 0);
+        IS(goofs_check_result, goofs_check(medium.bytes, IMAGE), .code = 0);
+        IS(goofs_find_result, goofs_find(medium.bytes, IMAGE, (const uint8_t *)"t", 1), .code = 9);
+        if (landed < 6) {
+            ENTRY_IS(0, .size = 3000, .version = 1, .id = BEAM_ID, .mode = BEAM_MODE, .access_time = 1001, .change_time = 1002,
+                     .name = "beam");
+            ENTRY_IS(1, .id = GAIN_ID, .mode = GAIN_MODE, .access_time = 1003, .change_time = 1003, .name = "gain");
+        } else {
+            ENTRY_IS(0, .size = 3000, .version = 3, .id = BEAM_ID, .mode = BEAM_MODE, .access_time = 1001, .change_time = 1004,
+                     .name = "gain");
+            ENTRY_IS(1, .version = 1, .id = GAIN_ID, .mode = GAIN_MODE, .access_time = 1003, .change_time = 1004, .name = "beam");
+        }
+    }
+}
+
 /* Group A alone landed, which is all before the first barrier: nothing has happened. */
 static void cut_before_the_start_mark(void)
 {
@@ -1570,6 +1777,8 @@ static void no_extent_free(void)
     REFUSED(9, DELETE, "clock", .id = 0);
     REFUSED(13, RENAME, "beam", .new_name = "gain");
     REFUSED(13, RENAME, "gain", .new_name = "clock");
+    REFUSED(13, RENAME_SET, "gain clock clock beam", .place = 0);
+    REFUSED(9, RENAME_SET, "gain clock gain beam", .place = 1);
     REFUSED(13, RESIZE, "gain", .at = 0);
     REFUSED(13, RESIZE, "gain", .at = 196607);
     REFUSED(13, RESIZE, "beam", .at = 3001);
@@ -1581,6 +1790,7 @@ static void no_extent_free(void)
     GIVES(WRITE, "beam", .at = 0, .data = data, .data_length = 0);
     GIVES(RESIZE, "gain", .at = 196608);
     GIVES(RENAME, "gain", .new_name = "gain");
+    GIVES(RENAME_SET, "gain gain beam beam", .time = 1009);
     REPAIRS(0, 0, 0);
 
     hold();
@@ -1724,6 +1934,9 @@ static void times_of_calls(void)
         NUMBER(goofs_write(medium.bytes, IMAGE, beam, 4, 3001, data, 9, t, lent.bytes, LONGEST).code, bad ? 8 : 12);
         NUMBER(goofs_rename(medium.bytes, IMAGE, beam, 4, gain, 4, t, lent.bytes, LONGEST).code, bad ? 8 : 0);
         NUMBER(goofs_rename(medium.bytes, IMAGE, none, 4, gain, 4, t, lent.bytes, LONGEST).code, bad ? 8 : 9);
+        IS(goofs_change_result, call_set("none gain", t, lent.bytes, LONGEST), .code = bad ? 8 : 9);
+        IS(goofs_change_result, call_set("beam t none gain", t, lent.bytes, LONGEST), .code = bad ? 8 : 9, .place = bad ? 0 : 1);
+        IS(goofs_change_result, call_set("beam beam", t, NULL, 0), .code = bad ? 8 : 0);
         NUMBER(goofs_read(medium.bytes, IMAGE, beam, 4, 0, 9, t, lent.bytes, LONGEST, lent_list.bytes, LONGEST).code, bad ? 8 : 0);
         NUMBER(goofs_read(medium.bytes, IMAGE, none, 4, 0, 9, t, lent.bytes, LONGEST, lent_list.bytes, LONGEST).code, bad ? 8 : 9);
         NUMBER(goofs_read(medium.bytes, IMAGE, beam, 4, 3001, 0, t, NULL, 0, lent_list.bytes, LONGEST).code, bad ? 8 : 12);
@@ -1882,6 +2095,27 @@ static void longest_recovery(void)
     }
 }
 
+/* On an empty volume with so many table sectors: "a" to "h" in the entries 100 to 107 have together one extent in each table sector, "0" to
+ * "7" in the entries 50 to 43 are empty. */
+static void sixteen_files(uint8_t *image, size_t table_sectors)
+{
+    size_t k, extents;
+
+    memset(image + 2 * 512, 0, 255 * 512);
+    memset(image + 289 * 512, 255, table_sectors * 512);
+    for (k = 0; k < 8; k++) {
+        extents = (table_sectors - k + 7) / 8;
+        entry(image + (102 + k) * 512, (struct entry){.size = extents * 65536, .id = 200 + k, .name = (const char[]){(char)('a' + k), 0}});
+        entry(image + (52 - k) * 512, (struct entry){.version = k, .id = 300 + k, .name = (const char[]){(char)('0' + k), 0}});
+    }
+    for (k = 0; k < table_sectors; k++)
+        put(image + (289 + k) * 512, 4, (100 + k % 8) << 16 | k / 8);
+    IS(goofs_check_result, goofs_check(image, (size_t)(table_sectors == 512 ? 8389281 : 1835409) * 512), .code = 0);
+}
+
+static const uint64_t one_each[16] = {1, 1, 1, 1, 1, 1, 1, 1, 1, 1, 1, 1, 1, 1, 1, 1};
+static const uint8_t onto_all[] = "0a1b2c3d4e5f6g7h";
+
 /* The largest volume with extents of 128 sectors: N = 65,535, T = 512, K = 5. Journal 257, table 289, data 801, reserve
  * 801 + 65,530 x 128 = 8,388,641; 8,389,281 sectors. One file has all 65,530 usable extents, so its size is 65,530 x 65,536 bytes,
  * and a delete touches every table sector; the last entry has another, which is empty. The image has more than 4 GiB, of which only
@@ -1889,8 +2123,8 @@ static void longest_recovery(void)
 static int longest_lists(void)
 {
     const size_t length = (size_t)8389281 * 512;
-    static uint8_t contents[515][512];
-    static uint64_t targets[515];
+    static uint8_t contents[529][512];
+    static uint64_t targets[529];
     uint8_t *image;
     size_t k, offset;
 
@@ -1999,6 +2233,66 @@ static int longest_lists(void)
        goofs_rename(image, length, (const uint8_t *)"gain", 4, (const uint8_t *)"beam", 4, late(1001), lent.bytes, GOOFS_RENAME_LIST),
        .code = 0, .length = 555984);
     lent_is(__LINE__, wanted.bytes, 555984);
+
+    /* Eight renames onto files: the root, sixteen entries, and all of the table. */
+    sixteen_files(image, 512);
+    for (k = 0; k < 5; k++)
+        volume.staging[k] = 8388641 + 128 * k;
+    memset(contents, 0, sizeof contents);
+    root(contents[0], 49, 1001); /* 41 and 8 */
+    for (k = 0; k < 8; k++) {
+        targets[1 + k] = 45 + k; /* entry 43 is "7", which becomes "h" */
+        entry(contents[1 + k], (struct entry){.version = 8 - k, .id = 307 - k, .change_time = 1001,
+                                              .name = (const char[]){(char)('h' - k), 0}});
+        targets[9 + k] = 102 + k;
+    }
+    for (k = 0; k < 512; k++) {
+        targets[17 + k] = 289 + k;
+        memset(contents[17 + k], 255, 512);
+    }
+    wanted.length = 0;
+    want_commit(529, targets, contents);
+    NUMBER(wanted.length, 1081 * 528);
+    NUMBER(wanted.length, GOOFS_RENAME_SET_LIST);
+    lend();
+    IS(goofs_change_result,
+       goofs_rename_set(image, length, onto_all, 16, one_each, 16, late(1001), lent.bytes, GOOFS_RENAME_SET_LIST - 1), .code = 14);
+    lent_is(__LINE__, NULL, 0);
+    IS(goofs_change_result, goofs_rename_set(image, length, onto_all, 16, one_each, 16, late(1001), lent.bytes, GOOFS_RENAME_SET_LIST),
+       .code = 0, .length = 570768);
+    lent_is(__LINE__, wanted.bytes, 570768);
+    munmap(image, length);
+    return 1;
+}
+
+/* N = 14,336 and S = 128 have T = 112 and K = 1: eight renames may have 1 + 16 + 112 = 129 targets, one more than there is room for copies.
+ * Data 401, 1,835,409 sectors. */
+static int more_targets_than_room(void)
+{
+    const size_t length = (size_t)1835409 * 512;
+    uint8_t *image = mmap(NULL, length, PROT_READ | PROT_WRITE, MAP_PRIVATE | MAP_ANONYMOUS | MAP_NORESERVE, -1, 0);
+
+    if (image == MAP_FAILED)
+        return 0;
+    volume.files = 255;
+    volume.extents = 14336;
+    volume.extent_sectors = 128;
+    from = __LINE__;
+    superblock(image, 0);
+    root(image + 512, 41, 1000);
+    sixteen_files(image, 112);
+    lend();
+    IS(goofs_change_result, goofs_rename_set(image, length, onto_all, 16, one_each, 16, 7, lent.bytes, sizeof lent.bytes), .code = 13);
+    IS(goofs_change_result, goofs_rename_set(image, length, onto_all, 16, one_each, 16, 7, NULL, 0), .code = 13); /* before 14 */
+    lent_is(__LINE__, NULL, 0);
+    /* Without the last, 113 targets: the root, 14 entries, 98 table sectors; 226 of them and copies, 4 journal sectors, 6. */
+    IS(goofs_change_result, goofs_rename_set(image, length, onto_all, 14, one_each, 14, 7, NULL, 0), .code = 14);
+    IS(goofs_change_result, goofs_rename_set(image, length, onto_all, 14, one_each, 14, 7, lent.bytes, sizeof lent.bytes), .code = 0,
+       .length = 236 * 528);
+    /* The last to a new name: the root, 15 entries and 98 table sectors. */
+    IS(goofs_change_result,
+       goofs_rename_set(image, length, (const uint8_t *)"0a1b2c3d4e5f6g7x", 16, one_each, 16, 7, lent.bytes, sizeof lent.bytes), .code = 0,
+       .length = 238 * 528);
     munmap(image, length);
     return 1;
 }
@@ -2060,6 +2354,9 @@ static const struct test tests[] = {
     {"deletes", deletes},
     {"renames", renames},
     {"renames cut", renames_cut},
+    {"rename sets", rename_sets},
+    {"rename sets refused", rename_sets_refused},
+    {"rename sets cut", rename_sets_cut},
     {"cut before the start mark", cut_before_the_start_mark},
     {"cut after the start mark", cut_after_the_start_mark},
     {"bad journals", bad_journals},
@@ -2121,6 +2418,10 @@ int main(void)
             count("older volume");
         else
             printf("c interface: an older volume was not tried, as 1 GiB of addresses could not be had\n");
+        if (more_targets_than_room())
+            count("more targets than room");
+        else
+            printf("c interface: more targets than room were not tried, as 1 GiB of addresses could not be had\n");
     }
     printf("%lu passed, %lu failed\n", passed, failed);
     return failed == 0 ? 0 : 1;

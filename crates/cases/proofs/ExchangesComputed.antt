@@ -5,19 +5,22 @@ use Rattle.model.specs.Search.{tabulate, scan, anyBelow, allBelow, countBelow, 
 use Rattle.model.specs.Catalogue.{sectorsFrom, holdsFrom}
 use Rattle.model.specs.Format.{doubled, geometryFor}
 use Rattle.model.specs.Ledger.{catalogue, firstLedger, writtenRecords, freedRecords, ledgerFrom, holderOf, positionAmong, slotNamed, freeSlot, unheldExtent, unheldExtents, isFrozen, fileOf, afterWrite, written}
-use Rattle.model.specs.Ledger.{newEntry, updatedEntry, updatedRoot, accessedRoot, step, lowest, unfitTime, unfitName, unfitNewName}
+use Rattle.model.specs.Ledger.{newEntry, updatedEntry, updatedRoot, accessedRoot, renamedEntry, afterRename, namesOf, pairsOf, sumOf, afterRenames, namesSlot, freesIn, renamedTargets}
+use Rattle.model.specs.Ledger.{renameRefusals, refusedAt, step, lowest, unfitTime, unfitName, unfitNewName}
 use Rattle.cases.specs.Exchanges.{Exchanges}
 
 pub exchanges : Exchanges
 unfolding bytesFrom put tabulate scan anyBelow allBelow countBelow equalBytes sectorsFrom holdsFrom doubled geometryFor catalogue firstLedger writtenRecords freedRecords
-    ledgerFrom holderOf positionAmong slotNamed freeSlot unheldExtent unheldExtents isFrozen fileOf afterWrite written newEntry updatedEntry updatedRoot accessedRoot step lowest unfitTime unfitName
-    unfitNewName
+    ledgerFrom holderOf positionAmong slotNamed freeSlot unheldExtent unheldExtents isFrozen fileOf afterWrite written newEntry updatedEntry updatedRoot accessedRoot renamedEntry afterRename
+    namesOf pairsOf sumOf afterRenames namesSlot freesIn renamedTargets renameRefusals refusedAt step lowest unfitTime unfitName unfitNewName
 exchanges = record {
   slots-differ = refl;
   extents-differ = refl;
   root-differs = refl;
   lists-differ = refl;
   shared-differ = refl;
+  set-differs = refl;
+  set-accepted = refl;
   id-released = refl;
   one-order = refl;
 }

@@ -6,4 +6,5 @@ pub mod RepairsComputed
 pub mod EditionsComputed
 pub mod AccessesComputed
 pub mod ReservesComputed
+pub mod RenameSetsComputed
 pub mod ExchangesComputed

@@ -4,7 +4,7 @@ use Prim.Native.Nat.{ℕ}
 use mathlib.Core.Path.{_≡_}
 use mathlib.Core.List.{List, [], _∷_}
 use mathlib.Core.Option.{none}
-use Rattle.model.specs.Ledger.{fileOr, fileOf, Call, list, create, delete, write, Feed, whole, answer, numberOf}
+use Rattle.model.specs.Ledger.{fileOr, fileOf, Call, list, create, delete, write, renameSet, Feed, whole, answer, numberOf}
 use Rattle.cases.specs.Cases.{called, makes, after, table, owned}
 
 -- "a" made at 5 and "b" at 7, and both orders
@@ -24,8 +24,11 @@ bFirst = whole makesA ∷ whole makesB ∷ []
 abbrev pub two : List Feed
 two = makes 98 ∷ makes 97 ∷ []
 
+abbrev pub putting : ℕ → ℕ → Call
+putting letter byte = write (called letter) 0 (byte ∷ []) 0 10000
+
 abbrev pub puts : ℕ → ℕ → Feed
-puts letter byte = whole (write (called letter) 0 (byte ∷ []) 0 10000)
+puts letter byte = whole (putting letter byte)
 
 -- "b" deleted, and "c" made with its id
 abbrev pub removal : Call
@@ -33,6 +36,13 @@ removal = delete (called 98) 0 10000
 
 abbrev pub makesC : Call
 makesC = create (called 99) 98 0 0 5808
+
+-- "d" beside them; and "a" renamed to "c", "b" to "d", in one set
+abbrev pub three : List Feed
+three = makes 100 ∷ two
+
+abbrev pub moves : Call
+moves = renameSet (97 ∷ 99 ∷ 98 ∷ 100 ∷ []) (1 ∷ 1 ∷ 1 ∷ 1 ∷ []) 0 20000
 
 abbrev pub listing : ℕ → Feed
 listing time = whole (list 0 time 1 4752)
@@ -55,6 +65,11 @@ pub record Exchanges : Type 0 where
   -- "that share no name": two writes of one file
   pub shared-differ : (fileOf (after (puts 97 2 ∷ puts 97 1 ∷ two)) (called 97) .bytes ∷ fileOf (after (puts 97 1 ∷ puts 97 2 ∷ two)) (called 97) .bytes ∷ [])
       ≡ ((2 ∷ []) ∷ (1 ∷ []) ∷ [])
+  -- "A set .. counts with all its names": one that shares its last name alone with a write. Both are accepted in either order
+  pub set-differs : (fileOf (after (puts 100 1 ∷ whole moves ∷ three)) (called 100) .bytes ∷ fileOf (after (whole moves ∷ puts 100 1 ∷ three)) (called 100) .bytes ∷ [])
+      ≡ ((1 ∷ []) ∷ [] ∷ [])
+  pub set-accepted : (numberOf (answer moves (after three)) ∷ numberOf (answer (putting 100 1) (after (whole moves ∷ three)))
+      ∷ numberOf (answer (putting 100 1) (after three)) ∷ numberOf (answer moves (after (puts 100 1 ∷ three))) ∷ []) ≡ (0 ∷ 0 ∷ 0 ∷ 0 ∷ [])
   -- "A delete may .. release the id that the other needs": 10, and 0 after it; of the room P8 and P9 say it. Where only one order is accepted, the
   -- other leaves other files
   pub id-released : (numberOf (answer makesC (after two)) ∷ numberOf (answer makesC (after (whole removal ∷ two))) ∷ []) ≡ (10 ∷ 0 ∷ [])

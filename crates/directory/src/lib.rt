@@ -60,20 +60,28 @@ pub fn name_at(img: &[u8], edition: u64, i: FileIndex) -> &[u8]
     layout::entry::name(fields::sector_part(img, i.sector()), edition)
 }
 
-// Whether entry i is occupied and has the name. The lengths are compared first: the comparison sees no byte past the name.
-pub fn has_name(img: &[u8], edition: u64, i: FileIndex, name: &[u8]) -> bool
-    requires { ⌜ 512 * entryAt (i .0) + 512 ≤ length (now img) ⌝ }
+// Whether an entry's sector is occupied and has the name. The lengths are compared first: the comparison sees no byte past the name.
+pub fn is_named(s: &[u8], edition: u64, name: &[u8]) -> bool
+    requires { ⌜ length (now s) ≡ 512 ⌝ }
     requires { ⌜ length (now name) ≤ layoutOf edition .longestName ⌝ }
-    ensures { λ r. ⌜ r ≡ (isOccupied (view (now (img .entry)) (entryAt (i .0))) && equalBytes (nameIn edition (view (now (img .entry)) (entryAt (i .0)))) (now (name .entry))) ⌝ }
+    ensures { λ r. ⌜ r ≡ (isOccupied (now (s .entry)) && equalBytes (nameIn edition (now (s .entry))) (now (name .entry))) ⌝ }
 {
-    if is_occupied(img, i) {
-        let s = fields::sector_part(img, i.sector());
+    if layout::entry::is_occupied(s) {
         if layout::entry::name_length(s, edition) == name.len() {
             return fields::starts_with(layout::entry::name_part(s, edition), name);
         }
         return false;
     }
     false
+}
+
+// Whether entry i is occupied and has the name.
+pub fn has_name(img: &[u8], edition: u64, i: FileIndex, name: &[u8]) -> bool
+    requires { ⌜ 512 * entryAt (i .0) + 512 ≤ length (now img) ⌝ }
+    requires { ⌜ length (now name) ≤ layoutOf edition .longestName ⌝ }
+    ensures { λ r. ⌜ r ≡ (isOccupied (view (now (img .entry)) (entryAt (i .0))) && equalBytes (nameIn edition (view (now (img .entry)) (entryAt (i .0)))) (now (name .entry))) ⌝ }
+{
+    is_named(fields::sector_part(img, i.sector()), edition, name)
 }
 
 // Whether entry i is occupied and has the id.

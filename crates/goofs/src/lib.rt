@@ -21,6 +21,7 @@ ghost use Rattle.model.specs.Delete.{deleteAnswer, deleteList};
 ghost use Rattle.model.specs.Resize.{resizeAnswer, resizeList};
 ghost use Rattle.model.specs.Write.{writeAnswer, writeList};
 ghost use Rattle.model.specs.Rename.{renameAnswer, renameList};
+ghost use Rattle.model.specs.RenameSet.{renameSetAnswer, renameSetList};
 ghost use Rattle.model.specs.Repair.{repairAnswer, repairList};
 ghost use Rattle.model.specs.Recovery.{recoveryAnswer, recoveryList, sliceAnswer, sliceList};
 ghost use Rattle.model.specs.Format.{formatAnswer, formatOutput};
@@ -355,6 +356,22 @@ pub extern "C" fn goofs_rename(
     ensures { λ _. ⌜ now (list .exit) ≡ renameList (length (now (img .entry))) (view (now (img .entry))) (now (old .entry)) (now (new .entry)) time (now (list .entry)) ⌝ }
 {
     let a = changes::rename(img, old, new, time, list);
+    change_result(a)
+}
+
+// `names` holds all names one after the other, old, new, old, new and so on; `lengths` the length of each.
+#[no_mangle]
+pub extern "C" fn goofs_rename_set(
+    img: &[u8],
+    names: &[u8],
+    lengths: &[u64],
+    time: u64,
+    list: &mut [u8],
+) -> ChangeResult
+    ensures { λ r. ⌜ r ≡ changeNumbers (renameSetAnswer (length (now (img .entry))) (view (now (img .entry))) (now (names .entry)) (now (lengths .entry)) time (length (now (list .entry)))) ⌝ }
+    ensures { λ _. ⌜ now (list .exit) ≡ renameSetList (length (now (img .entry))) (view (now (img .entry))) (now (names .entry)) (now (lengths .entry)) time (now (list .entry)) ⌝ }
+{
+    let a = changes::rename_set(img, names, lengths, time, list);
     change_result(a)
 }
 

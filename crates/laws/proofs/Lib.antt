@@ -17,3 +17,5 @@ pub mod Repair
 pub mod Repaired
 pub mod Judged
 pub mod Named
+pub mod Renames
+pub mod RenameSet

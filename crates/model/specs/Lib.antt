@@ -23,6 +23,7 @@ pub mod Delete
 pub mod Write
 pub mod Resize
 pub mod Rename
+pub mod RenameSet
 pub mod Repair
 pub mod Recovery
 pub mod Format

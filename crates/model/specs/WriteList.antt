@@ -3,7 +3,7 @@
 -- copies, then journal sectors; (B) superblock with length n; (C) the n targets in rising order; (D) superblock with length 0."
 use Prim.Native.Nat.{ℕ, suc, _+_, _*_, _-_, _/_, _%_, _^_}
 use mathlib.Core.Path.{_≡_}
-use mathlib.Core.Bool.{Bool, true, false, cond, _&&_}
+use mathlib.Core.Bool.{Bool, true, false, cond, _&&_, _||_}
 use mathlib.Core.List.{List, [], _∷_, _++_, map}
 use mathlib.Core.Option.{Option, none, some}
 use lib.Dec.{eqb, ltb}
@@ -67,6 +67,19 @@ pub record Emitted (l : List ℕ) (k : ℕ) (es : List Record) (m : List ℕ) (j
 unfoldable pub stored : List Record → List ℕ → List ℕ
 stored [] img = img
 stored (r ∷ rs) img = stored rs (cond (eqb (r .sector) barrierNumber) img (put img (512 * r .sector) (r .contents)))
+
+-- what writes in order leave in sector s, which held the bytes x: the contents of the last record for it; and in a disk's sectors
+unfoldable pub over : List Record → SectorNumber → List ℕ → List ℕ
+over [] s x = x
+over (r ∷ rs) s x = over rs s (cond (eqb s (r .sector)) (r .contents) x)
+
+unfoldable pub apply : List Record → Disk → Disk
+apply rs d s = over rs s (d s)
+
+-- one of the records is for sector s
+unfoldable pub hits : List Record → SectorNumber → Bool
+hits [] s = false
+hits (r ∷ rs) s = eqb s (r .sector) || hits rs s
 
 -- ---- plans and their groups
 

@@ -17,7 +17,7 @@ use Rattle.model.specs.Catalogue.{Catalogue, catalogueOf, lacksReserve}
 use Rattle.model.specs.Refusals.{done}
 use Rattle.model.specs.WriteList.{Plan, stored, groupsFor, closed, recordSize, recordCount}
 use Rattle.model.specs.Cut.{Cut, landed, startMark}
-use Rattle.model.specs.Ledger.{Ledger, File, fileOr, entryOfFile, catalogue, fileOf, Call, summary, check, find, list, read, create, delete, resize, write, rename, Answer, listed, gave}
+use Rattle.model.specs.Ledger.{Ledger, File, fileOr, entryOfFile, catalogue, fileOf, Call, summary, check, find, list, read, create, delete, resize, write, rename, renameSet, Answer, listed, gave}
 use Rattle.model.specs.Ledger.{numberOf, entryFields, accessedEntry, accessedRoot, accessedFile, withFile, isFrozen, accessRecords, step, answer}
 use Rattle.model.specs.Ledger.{Feed, whole, cutMarked, cutUnmarked, callOf, fed, ledgerFrom}
 use Rattle.model.specs.Run.{volumeAnswer, volumePlan, Fits, steady, calls}
@@ -67,6 +67,7 @@ cut-kept (delete name time room) h L mask = absurd (false≢true h)
 cut-kept (resize name size time room) h L mask = absurd (false≢true h)
 cut-kept (write name offset bytes time room) h L mask = absurd (false≢true h)
 cut-kept (rename old new time room) h L mask = absurd (false≢true h)
+cut-kept (renameSet names lengths time room) h L mask = absurd (false≢true h)
 
 unset : {L₀ : Ledger} {img img′ : List ℕ} {fs : List Feed} {rs : List Answer} (c : Call) → asks c ≡ true → (p : Plan) (x : Cut) (r : SoundRun L₀ steady img fs rs) (fit : Fits c)
     (planned : volumePlan c img ≡ some p) → RecoveredTo (stored (landed x (groupsFor (view img) (some p))) img) img′ → startMark x ≡ false → Unset img img′
@@ -269,6 +270,7 @@ done-alike (delete name time room) h L z = absurd (false≢true h)
 done-alike (resize name size time room) h L z = absurd (false≢true h)
 done-alike (write name offset bytes time room) h L z = absurd (false≢true h)
 done-alike (rename old new time room) h L z = absurd (false≢true h)
+done-alike (renameSet names lengths time room) h L z = absurd (false≢true h)
 
 fed-alike : (f : Feed) (L : Ledger) → Accepted f L → asks (callOf f) ≡ true → Alike (fed f L) L
 fed-alike (whole c) L a h = go (eqb (numberOf (answer c L)) 0) refl

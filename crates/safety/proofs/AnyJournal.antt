@@ -19,7 +19,7 @@ use Rattle.model.specs.Superblock.{geometryIn, stateOn, stateOf, journalLength,
 use Rattle.model.specs.Journal.{sourceAt, targetAt}
 use Rattle.model.specs.Refusals.{verdictOf, andThen, given, isDone, done, refusal, imageVerdict, stateNumber}
 use Rattle.model.specs.Summary.{stateEntries, summaryAnswer, summaryOn, noSummary}
-use Rattle.model.specs.WriteList.{Record, Group, recordSize, superblockGroup, sectorWrite, stored, closed, listLength}
+use Rattle.model.specs.WriteList.{Record, Group, recordSize, superblockGroup, sectorWrite, stored, closed, listLength, over, apply}
 use Rattle.model.specs.Recovery.{isData, isMetadata, goodEntry, replayed, badJournal, recoveryGroups, recoveryVerdict, recoveryListed, recoveryAnswer}
 use Rattle.model.specs.Cut.{Cut, landedOf, landed}
 use Rattle.laws.proofs.Booleans.{and-left, and-right, and-yes, range-yes}
@@ -29,7 +29,7 @@ use Rattle.laws.proofs.Refusals.{image-passed}
 use Rattle.safety.specs.Room.{geometryOn}
 use Rattle.safety.specs.AnyJournal.{InMetadata, GoodEntries, recoveryNumber, recoveredBy, Replayed, StillWaits, CutRecoveries, none, oneMore, AnyJournal}
 use Rattle.safety.proofs.Searches.{or-cases, not-no}
-use Rattle.safety.proofs.Apply.{over, apply, over-here, over-miss, over-skip, over-none, apply-append, All, all-append, all-map, InImage, stored-view, stored-closed, length-stored}
+use Rattle.safety.proofs.Apply.{over-here, over-miss, over-skip, over-none, apply-append, All, all-append, all-map, InImage, stored-view, stored-closed, length-stored}
 use Rattle.safety.proofs.Superblock.{length-withJournalLength, journalLength-with, state-clean, Volume, volume-with, volume-long, volume-bounds, volume-accepted, Recovers, recovers-clean}
 use Rattle.safety.proofs.Superblock.{when-done, when-none, byRoom, answers}
 use Rattle.safety.proofs.Landing.{Begun, Ended, both-end, cut-begun}

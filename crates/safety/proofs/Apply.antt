@@ -1,4 +1,4 @@
--- What a list of writes leaves in each sector of a disk (`over`, `apply`), and the bridge from a list carried out on an image's bytes
+-- Laws of what a list of writes leaves in each sector of a disk (`over`, `apply`), and the bridge from a list carried out on an image's bytes
 -- (`stored`) to it. Assumes nothing.
 use Prim.Native.Nat.{ℕ, zero, suc, _+_, _*_, _≤_, _<_}
 use mathlib.Core.Path.{_≡_, refl, sym, ap, ap₂, _∙_, fun-ext, subst}
@@ -14,30 +14,16 @@ use borrow.Author.Tests.{eqb-true, eqb-false, eq-eqb, ne-eqb}
 use Rattle.model.specs.Bytes.{put}
 use Rattle.model.specs.Search.{tabulate, concatenated}
 use Rattle.model.specs.Disk.{Disk, view}
-use Rattle.model.specs.WriteList.{Record, sectorWrite, barrierNumber, barrier, stored, Group, closedAfter, closed}
+use Rattle.model.specs.WriteList.{Record, sectorWrite, barrierNumber, barrier, stored, over, apply, hits, Group, closedAfter, closed}
 use Rattle.model.specs.Cut.{kept, landedOf}
 use Rattle.laws.proofs.WriteList.{stored-append}
 use Rattle.laws.proofs.Booleans.{or-none}
+-- the laws of a set of renames need it too
+pub use Rattle.laws.proofs.Renames.{over-append}
 use Rattle.laws.proofs.Bytes.{length-put}
 use Rattle.laws.proofs.Disk.{view-same, view-other}
 
--- ---- what a list of writes leaves in sector j, if it held x; does it write sector j?
-
-unfoldable pub over : Group → ℕ → List ℕ → List ℕ
-over [] j x = x
-over (w ∷ ws) j x = over ws j (cond (eqb j (w .sector)) (w .contents) x)
-
-unfoldable pub apply : Group → Disk → Disk
-apply ws d j = over ws j (d j)
-
-unfoldable pub hits : Group → ℕ → Bool
-hits [] j = false
-hits (w ∷ ws) j = eqb j (w .sector) || hits ws j
-
-pub over-append : (a b : Group) (j : ℕ) (x : List ℕ) → over (a ++ b) j x ≡ over b j (over a j x)
-unfolding over
-over-append [] b j x = refl
-over-append (w ∷ ws) b j x = over-append ws b j (cond (eqb j (w .sector)) (w .contents) x)
+-- ---- what a list of writes leaves in a sector
 
 miss-head : (b c : Bool) (f : List ℕ → List ℕ) (u x : List ℕ) → (b || c) ≡ false → (c ≡ false → f x ≡ x) → f (cond b u x) ≡ x
 miss-head true c f u x e t = absurd (true≢false e)

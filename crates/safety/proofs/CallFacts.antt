@@ -9,7 +9,7 @@ use lib.Dec.{eqb, ltb}
 use borrow.Author.Tests.{eqb-true}
 use Rattle.model.specs.Ledger.{Ledger, fileOf, Call, summary, check, find, list, read, create, delete, resize, write}
 use Rattle.model.specs.Ledger.{numberOf, partlyWritten, step, answer, Feed, whole, cutMarked, cutUnmarked, isFrozen}
-use Rattle.model.specs.Ledger.{rename, accessedEntry, accessedFile, callOf, fed}
+use Rattle.model.specs.Ledger.{rename, renameSet, namesOf, accessedEntry, accessedFile, callOf, fed}
 use Rattle.model.specs.Run.{onVolume, volumeAnswer, volumePlan, Fits}
 use Rattle.safety.specs.Naming.{Spares, fileIn}
 use Rattle.safety.specs.Neighbours.{Accepted}
@@ -22,8 +22,9 @@ use Rattle.safety.proofs.Delete.{delete-same, delete-effect}
 use Rattle.safety.proofs.Resize.{resize-same, resize-effect}
 use Rattle.safety.proofs.Write.{write-same, write-effect}
 use Rattle.safety.proofs.Rename.{rename-same, rename-effect}
+use Rattle.safety.proofs.RenameSet.{set-same, set-effect, set-passed}
 use Rattle.safety.proofs.Naming.{read-found, create-fresh, delete-found, resize-found, write-found, rename-found}
-use Rattle.safety.proofs.Naming.{rooted-other, created-other, freed-other, renewed-other, resized-other, written-other, renamed-other}
+use Rattle.safety.proofs.Naming.{rooted-other, created-other, freed-other, renewed-other, resized-other, written-other, renamed-other, renames-other}
 
 pub record CallFacts (c : Call) : Type 0 where
   -- its answer is the ledger's, and its effect, whole or cut
@@ -99,6 +100,12 @@ facts (rename old new time room) = record {
   same = λ L img h f. rename-same L img h old new time room;
   effect = λ L img h f. rename-effect L img h old new time room (f .2);
   done-other = λ L n ne e. renamed-other L old n (ne .0) (rename-found L old new time room e) new (ne .1 .0) time;
+  cut-other = λ L n ne e mask. refl;
+}
+facts (renameSet names lengths time room) = record {
+  same = λ L img h f. set-same L img h names lengths time room (f .2);
+  effect = λ L img h f. set-effect L img h names lengths time room (f .2);
+  done-other = λ L n ne e. renames-other time n (namesOf names lengths) ne L (set-passed L names lengths time room e);
   cut-other = λ L n ne e mask. refl;
 }
 

@@ -13,7 +13,7 @@ use Rattle.model.specs.declared.State.the-variants.{Clean}
 use Rattle.model.specs.Geometry.{superblockAt, journalAt, dataAt, volumeSectors}
 use Rattle.model.specs.Disk.{Disk, view}
 use Rattle.model.specs.Search.{anyBelow}
-use Rattle.model.specs.WriteList.{Record, sectorWrite, barrier, barrierNumber, stored, Plan, Group, groupsOf, closed}
+use Rattle.model.specs.WriteList.{Record, sectorWrite, barrier, barrierNumber, stored, Plan, Group, groupsOf, closed, over, apply, hits}
 use Rattle.model.specs.Superblock.{journalLength, withJournalLength, stateOf, stateOn}
 use Rattle.model.specs.Journal.{journalSectors, journalSector}
 use Rattle.model.specs.Refusals.{isDone}
@@ -22,7 +22,7 @@ use Rattle.model.specs.Cut.{Cut, kept, landedOf, landed, markedBy, startMark}
 use Rattle.laws.proofs.Disk.{length-view, same-view}
 use Rattle.laws.proofs.Search.{none-at}
 use Rattle.safety.proofs.Searches.{same-true}
-use Rattle.safety.proofs.Apply.{over, apply, hits, apply-nil, apply-append, apply-miss, All, all-append, all-tab0, all-at, all-by, all-concatenated, all-kept, all-miss, miss-all, over-same}
+use Rattle.safety.proofs.Apply.{apply-nil, apply-append, apply-miss, All, all-append, all-tab0, all-at, all-by, all-concatenated, all-kept, all-miss, miss-all, over-same}
 use Rattle.laws.proofs.WriteList.{stored-append}
 use Rattle.safety.proofs.Apply.{kept-miss, kept-one, joined, stored-closed, length-stored, InImage, stored-view, Own, own-concatenated}
 use Rattle.safety.proofs.Landing.{Begun, Ended, both-end, cut-begun, part}

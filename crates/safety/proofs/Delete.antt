@@ -16,7 +16,7 @@ use Rattle.model.specs.Disk.{view}
 use Rattle.model.specs.Root.{rootIn, updatedRootSector}
 use Rattle.model.specs.Catalogue.{Catalogue, catalogueOf, fileNamed, lacksReserve, hasName, sectorsFrom}
 use Rattle.model.specs.Refusals.{Conditions, verdictOf}
-use Rattle.model.specs.WriteList.{Plan, Record, Group, sectorWrite, groupsFor, listLength, recordSize, recordCount}
+use Rattle.model.specs.WriteList.{Plan, Record, Group, sectorWrite, groupsFor, listLength, recordSize, recordCount, over}
 use Rattle.model.specs.Find.{nameConditions}
 use Rattle.model.specs.Delete.{deleteConditions, deletePlan, deleteDecision}
 use Rattle.model.specs.Ledger.{Ledger, catalogue, delete, updatedRoot, freedRecords, withRootUpdated, step, answer}
@@ -25,7 +25,7 @@ use Rattle.laws.proofs.Bytes.{length-zeroSector}
 use Rattle.laws.proofs.Disk.{length-view}
 use Rattle.safety.proofs.OwnWords.{named-is, time-is, name-is}
 use Rattle.safety.proofs.Searches.{place-found}
-use Rattle.safety.proofs.Apply.{over, over-here, over-skip, over-none, All}
+use Rattle.safety.proofs.Apply.{over-here, over-skip, over-none, All}
 use Rattle.safety.proofs.Plan.{UsableGeometry, WellFormed, metadata-directory}
 use Rattle.safety.proofs.Commit.{Ready, uncut, ready-uncut}
 use Rattle.laws.proofs.WriteList.{plan-needs}

@@ -23,13 +23,17 @@ use Rattle.model.specs.Delete.{deleteConditions, deleteDecision}
 use Rattle.model.specs.Resize.{resizeConditions, resizeDecision}
 use Rattle.model.specs.Write.{writeConditions, writeDecision}
 use Rattle.model.specs.Rename.{renameConditions, renameDecision}
-use Rattle.model.specs.Ledger.{Ledger, Call, summary, check, find, list, read, create, delete, resize, write, rename, numberOf, fileOf, zeroBytes, isFrozen, step, answer, Answer}
+use Rattle.model.specs.RenameSet.{renameSetDecision}
+use Rattle.model.specs.Ledger.{Ledger, Call, summary, check, find, list, read, create, delete, resize, write}
+use Rattle.model.specs.Ledger.{rename, renameSet, namesOf, pairsOf, afterRenames, numberOf, fileOf, zeroBytes, isFrozen, step, answer, Answer}
 use Rattle.model.specs.Ledger.{Feed, whole, cutMarked, cutUnmarked, afterWrite, afterRename, fed, ledgerFrom}
 use Rattle.model.specs.Run.{onVolume, volumeAnswer, arguments, steady}
 use Rattle.laws.proofs.Booleans.{and-false}
+use Rattle.laws.proofs.RenameSet.{Pairs}
 use Rattle.safety.specs.Described.{SoundRun}
 use Rattle.safety.specs.Room.{geometryOn}
 use Rattle.safety.proofs.Access.{list-as-changed, read-as-changed}
+use Rattle.safety.proofs.RenameSet.{set-wide}
 use Rattle.safety.proofs.NoRoom.{own-is}
 use Rattle.safety.proofs.Theorem.{represents}
 
@@ -48,8 +52,14 @@ module _ (img : List ℕ) (ok : checkAnswer (length img) (view img) .verdict .nu
       ap (λ (v : Verdict). v .number) (own-is img ok ((b, refusal 8) ∷ cs) plan room)
       ∙ ap (λ (t : Bool). andThen (cond t (refusal 8) (verdictOf cs)) (verdictOf (planConditions (view img) plan room)) .number) h
 
+  own-8 : (cs : Conditions) → verdictOf cs .number ≡ 8 → (plan : Option Plan) (room : ℕ) → decided (length img) (view img) cs plan room .verdict .number ≡ 8
+  unfolding checkAnswer
+  own-8 cs h plan room =
+      ap (λ (v : Verdict). v .number) (own-is img ok cs plan room)
+      ∙ ap (λ (b : Bool). cond b (verdictOf (planConditions (view img) plan room)) (verdictOf cs) .number) (ap (λ n. eqb n 0) h) ∙ h
+
   pub wide-refused : (c : Call) → badTime (geometryOn img .edition) (arguments c .time) ≡ true → numberOf (volumeAnswer c img) ≡ 8
-  unfolding onVolume listDecision readDecision createDecision deleteDecision resizeDecision writeDecision renameDecision listConditions readConditions createConditions
+  unfolding onVolume listDecision readDecision createDecision deleteDecision resizeDecision writeDecision renameDecision renameSetDecision listConditions readConditions createConditions
       deleteConditions resizeConditions writeConditions renameConditions catalogueOf
   wide-refused summary h = absurd (never (geometryOn img .edition) h)
   wide-refused check h = absurd (never (geometryOn img .edition) h)
@@ -62,12 +72,18 @@ module _ (img : List ℕ) (ok : checkAnswer (length img) (view img) .verdict .nu
   wide-refused (resize name size time room) h = first-8 _ h _ _ room
   wide-refused (write name offset bytes time room) h = first-8 _ h _ _ room
   wide-refused (rename old new time room) h = first-8 _ h _ _ room
+  wide-refused (renameSet names lengths time room) h = own-8 _ (set-wide (view img) names lengths time h) _ room
 
 -- ---- the edition stays, with all of the geometry
 
 either : (b : Bool) (M N L : Ledger) → M .geometry ≡ L .geometry → N .geometry ≡ L .geometry → cond b M N .geometry ≡ L .geometry
 either true M N L e f = e
 either false M N L e f = f
+
+renames-geometry : (time : ℕ) (rs : Pairs) (L : Ledger) → afterRenames L rs time .geometry ≡ L .geometry
+unfolding afterRenames afterRename
+renames-geometry time [] L = refl
+renames-geometry time (r ∷ rs) L = renames-geometry time rs (afterRename L (r .0) (r .1) time) ∙ either (equalBytes (r .0) (r .1)) L _ L refl refl
 
 done-geometry : (c : Call) (L : Ledger) → step c L .done .geometry ≡ L .geometry
 unfolding step afterWrite afterRename
@@ -81,6 +97,7 @@ done-geometry (delete name time room) L = refl
 done-geometry (resize name size time room) L = either (ltb size (fileOf L name .entry .size)) _ _ L refl (either (eqb (length (zeroBytes _)) 0) L _ L refl refl)
 done-geometry (write name offset bytes time room) L = either (eqb (length bytes) 0) L _ L refl refl
 done-geometry (rename old new time room) L = either (equalBytes old new) L _ L refl refl
+done-geometry (renameSet names lengths time room) L = renames-geometry time (pairsOf (namesOf names lengths)) L
 
 cut-geometry : (c : Call) (L : Ledger) (mask : List Bool) → step c L .cut mask .geometry ≡ L .geometry
 unfolding step
@@ -94,6 +111,7 @@ cut-geometry (delete name time room) L mask = refl
 cut-geometry (resize name size time room) L mask = refl
 cut-geometry (write name offset bytes time room) L mask = refl
 cut-geometry (rename old new time room) L mask = refl
+cut-geometry (renameSet names lengths time room) L mask = refl
 
 fed-geometry : (f : Feed) (L : Ledger) → fed f L .geometry ≡ L .geometry
 fed-geometry (whole c) L = go (eqb (numberOf (answer c L)) 0)

@@ -27,12 +27,13 @@ use Rattle.laws.proofs.Booleans.{and-left}
 use Rattle.laws.proofs.Bytes.{length-bytesFrom, getD-bytesFrom, bytesFrom-all, length-put, getD-put}
 use Rattle.laws.proofs.Search.{length-tabulate, Hit, first-none}
 use Rattle.safety.specs.Naming.{Contents, contentsAt, fileOn, contentsIn, fileIn, OneName}
+use Rattle.safety.specs.RenameSet.{renamedOr, renamedFiles}
 use Rattle.safety.proofs.OwnWords.{name-if, named-is, zeros-are}
-use Rattle.safety.proofs.Searches.{place-none, same-no, same-refl, same-true}
+use Rattle.safety.proofs.Searches.{place-none, same-no, same-refl, same-true, same-differ}
 use Rattle.safety.proofs.Rep.{catalogue-is, NoFaults}
 use Rattle.safety.proofs.Replaced.{names-apart}
 use Rattle.safety.proofs.TakenFile.{first-only}
-use Rattle.safety.proofs.Naming.{named-hit, named-by, Found, Fresh, slotOf, filled}
+use Rattle.safety.proofs.Naming.{named-hit, named-by, Found, Fresh, slotOf, filled, renamed-other, after-itself}
 
 -- no two files of a ledger without faults have one name
 pub one-name : (L : Ledger) → NoFaults (catalogue L) → OneName L
@@ -182,6 +183,20 @@ module _ (L : Ledger) (m new : List ℕ) (one : OneName L) (h : Found L m) (othe
       go : (k : ℕ) → k < L .geometry .files → (b : Bool) → eqb k at ≡ b → holdsName m (cond b (some renamed) (slotsWithout L r k)) ≡ false
       go k l true e = same-no m new other
       go k l false e = gone r k l (eqb-false k at e)
+
+-- so of every name
+pub renamed-files : (L : Ledger) (old new : List ℕ) → OneName L → Found L old → (time : ℕ) (n : List ℕ)
+    → fileIn (afterRename L old new time) n ≡ renamedFiles old new time (fileIn L) n
+unfolding step renamedEntry
+renamed-files L old new one h time n = go (equalBytes old new) (equalBytes new n) (equalBytes old n) refl refl refl
+  where
+    go : (s t u : Bool) → equalBytes old new ≡ s → equalBytes new n ≡ t → equalBytes old n ≡ u
+        → fileIn (afterRename L old new time) n ≡ cond s (fileIn L n) (cond t (renamedOr new time (fileIn L old)) (cond u none (fileIn L n)))
+    go true t u e f g = ap (λ (X : Ledger). fileIn X n) (after-itself L old new time e)
+    go false true u e f g =
+        ap (fileIn (afterRename L old new time)) (sym (same-true new n f)) ∙ renamed-said L old new one h e time 0 ∙ ap (renamedOr new time) (sym (found-said L old h))
+    go false false true e f g = ap (fileIn (afterRename L old new time)) (sym (same-true old n g)) ∙ renamed-gone L old new one h e time 0
+    go false false false e f g = renamed-other L old n (same-differ old n g) h new (same-differ new n f) time
 
 -- zeros written at the end of a file's bytes are what lies past them
 zeros-at-end : (b : List ℕ) (o s : ℕ) → length b ≡ o → o ≤ s → put (bytesFrom b 0 s) o (zeros (s - o)) ≡ bytesFrom b 0 s

@@ -2,7 +2,7 @@
 -- it leaves a ledger orderly, whole (`orderly-after`) or cut (`orderly-cut`): so is every ledger that a format or a sound volume came to
 -- (`orderly-fed`). Whether a call is accepted is looked at only to know that its name is there, or of create that it isn't. Assumes nothing.
 use Prim.Native.Nat.{ℕ, _+_, _-_, _<_, max}
-use mathlib.Core.Path.{_≡_, refl, sym, ap, _∙_, subst}
+use mathlib.Core.Path.{_≡_, refl, sym, ap, _∙_, subst, fun-ext}
 use mathlib.Core.Logic.{_≢_}
 use mathlib.Core.Bool.{Bool, true, false, cond, true≢false, false≢true}
 use mathlib.Core.List.{List, [], _∷_}
@@ -17,24 +17,28 @@ use Rattle.model.specs.Search.{indexOf, equalBytes}
 use Rattle.model.specs.Root.{Root}
 use Rattle.model.specs.Format.{Format}
 use Rattle.model.specs.Ledger.{Ledger, File, fileOr, firstLedger, holdsName, slotNamed, freeSlot, isFrozen, fileOf, Call, summary, check, find, list}
-use Rattle.model.specs.Ledger.{read, create, delete, resize, write, rename, numberOf}
+use Rattle.model.specs.Ledger.{read, create, delete, resize, write, rename, renameSet, numberOf, namesOf, pairsOf}
 use Rattle.model.specs.Ledger.{newEntry, updatedEntry, updatedRoot, accessedEntry, accessedFile, accessedRoot, renamedEntry, renamedFile, withFile}
-use Rattle.model.specs.Ledger.{slotsWithout, afterRename, written, afterWrite, partlyWritten}
+use Rattle.model.specs.Ledger.{slotsWithout, afterRename, afterRenames, renameRefusals, written, afterWrite, partlyWritten}
 use Rattle.model.specs.Ledger.{shrunk, zeroBytes, step, answer, Feed, whole, cutMarked, cutUnmarked, fed, ledgerFrom}
 use Rattle.laws.proofs.Bytes.{length-bytesFrom, length-put}
 use Rattle.laws.proofs.Search.{length-tabulate}
+use Rattle.laws.proofs.RenameSet.{Pairs}
 use Rattle.safety.specs.Naming.{Contents, fileIn}
 use Rattle.safety.specs.Described.{SoundAs}
-use Rattle.safety.specs.Saving.{renamedContents}
 use Rattle.safety.specs.Accessing.{accessedContents}
+use Rattle.safety.specs.RenameSet.{Files, filesAfterRenames}
 use Rattle.safety.specs.Neighbours.{Accepted, AllAccepted, Orderly, withNamed, resizedContents, writtenContents, filesAfter}
 use Rattle.safety.proofs.Searches.{place-none, same-true, same-differ, is-no}
 use Rattle.safety.proofs.Rep.{Rep, bytes-length}
 use Rattle.safety.proofs.Replaced.{replaced}
-use Rattle.safety.proofs.Naming.{filled, named-hit, slotOf, Found, Fresh, renewed-other, read-found, create-fresh, delete-found, resize-found, write-found, rename-found}
+use Rattle.safety.proofs.Naming.{filled, named-hit, slotOf, Found, Fresh, renewed-other, read-found, create-fresh, delete-found, resize-found, write-found, rename-found, found-by}
+use Rattle.safety.proofs.OwnWords.{verdicts}
+use Rattle.safety.proofs.Changing.{Passed}
+use Rattle.safety.proofs.RenameSet.{set-passed}
 use Rattle.safety.proofs.CallFacts.{facts}
 use Rattle.safety.proofs.Described.{sound-represents}
-use Rattle.safety.proofs.FileSaid.{one-name, found-said, renewed-said, created-said, deleted-said, resized-said, written-said, unused, renamed-said, renamed-gone}
+use Rattle.safety.proofs.FileSaid.{one-name, found-said, renewed-said, created-said, deleted-said, resized-said, written-said, unused, renamed-files}
 
 -- ---- what an orderly ledger's file of a name is
 
@@ -45,97 +49,6 @@ module _ (L : Ledger) (ok : Orderly L) (m : List ℕ) (h : Found L m) where
 
   file-sized : length (fileOf L m .bytes) ≡ fileOf L m .entry .size
   file-sized = ok .sized (slotOf L m) (fileOf L m) file-here
-
--- ---- THE ONE LEMMA
-
-module _ (L : Ledger) where
-  -- where only the file of one name became another
-  by-name : (M : Ledger) (m : List ℕ) (o : Option Contents) → fileIn M m ≡ o → ((n : List ℕ) → m ≢ n → fileIn M n ≡ fileIn L n)
-      → (n : List ℕ) → fileIn M n ≡ withNamed (fileIn L) m o n
-  by-name M m o here others n = go (equalBytes m n) refl
-    where
-      go : (b : Bool) → equalBytes m n ≡ b → fileIn M n ≡ cond b o (fileIn L n)
-      go true q = ap (fileIn M) (sym (same-true m n q)) ∙ here
-      go false q = others n (same-differ m n q)
-
-  -- and where that is f of what it was
-  by-change : (M : Ledger) (m : List ℕ) → Found L m → (f : Contents → Contents) → fileIn M m ≡ some (f (record { entry = fileOf L m .entry; bytes = fileOf L m .bytes }))
-      → ((n : List ℕ) → m ≢ n → fileIn M n ≡ fileIn L n) → (n : List ℕ) → fileIn M n ≡ withNamed (fileIn L) m (Option·map f (fileIn L m)) n
-  by-change M m h f here = by-name M m (Option·map f (fileIn L m)) (here ∙ sym (ap (Option·map f) (found-said L m h)))
-
-  -- calls that change nothing: a write of 0 bytes, a rename to itself
-  nothing-written : (name : List ℕ) (offset : ℕ) (bytes : List ℕ) (time room : ℕ) → eqb (length bytes) 0 ≡ true → step (write name offset bytes time room) L .done ≡ L
-  unfolding step afterWrite
-  nothing-written name offset bytes time room e = ap (λ (b : Bool). cond b L (withFile L (slotOf L name) (written L (slotOf L name) offset bytes time))) e
-
-  nothing-renamed : (old new : List ℕ) (time room : ℕ) → equalBytes old new ≡ true → step (rename old new time room) L .done ≡ L
-  unfolding step afterRename
-  nothing-renamed old new time room e =
-      ap (λ (b : Bool). cond b L (replaced (record { geometry = L .geometry; root = L .root; slots = slotsWithout L (slotNamed L new) }) (updatedRoot time (L .root)) (slotOf L old)
-      (some (renamedFile new time (fileOf L old))))) e
-
-  pub files-after : Orderly L → (c : Call) → numberOf (answer c L) ≡ 0 → (n : List ℕ) → fileIn (step c L .done) n ≡ filesAfter (isFrozen L) c (fileIn L) n
-  unfolding step accessedEntry
-  files-after ok summary z n = refl
-  files-after ok check z n = refl
-  files-after ok (find name) z n = refl
-  files-after ok (list i time room space) z n = facts (list i time room space) .done-other L n tt z
-  files-after ok (read name offset count time room space) z n = go (isFrozen L)
-    where
-      h : Found L name
-      h = read-found L name offset count time room space z
-
-      f : File
-      f = accessedFile time (fileOf L name)
-
-      go : (b : Bool) → fileIn (cond b L (withFile L (slotOf L name) f)) n ≡ cond b (fileIn L) (withNamed (fileIn L) name (Option·map (accessedContents time) (fileIn L name))) n
-      go true = refl
-      go false = by-change (withFile L (slotOf L name) f) name h (accessedContents time) (renewed-said L name h f refl) (λ k ne. renewed-other L name k ne h f refl) n
-  files-after ok (create name id mode time room) z n =
-      let c = create name id mode time room in
-      by-name (step c L .done) name _ (created-said L name (create-fresh L name id mode time room z) id mode time room) (λ k ne. facts c .done-other L k (ne, tt) z) n
-  files-after ok (delete name time room) z n =
-      let c = delete name time room in
-      by-name (step c L .done) name none (deleted-said L name (ok .named) (delete-found L name time room z) time room) (λ k ne. facts c .done-other L k (ne, tt) z) n
-  files-after ok (resize name size time room) z n =
-      let c = resize name size time room in
-      let h = resize-found L name size time room z in
-      by-change (step c L .done) name h (resizedContents size time) (resized-said L name h (file-sized L ok name h) size time room) (λ k ne. facts c .done-other L k (ne, tt) z) n
-  files-after ok (write name offset bytes time room) z n = go (eqb (length bytes) 0) refl
-    where
-      c : Call
-      c = write name offset bytes time room
-
-      h : Found L name
-      h = write-found L name offset bytes time room z
-
-      go : (b : Bool) → eqb (length bytes) 0 ≡ b
-          → fileIn (step c L .done) n ≡ cond b (fileIn L) (withNamed (fileIn L) name (Option·map (writtenContents offset bytes time) (fileIn L name))) n
-      go true e = ap (λ (X : Ledger). fileIn X n) (nothing-written name offset bytes time room e)
-      go false e =
-          let ne : length bytes ≢ 0 = eqb-false (length bytes) 0 e in
-          by-change (step c L .done) name h (writtenContents offset bytes time) (written-said L name h offset bytes time room (omega arith))
-          (λ k ne. facts c .done-other L k (ne, tt) z) n
-  files-after ok (rename old new time room) z n = go (equalBytes old new) refl
-    where
-      c : Call
-      c = rename old new time room
-
-      h : Found L old
-      h = rename-found L old new time room z
-
-      go : (b : Bool) → equalBytes old new ≡ b
-          → fileIn (step c L .done) n ≡ cond b (fileIn L) (withNamed (withNamed (fileIn L) old none) new (Option·map (renamedContents new time) (fileIn L old))) n
-      go true e = ap (λ (X : Ledger). fileIn X n) (nothing-renamed old new time room e)
-      go false e = at (equalBytes new n) (equalBytes old n) refl refl
-        where
-          at : (s t : Bool) → equalBytes new n ≡ s → equalBytes old n ≡ t
-              → fileIn (step c L .done) n ≡ cond s (Option·map (renamedContents new time) (fileIn L old)) (cond t none (fileIn L n))
-          at true t p q =
-              ap (fileIn (step c L .done)) (sym (same-true new n p)) ∙ renamed-said L old new (ok .named) h e time room
-              ∙ sym (ap (Option·map (renamedContents new time)) (found-said L old h))
-          at false true p q = ap (fileIn (step c L .done)) (sym (same-true old n q)) ∙ renamed-gone L old new (ok .named) h e time room
-          at false false p q = facts c .done-other L n (same-differ old n q, (same-differ new n p, tt)) z
 
 -- ---- an orderly ledger stays so
 
@@ -229,6 +142,14 @@ module _ (L : Ledger) (ok : Orderly L) where
           (λ n p k l ne. ap (λ (x : List ℕ). holdsName x (slotsWithout L r k)) (sym (same-true new n p)) ∙ unused L m new (ok .named) h e time 0 r (named-hit L new) k l)
           (λ x q. subst (λ (y : File). length (y .bytes) ≡ y .entry .size) (Option·some-injective f x q) (file-sized L ok m h))
 
+-- renames one after the other
+orderly-renames : (time : ℕ) (rs : Pairs) (L : Ledger) → Orderly L → Passed (verdicts (renameRefusals time L rs)) → Orderly (afterRenames L rs time)
+unfolding renameRefusals afterRenames
+orderly-renames time [] L ok passed = ok
+orderly-renames time (r ∷ rs) L ok passed =
+    orderly-renames time rs (afterRename L (r .0) (r .1) time) (orderly-renamed L ok (r .0) (r .1) (found-by L (r .0) (passed .1 .1 .0)) time) (passed .1 .1 .1)
+
+module _ (L : Ledger) (ok : Orderly L) where
   -- A CALL THAT WAS ACCEPTED
   pub orderly-after : (c : Call) → numberOf (answer c L) ≡ 0 → Orderly (step c L .done)
   unfolding step accessedEntry
@@ -239,7 +160,7 @@ module _ (L : Ledger) (ok : Orderly L) where
     where
       go : (b : Bool) → Orderly (cond b L (record { geometry = L .geometry; root = accessedRoot time (L .root); slots = L .slots }))
       go true = ok
-      go false = orderly-rooted (accessedRoot time (L .root))
+      go false = orderly-rooted L ok (accessedRoot time (L .root))
   orderly-after (read name offset count time room space) z = go (isFrozen L)
     where
       h : Found L name
@@ -247,9 +168,9 @@ module _ (L : Ledger) (ok : Orderly L) where
 
       go : (b : Bool) → Orderly (cond b L (withFile L (slotOf L name) (accessedFile time (fileOf L name))))
       go true = ok
-      go false = orderly-renewed name h (accessedFile time (fileOf L name)) refl (file-sized L ok name h)
-  orderly-after (create name id mode time room) z = orderly-created name (create-fresh L name id mode time room z) _ id mode time
-  orderly-after (delete name time room) z = orderly-freed _ (slotOf L name)
+      go false = orderly-renewed L ok name h (accessedFile time (fileOf L name)) refl (file-sized L ok name h)
+  orderly-after (create name id mode time room) z = orderly-created L ok name (create-fresh L name id mode time room z) _ id mode time
+  orderly-after (delete name time room) z = orderly-freed L ok _ (slotOf L name)
   orderly-after (resize name size time room) z = go (ltb size (fileOf L name .entry .size))
     where
       h : Found L name
@@ -258,10 +179,11 @@ module _ (L : Ledger) (ok : Orderly L) where
       go : (b : Bool)
           → Orderly (cond b (withFile L (slotOf L name) (shrunk L (slotOf L name) size time))
           (afterWrite L (slotOf L name) (fileOf L name .entry .size) (zeroBytes (size - fileOf L name .entry .size)) time))
-      go true = orderly-shrunk name h size time
-      go false = orderly-written name h (fileOf L name .entry .size) (zeroBytes (size - fileOf L name .entry .size)) time
-  orderly-after (write name offset bytes time room) z = orderly-written name (write-found L name offset bytes time room z) offset bytes time
-  orderly-after (rename old new time room) z = orderly-renamed old new (rename-found L old new time room z) time
+      go true = orderly-shrunk L ok name h size time
+      go false = orderly-written L ok name h (fileOf L name .entry .size) (zeroBytes (size - fileOf L name .entry .size)) time
+  orderly-after (write name offset bytes time room) z = orderly-written L ok name (write-found L name offset bytes time room z) offset bytes time
+  orderly-after (rename old new time room) z = orderly-renamed L ok old new (rename-found L old new time room z) time
+  orderly-after (renameSet names lengths time room) z = orderly-renames time (pairsOf (namesOf names lengths)) L ok (set-passed L names lengths time room z)
 
   -- and cut before its start mark
   orderly-cut : (c : Call) (mask : List Bool) → numberOf (answer c L) ≡ 0 → Orderly (step c L .cut mask)
@@ -276,9 +198,87 @@ module _ (L : Ledger) (ok : Orderly L) where
   orderly-cut (resize name size time room) mask z = ok
   orderly-cut (write name offset bytes time room) mask z =
       let h = write-found L name offset bytes time room z in
-      orderly-renewed name h (record { entry = fileOf L name .entry; bytes = partlyWritten (fileOf L name) offset bytes mask; extents = fileOf L name .extents }) refl
+      orderly-renewed L ok name h (record { entry = fileOf L name .entry; bytes = partlyWritten (fileOf L name) offset bytes mask; extents = fileOf L name .extents }) refl
       (length-tabulate _ 0 (length (fileOf L name .bytes)) ∙ file-sized L ok name h)
   orderly-cut (rename old new time room) mask z = ok
+  orderly-cut (renameSet names lengths time room) mask z = ok
+
+-- ---- THE ONE LEMMA
+
+-- renames one after the other: each sees an orderly ledger
+renames-files : (time : ℕ) (rs : Pairs) (L : Ledger) → Orderly L → Passed (verdicts (renameRefusals time L rs)) → (n : List ℕ)
+    → fileIn (afterRenames L rs time) n ≡ filesAfterRenames rs time (fileIn L) n
+unfolding renameRefusals afterRenames filesAfterRenames
+renames-files time [] L ok passed n = refl
+renames-files time (r ∷ rs) L ok passed n =
+    let h = found-by L (r .0) (passed .1 .1 .0) in
+    renames-files time rs (afterRename L (r .0) (r .1) time) (orderly-renamed L ok (r .0) (r .1) h time) (passed .1 .1 .1) n
+    ∙ ap (λ (x : Files). filesAfterRenames rs time x n) (fun-ext (renamed-files L (r .0) (r .1) (ok .named) h time))
+
+module _ (L : Ledger) where
+  -- where only the file of one name became another
+  by-name : (M : Ledger) (m : List ℕ) (o : Option Contents) → fileIn M m ≡ o → ((n : List ℕ) → m ≢ n → fileIn M n ≡ fileIn L n)
+      → (n : List ℕ) → fileIn M n ≡ withNamed (fileIn L) m o n
+  by-name M m o here others n = go (equalBytes m n) refl
+    where
+      go : (b : Bool) → equalBytes m n ≡ b → fileIn M n ≡ cond b o (fileIn L n)
+      go true q = ap (fileIn M) (sym (same-true m n q)) ∙ here
+      go false q = others n (same-differ m n q)
+
+  -- and where that is f of what it was
+  by-change : (M : Ledger) (m : List ℕ) → Found L m → (f : Contents → Contents) → fileIn M m ≡ some (f (record { entry = fileOf L m .entry; bytes = fileOf L m .bytes }))
+      → ((n : List ℕ) → m ≢ n → fileIn M n ≡ fileIn L n) → (n : List ℕ) → fileIn M n ≡ withNamed (fileIn L) m (Option·map f (fileIn L m)) n
+  by-change M m h f here = by-name M m (Option·map f (fileIn L m)) (here ∙ sym (ap (Option·map f) (found-said L m h)))
+
+  -- a write of 0 bytes changes nothing
+  nothing-written : (name : List ℕ) (offset : ℕ) (bytes : List ℕ) (time room : ℕ) → eqb (length bytes) 0 ≡ true → step (write name offset bytes time room) L .done ≡ L
+  unfolding step afterWrite
+  nothing-written name offset bytes time room e = ap (λ (b : Bool). cond b L (withFile L (slotOf L name) (written L (slotOf L name) offset bytes time))) e
+
+  pub files-after : Orderly L → (c : Call) → numberOf (answer c L) ≡ 0 → (n : List ℕ) → fileIn (step c L .done) n ≡ filesAfter (isFrozen L) c (fileIn L) n
+  unfolding step accessedEntry
+  files-after ok summary z n = refl
+  files-after ok check z n = refl
+  files-after ok (find name) z n = refl
+  files-after ok (list i time room space) z n = facts (list i time room space) .done-other L n tt z
+  files-after ok (read name offset count time room space) z n = go (isFrozen L)
+    where
+      h : Found L name
+      h = read-found L name offset count time room space z
+
+      f : File
+      f = accessedFile time (fileOf L name)
+
+      go : (b : Bool) → fileIn (cond b L (withFile L (slotOf L name) f)) n ≡ cond b (fileIn L) (withNamed (fileIn L) name (Option·map (accessedContents time) (fileIn L name))) n
+      go true = refl
+      go false = by-change (withFile L (slotOf L name) f) name h (accessedContents time) (renewed-said L name h f refl) (λ k ne. renewed-other L name k ne h f refl) n
+  files-after ok (create name id mode time room) z n =
+      let c = create name id mode time room in
+      by-name (step c L .done) name _ (created-said L name (create-fresh L name id mode time room z) id mode time room) (λ k ne. facts c .done-other L k (ne, tt) z) n
+  files-after ok (delete name time room) z n =
+      let c = delete name time room in
+      by-name (step c L .done) name none (deleted-said L name (ok .named) (delete-found L name time room z) time room) (λ k ne. facts c .done-other L k (ne, tt) z) n
+  files-after ok (resize name size time room) z n =
+      let c = resize name size time room in
+      let h = resize-found L name size time room z in
+      by-change (step c L .done) name h (resizedContents size time) (resized-said L name h (file-sized L ok name h) size time room) (λ k ne. facts c .done-other L k (ne, tt) z) n
+  files-after ok (write name offset bytes time room) z n = go (eqb (length bytes) 0) refl
+    where
+      c : Call
+      c = write name offset bytes time room
+
+      h : Found L name
+      h = write-found L name offset bytes time room z
+
+      go : (b : Bool) → eqb (length bytes) 0 ≡ b
+          → fileIn (step c L .done) n ≡ cond b (fileIn L) (withNamed (fileIn L) name (Option·map (writtenContents offset bytes time) (fileIn L name))) n
+      go true e = ap (λ (X : Ledger). fileIn X n) (nothing-written name offset bytes time room e)
+      go false e =
+          let ne : length bytes ≢ 0 = eqb-false (length bytes) 0 e in
+          by-change (step c L .done) name h (writtenContents offset bytes time) (written-said L name h offset bytes time room (omega arith))
+          (λ k ne. facts c .done-other L k (ne, tt) z) n
+  files-after ok (rename old new time room) z n = renamed-files L old new (ok .named) (rename-found L old new time room z) time n
+  files-after ok (renameSet names lengths time room) z n = renames-files time (pairsOf (namesOf names lengths)) L ok (set-passed L names lengths time room z) n
 
 -- ---- EVERY LEDGER WHOSE CUT CALLS WERE ACCEPTED: from a format on, and from a sound volume on
 

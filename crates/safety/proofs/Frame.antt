@@ -11,11 +11,11 @@ use Rattle.model.specs.declared.Geometry.{Geometry}
 use Rattle.model.specs.Geometry.{superblockAt, journalAt, dataAt, volumeSectors}
 use Rattle.model.specs.Disk.{Disk, view}
 use Rattle.model.specs.Catalogue.{Catalogue, catalogueOf}
-use Rattle.model.specs.WriteList.{Record, barrierNumber, barrier, stored, Plan, Group, closedAfter, closed}
+use Rattle.model.specs.WriteList.{Record, barrierNumber, barrier, stored, Plan, Group, closedAfter, closed, over, apply, hits}
 use Rattle.model.specs.Superblock.{journalLength, stateOf}
 use Rattle.model.specs.Recovery.{isMetadata}
 use Rattle.model.specs.Cut.{kept}
-use Rattle.safety.proofs.Apply.{over, apply, hits, over-append, over-miss, over-skip, over-none, kept-miss, kept-nil, hits-append, stored-view}
+use Rattle.safety.proofs.Apply.{over-append, over-miss, over-skip, over-none, kept-miss, kept-nil, hits-append, stored-view}
 use Rattle.safety.proofs.Apply.{All, all-map, all-miss, InImage, length-stored}
 use Rattle.safety.proofs.Superblock.{Volume, volume-long}
 use Rattle.laws.proofs.Areas.{metadata-below}
@@ -83,19 +83,19 @@ module _ (g : Geometry) (img : List ℕ) (ws : Group) (geo : UsableGeometry g) (
       let s : volumeSectors g < barrierNumber = geo .small in
       (record { within = omega arith; number = λ e. omega arith; sector = q .0 }, all-in-image vs (h .1) (q .1))
 
-  shown : (j : ℕ) → view (stored ws img) j ≡ over ws j (view img j)
+  pub stored-at : (j : ℕ) → view (stored ws img) j ≡ over ws j (view img j)
   unfolding apply
-  shown j = ap (λ (d : Disk). d j) (stored-view ws img (length img) refl (all-in-image ws metadata whole))
+  stored-at j = ap (λ (d : Disk). d j) (stored-view ws img (length img) refl (all-in-image ws metadata whole))
 
   pub stored-shows : (c : Catalogue) → Shows g c ws img (stored ws img)
-  stored-shows c j o ne = shown j
+  stored-shows c j o ne = stored-at j
 
   pub stored-ready : Ready g (stored ws img)
   stored-ready =
       let miss : hits ws 0 ≡ false =
       all-miss 0 ws (all-map (Metadata g) (λ w. 0 ≢ w .sector)
       (λ w h q. true≢false (sym h ∙ ap (isMetadata g) (sym q) ∙ metadata-no g 0 (λ a b. omega arith) (λ a b. omega arith))) ws metadata) in
-      let z : view (stored ws img) superblockAt ≡ view img superblockAt = shown 0 ∙ over-miss ws 0 _ miss in
+      let z : view (stored ws img) superblockAt ≡ view img superblockAt = stored-at 0 ∙ over-miss ws 0 _ miss in
       record {
         volume = subst (λ (l : ℕ). Volume g l (view (stored ws img) superblockAt)) (sym (length-stored ws img)) (subst (Volume g (length img)) (sym z) (ready .volume));
         clean = ap (λ (s : List ℕ). stateOf (journalLength s)) z ∙ ready .clean;

@@ -18,10 +18,10 @@ use Rattle.model.specs.Disk.{view}
 use Rattle.model.specs.Superblock.{geometryIn}
 use Rattle.model.specs.Table.{tableEntryStart, tableSectorOf, tableFile, tableOffset, freedIn, tableEntryBytes}
 use Rattle.model.specs.Catalogue.{Owner, catalogueOf}
-use Rattle.model.specs.WriteList.{Group}
+use Rattle.model.specs.WriteList.{Group, over, hits}
 use Rattle.laws.proofs.Disk.{length-view}
 use Rattle.safety.proofs.Searches.{anyBelow-none, countBelow-le}
-use Rattle.safety.proofs.Apply.{over, hits, All, all-miss}
+use Rattle.safety.proofs.Apply.{All, all-miss}
 use Rattle.safety.proofs.Journal.{Rising}
 use Rattle.safety.proofs.Plan.{Metadata, Whole, metadata-table}
 use Rattle.safety.proofs.Preserved.{ownerBy, owner-is}
@@ -53,16 +53,16 @@ module _ (g : Geometry) (img : List ℕ) (p : ℕ → Bool) where
       omega arith
 
   pub freed-metadata : All (Metadata g) freed
-  freed-metadata = all-picks (tableAt g) changed contents (Metadata g) T (λ t q. metadata-table g (tableAt g + t) (omega arith) (omega arith))
+  freed-metadata = all-picks (tableAt g) changed contents (Metadata g) T (λ t q e. metadata-table g (tableAt g + t) (omega arith) (omega arith))
 
   pub freed-whole : All Whole freed
-  freed-whole = all-picks (tableAt g) changed contents Whole T (λ t q. length-freedIn _ (view img (tableAt g + t)) 128 ∙ length-view img (tableAt g + t))
+  freed-whole = all-picks (tableAt g) changed contents Whole T (λ t q e. length-freedIn _ (view img (tableAt g + t)) 128 ∙ length-view img (tableAt g + t))
 
   pub freed-rising : (lo : ℕ) → lo ≤ tableAt g → Rising lo freed
   freed-rising lo h = rising-picks (tableAt g) changed contents T 0 lo (omega arith)
 
   pub freed-miss : (j : ℕ) → (tableAt g ≤ j → j < dataAt g → ⊥) → hits freed j ≡ false
-  freed-miss j h = all-miss j _ (all-picks (tableAt g) changed contents (λ w. j ≢ w .sector) T (λ t l e. h (omega arith) (omega arith)))
+  freed-miss j h = all-miss j _ (all-picks (tableAt g) changed contents (λ w. j ≢ w .sector) T (λ t l p e. h (omega arith) (omega arith)))
 
   -- ---- the table
 

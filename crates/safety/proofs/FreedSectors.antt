@@ -10,11 +10,11 @@ use native.Mathlib.Nat.{not-suc-le-zero, zero-add}
 use lib.ListN.{length, length-append}
 use Rattle.model.specs.Bytes.{beAt, beBytes, put}
 use Rattle.model.specs.Search.{concatenated, countBelow}
-use Rattle.model.specs.WriteList.{Record, sectorWrite, Group}
+use Rattle.model.specs.WriteList.{Record, sectorWrite, Group, over}
 use Rattle.model.specs.Table.{tableEntryBytes, freedIn}
 use Rattle.laws.proofs.Search.{concatenated-front}
 use Rattle.laws.proofs.Bytes.{length-put, beAt-put-other, beAt-put-in}
-use Rattle.safety.proofs.Apply.{over, over-append, over-here, over-skip, over-none, over-miss, All, all-append, all-miss}
+use Rattle.safety.proofs.Apply.{over-append, over-here, over-skip, over-none, over-miss, All, all-append, all-miss}
 use Rattle.safety.proofs.Journal.{Rising}
 
 -- ---- of the sectors from base on, those that p picks are written
@@ -35,14 +35,14 @@ module _ (base : ℕ) (p : ℕ → Bool) (r : ℕ → List ℕ) where
       go true = refl
       go false = refl
 
-  pub all-picks : (P : Record → Type 0) (n : ℕ) → ((t : ℕ) → t < n → P (sectorWrite (base + t) (r t))) → All P (concatenated pick 0 n)
+  pub all-picks : (P : Record → Type 0) (n : ℕ) → ((t : ℕ) → t < n → p t ≡ true → P (sectorWrite (base + t) (r t))) → All P (concatenated pick 0 n)
   unfolding concatenated
   all-picks P zero h = tt
-  all-picks P (suc n) h = all-append P (concatenated pick 0 n) (pick (0 + n)) (all-picks P n (λ t l. h t (omega arith))) (go (p (0 + n)))
+  all-picks P (suc n) h = all-append P (concatenated pick 0 n) (pick (0 + n)) (all-picks P n (λ t l. h t (omega arith))) (go (p (0 + n)) refl)
     where
-      go : (b : Bool) → All P (cond b (sectorWrite (base + (0 + n)) (r (0 + n)) ∷ []) [])
-      go true = (h (0 + n) (omega arith), tt)
-      go false = tt
+      go : (b : Bool) → p (0 + n) ≡ b → All P (cond b (sectorWrite (base + (0 + n)) (r (0 + n)) ∷ []) [])
+      go true e = (h (0 + n) (omega arith) e, tt)
+      go false e = tt
 
   pub rising-picks : (n a lo : ℕ) → lo ≤ base + a → Rising lo (concatenated pick a n)
   unfolding concatenated
@@ -75,7 +75,7 @@ module _ (base : ℕ) (p : ℕ → Bool) (r : ℕ → List ℕ) where
       go (no l) ih =
           let e : t ≡ n = omega arith in
           let m : over (concatenated pick 0 n) (base + n) x ≡ x = over-miss (concatenated pick 0 n) (base + n) x
-          (all-miss (base + n) (concatenated pick 0 n) (all-picks (λ w. base + n ≢ w .sector) n (λ k u z. omega arith))) in
+          (all-miss (base + n) (concatenated pick 0 n) (all-picks (λ w. base + n ≢ w .sector) n (λ k u e z. omega arith))) in
           ap (λ k. over (pick n) (base + k) (over (concatenated pick 0 n) (base + k) x)) e ∙ ap (over (pick n) (base + n)) m ∙ here (p n) x ∙ ap (λ k. cond (p k) (r k) x) (sym e)
 
 -- ---- freed entries

@@ -11,10 +11,10 @@ use lib.ListN.{length}
 use Rattle.model.specs.Geometry.{journalAt, tableAt, dataAt, tableSectors}
 use Rattle.model.specs.Disk.{view}
 use Rattle.model.specs.Catalogue.{Owner, catalogueOf, ownedFrom, holdsFrom, sectorsFrom, sectorOf}
-use Rattle.model.specs.WriteList.{Group}
+use Rattle.model.specs.WriteList.{Group, over, hits}
 use Rattle.model.specs.Delete.{freedSector, freedSectors}
 use Rattle.model.specs.Ledger.{Ledger, File, catalogue}
-use Rattle.safety.proofs.Apply.{over, hits, over-append, over-miss, All, all-map, all-miss}
+use Rattle.safety.proofs.Apply.{over-append, over-miss, All, all-map, all-miss}
 use Rattle.safety.proofs.Journal.{Rising}
 use Rattle.safety.proofs.Plan.{Metadata, Whole}
 use Rattle.safety.proofs.Commit.{Ready}

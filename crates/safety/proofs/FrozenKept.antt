@@ -1,31 +1,38 @@
 -- AN ACCEPTED CALL KEEPS WHETHER THE LEDGER IS FROZEN (T-12, for T-14): where fewer than K extents are free it changes nothing (`frozen-same`), and where K are
 -- free, K stay free (`free-kept`). Assumes nothing.
 use Prim.Native.Nat.{ℕ, zero, suc, _+_, _-_, _≤_, _<_, max}
-use mathlib.Core.Path.{_≡_, refl, sym, ap, _∙_}
+use mathlib.Core.Path.{_≡_, refl, sym, ap, _∙_, subst}
 use mathlib.Core.Logic.{_≢_}
-use mathlib.Core.Bool.{Bool, true, false, cond, not, _&&_, true≢false, false≢true}
+use mathlib.Core.Bool.{Bool, true, false, cond, not, _&&_, _||_, true≢false, false≢true}
 use mathlib.Core.List.{List, [], _∷_, _++_}
 use mathlib.Core.Option.{Option, none, some}
 use native.Mathlib.Omega.{arith}
 use lib.Dec.{eqb, leb, ltb}
 use lib.ListN.{length, take}
-use borrow.Author.Tests.{eqb-true, eqb-false, lt-ltb, le-ltb, ltb-false, leb-false}
+use borrow.Author.Tests.{eqb-true, eqb-false, eq-eqb, lt-ltb, le-ltb, ltb-false, leb-false}
 use Rattle.model.specs.declared.Lowest.{Lowest}
 use Rattle.model.specs.declared.Lowest.the-variants.{At, Nowhere}
 use Rattle.model.specs.Search.{scan, first, countBelow, isAt, indexOf, equalBytes}
-use Rattle.model.specs.Geometry.{ExtentNumber, FileNumber, reserveExtents, extentsFor}
+use Rattle.model.specs.Geometry.{ExtentNumber, FileNumber, reserveExtents, extentsFor, tableSectors}
 use Rattle.model.specs.Root.{Root}
 use Rattle.model.specs.Ledger.{Ledger, File, fileOr, positionAmong, holderOf, slotNamed, freeSlot, unheldExtent, unheldExtents, isFrozen, fileOf, needsMore}
 use Rattle.model.specs.Ledger.{noRoomFor, Call, summary, check, find, list}
-use Rattle.model.specs.Ledger.{read, create, delete, resize, write, rename, numberOf, freedRecords, writtenRecords, renamedRecords, updatedRoot, renamedFile}
-use Rattle.model.specs.Ledger.{accessedFile, withSlot, withFile, slotsWithout, afterRename, written, afterWrite}
+use Rattle.model.specs.Ledger.{read, create, delete, resize, write, rename, renameSet, numberOf, freedRecords, writtenRecords, renamedRecords, updatedRoot, renamedFile}
+use Rattle.model.specs.Ledger.{accessedFile, isThere, withSlot, withFile, slotsWithout, afterRename, namesOf, pairsOf, afterRenames, namesSlot, freesIn, renamedTargets}
+use Rattle.model.specs.Ledger.{renameRefusals, written, afterWrite}
 use Rattle.model.specs.Ledger.{shrunk, zeroBytes, accessedRoot, spannedSectors, step, answer}
 use Rattle.model.specs.WriteList.{recordCount}
-use Rattle.laws.proofs.Search.{length-tabulate}
+use Rattle.laws.proofs.Booleans.{or-none}
+use Rattle.laws.proofs.Search.{length-tabulate, anyBelow-true}
+use Rattle.laws.proofs.Count.{countBelow-anyBelow}
+use Rattle.laws.proofs.RenameSet.{Pairs}
 use Rattle.safety.proofs.Searches.{place-found, place-none, is-no}
-use Rattle.safety.proofs.Changing.{done-passed}
+use Rattle.safety.proofs.OwnWords.{verdicts}
+use Rattle.safety.proofs.Changing.{Passed, done-passed}
+use Rattle.safety.proofs.Naming.{slotOf, Found, found-by, after-itself}
 use Rattle.safety.proofs.FreedFile.{below, place-take}
 use Rattle.safety.proofs.TakenFile.{orThen, place-more}
+use Rattle.safety.proofs.RenameSet.{set-passed, set-reserved}
 
 -- ---- counts of tests that hold wherever others do, but for one index
 
@@ -200,6 +207,12 @@ module _ (L : Ledger) (free : isFrozen L ≡ false) where
       go true = free
       go false = kept-all L free (updatedRoot time (L .root)) (withSlot (slotsWithout L (slotNamed L new)) i f) (fewer (slotNamed L new))
 
+kept-renames : (time : ℕ) (rs : Pairs) (L : Ledger) → isFrozen L ≡ false → isFrozen (afterRenames L rs time) ≡ false
+unfolding afterRenames
+kept-renames time [] L free = free
+kept-renames time (r ∷ rs) L free = kept-renames time rs (afterRename L (r .0) (r .1) time) (kept-renamed L free (r .0) (r .1) time)
+
+module _ (L : Ledger) (free : isFrozen L ≡ false) where
   free-kept : (c : Call) → numberOf (answer c L) ≡ 0 → isFrozen (step c L .done) ≡ false
   unfolding step fileOf zeroBytes
   free-kept summary z = free
@@ -238,9 +251,52 @@ module _ (L : Ledger) (free : isFrozen L ≡ false) where
           (ap (noRoomFor L old) s ∙ done-passed (step (resize name size time room) L) refl refl z .1 .1 .1 .0)
   free-kept (write name offset bytes time room) z =
       kept-written L free (indexOf (slotNamed L name)) offset bytes time (done-passed (step (write name offset bytes time room) L) refl refl z .1 .1 .1 .1 .0)
-  free-kept (rename old new time room) z = kept-renamed old new time
+  free-kept (rename old new time room) z = kept-renamed L free old new time
+  free-kept (renameSet names lengths time room) z = kept-renames time (pairsOf (namesOf names lengths)) L free
 
 -- ---- where fewer are free, nothing changes
+
+-- renames one after the other that name no slot: each is to itself
+named-none : (time : ℕ) (rs : Pairs) (L : Ledger) → Passed (verdicts (renameRefusals time L rs)) → ((i : ℕ) → i < L .geometry .files → namesSlot L rs time i ≡ false)
+    → afterRenames L rs time ≡ L
+unfolding renameRefusals afterRenames namesSlot
+named-none time [] L passed h = refl
+named-none time (r ∷ rs) L passed h =
+    named-none time rs (afterRename L (r .0) (r .1) time) (passed .1 .1 .1)
+    (λ i l. or-none (here i) (namesSlot (afterRename L (r .0) (r .1) time) rs time i) (h i (subst (λ (X : Ledger). i < X .geometry .files) same l)) .1) ∙ same
+  where
+    i₀ : ℕ
+    i₀ = slotOf L (r .0)
+
+    was : Found L (r .0)
+    was = found-by L (r .0) (passed .1 .1 .0)
+
+    here : ℕ → Bool
+    here i = not (equalBytes (r .0) (r .1)) && (isThere i (slotNamed L (r .0)) || isThere i (slotNamed L (r .1)))
+
+    itself : (b : Bool) → (not b && (isThere i₀ (slotNamed L (r .0)) || isThere i₀ (slotNamed L (r .1)))) ≡ false → b ≡ true
+    itself true q = refl
+    itself false q =
+        absurd (true≢false (sym (ap (isThere i₀) (was .at) ∙ eq-eqb i₀ i₀ refl) ∙ or-none (isThere i₀ (slotNamed L (r .0))) (isThere i₀ (slotNamed L (r .1))) q .0))
+
+    same : afterRename L (r .0) (r .1) time ≡ L
+    same =
+        after-itself L (r .0) (r .1) time
+        (itself (equalBytes (r .0) (r .1)) (or-none (here i₀) (namesSlot (afterRename L (r .0) (r .1) time) rs time i₀) (h i₀ (was .within)) .0))
+
+-- so where they have no target
+untargeted : (L : Ledger) (rs : Pairs) (time : ℕ) → renamedTargets L rs time ≡ 0 → (i : ℕ) → i < L .geometry .files → namesSlot L rs time i ≡ false
+unfolding renamedTargets
+untargeted L rs time e i l = is-no (namesSlot L rs time i) (λ t.
+    let some = countBelow-anyBelow (namesSlot L rs time) (L .geometry .files) (anyBelow-true (namesSlot L rs time) i (L .geometry .files) l t) in
+    go (eqb entries 0) refl some e)
+  where
+    entries : ℕ
+    entries = countBelow (namesSlot L rs time) (L .geometry .files)
+
+    go : (b : Bool) → eqb entries 0 ≡ b → 0 < entries → cond b 0 (1 + entries + countBelow (freesIn L rs time) (tableSectors (L .geometry))) ≡ 0 → ⊥
+    go true q p z = let n : entries ≡ 0 = eqb-true entries 0 q in omega arith
+    go false q p z = omega arith
 
 module _ (L : Ledger) (frozen : isFrozen L ≡ true) where
   -- a call with a list is refused
@@ -298,6 +354,18 @@ module _ (L : Ledger) (frozen : isFrozen L ≡ true) where
       go true c q = refl
       go false true q = absurd (no-list (freedRecords L new 0 3) (omega arith) q)
       go false false q = absurd (no-list (recordCount 0 2) (omega arith) q)
+  frozen-same (renameSet names lengths time room) z =
+      named-none time rs L (set-passed L names lengths time room z) (untargeted L rs time (go (eqb targets 0) refl (set-reserved L names lengths time room z)))
+    where
+      rs : Pairs
+      rs = pairsOf (namesOf names lengths)
+
+      targets : ℕ
+      targets = renamedTargets L (pairsOf (namesOf names lengths)) time
+
+      go : (b : Bool) → eqb targets 0 ≡ b → (ltb 0 (cond b 0 (recordCount 0 targets)) && isFrozen L) ≡ false → targets ≡ 0
+      go true e q = eqb-true targets 0 e
+      go false e q = absurd (no-list (recordCount 0 targets) (omega arith) q)
 
 pub frozen-kept : (L : Ledger) (c : Call) → numberOf (answer c L) ≡ 0 → isFrozen (step c L .done) ≡ isFrozen L
 frozen-kept L c z = go (isFrozen L) refl

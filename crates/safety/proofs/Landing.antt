@@ -8,10 +8,10 @@ use mathlib.Core.Bool.{Bool, true, false, cond}
 use mathlib.Core.List.{List, [], _∷_, _++_, append-nil}
 use lib.ListN.{length, getD}
 use Rattle.model.specs.Disk.{Disk, view}
-use Rattle.model.specs.WriteList.{Record, Group, stored}
+use Rattle.model.specs.WriteList.{Record, Group, stored, apply, hits}
 use Rattle.model.specs.Cut.{kept, landedOf}
 use Rattle.laws.proofs.Disk.{same-view}
-use Rattle.safety.proofs.Apply.{apply, hits, apply-append, apply-agree, apply-miss, All, all-append, all-kept, kept-miss, kept-one, InImage, stored-view, length-stored}
+use Rattle.safety.proofs.Apply.{apply-append, apply-agree, apply-miss, All, all-append, all-kept, kept-miss, kept-one, InImage, stored-view, length-stored}
 
 -- an image of so many bytes that shows the disk d wherever the group writes nothing
 pub record Begun (len : ℕ) (C : Group) (d : Disk) (img : List ℕ) : Type 0 where

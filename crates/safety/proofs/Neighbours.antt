@@ -18,17 +18,19 @@ use lib.ListN.{length}
 use borrow.Author.Tests.{eq-eqb}
 use Rattle.model.specs.Search.{equalBytes}
 use Rattle.model.specs.Root.{Root}
-use Rattle.model.specs.Ledger.{Ledger, firstLedger, Call, summary, check, find, list, read, create, delete, resize, write, rename, Answer}
-use Rattle.model.specs.Ledger.{numberOf, updatedRoot, accessedRoot, accessedFile, slotNamed, isFrozen, fileOf}
+use Rattle.model.specs.Ledger.{Ledger, firstLedger, Call, summary, check, find, list, read, create, delete, resize, write, rename, renameSet, Answer}
+use Rattle.model.specs.Ledger.{numberOf, namesOf, pairsOf, afterRenames, updatedRoot, accessedRoot, accessedFile, slotNamed, isFrozen, fileOf}
 use Rattle.model.specs.Ledger.{withFile, withSlot, slotsWithout, renamedFile, afterRename, written, afterWrite, shrunk, zeroBytes, step, answer, Feed, whole, fed, ledgerFrom, answersFrom}
 use Rattle.model.specs.Run.{arguments, steady}
 use Rattle.laws.proofs.Booleans.{or-left, or-right, or-none}
+use Rattle.laws.proofs.RenameSet.{Pairs}
 use Rattle.safety.specs.Described.{SoundRun, SoundDemand3}
 use Rattle.safety.specs.Naming.{NotAmong, NoneNames, Contents, fileIn}
-use Rattle.safety.specs.Saving.{renamedContents, SameFiles, OnlyOf}
+use Rattle.safety.specs.Saving.{SameFiles, OnlyOf}
 use Rattle.safety.specs.Accessing.{rootOn, accessedContents}
 use Rattle.safety.specs.Neighbours.{wholes, namesIn, ShareNone, AllZero, EitherOrder, rootButTimes, SameByName, NeighboursFrom, Neighbours, SoundNeighbours, Save, callsOf, Different, Orderly}
-use Rattle.safety.specs.Neighbours.{Files, withNamed, newContents, resizedContents, writtenContents, renameFiles, filesAfter}
+use Rattle.safety.specs.Neighbours.{withNamed, newContents, resizedContents, writtenContents, filesAfter}
+use Rattle.safety.specs.RenameSet.{Files, renamedOr, renamedFiles, filesAfterRenames}
 use Rattle.safety.proofs.Searches.{or-no, is-no, same-refl, same-true, same-apart}
 use Rattle.safety.proofs.Naming.{slotOf}
 use Rattle.safety.proofs.Theorem.{sound-demand3, represents}
@@ -131,14 +133,14 @@ named-local m f = record {
       λ i. cond (equalBytes m n) (f (a i)) (b i);
 }
 
--- of a rename; a set of renames is local to all its names by `both` and `wider`
-pub rename-local : (old new : List ℕ) (time : ℕ) → Local (renameFiles old new time) (old ∷ new ∷ [])
-rename-local old new time = either-local (λ files. withNamed (withNamed files old none) new (f (files old))) (old ∷ new ∷ []) moved (equalBytes old new)
+-- of a rename
+pub rename-local : (old new : List ℕ) (time : ℕ) → Local (renamedFiles old new time) (old ∷ new ∷ [])
+rename-local old new time = go (equalBytes old new)
   where
     f : Option Contents → Option Contents
-    f = Option·map (renamedContents new time)
+    f = renamedOr new time
 
-    moved : Local (λ files. withNamed (withNamed files old none) new (f (files old))) (old ∷ new ∷ [])
+    moved : Local (λ files n. cond (equalBytes new n) (f (files old)) (cond (equalBytes old n) none (files n))) (old ∷ new ∷ [])
     moved = record {
       keeps = λ files n e.
           let a = or-none (equalBytes old n) (isAmong n (new ∷ [])) e in
@@ -148,6 +150,20 @@ rename-local old new time = either-local (λ files. withNamed (withNamed files o
           let b = h n e in
           λ i. cond (equalBytes new n) (f (a i)) (cond (equalBytes old n) none (b i));
     }
+
+    go : (b : Bool) → Local (λ files n. cond b (files n) (cond (equalBytes new n) (f (files old)) (cond (equalBytes old n) none (files n)))) (old ∷ new ∷ [])
+    go true = nothing-local (old ∷ new ∷ [])
+    go false = moved
+
+-- of a set of renames: to all its names
+pub renames-local : (time : ℕ) (ms : List (List ℕ)) → Local (filesAfterRenames (pairsOf ms) time) ms
+unfolding pairsOf filesAfterRenames
+renames-local time [] = nothing-local []
+renames-local time (m ∷ []) = nothing-local (m ∷ [])
+renames-local time (old ∷ new ∷ ms) =
+    both (renamedFiles old new time) (filesAfterRenames (pairsOf ms) time) (old ∷ new ∷ ms)
+    (wider (renamedFiles old new time) (old ∷ new ∷ []) (old ∷ new ∷ ms) (rename-local old new time) (λ n. among-front n (old ∷ new ∷ []) ms))
+    (wider (filesAfterRenames (pairsOf ms) time) ms (old ∷ new ∷ ms) (renames-local time ms) (λ n. among-back n (old ∷ new ∷ []) ms))
 
 pub call-local : (frozen : Bool) (c : Call) → Local (filesAfter frozen c) (arguments c .files)
 call-local frozen summary = nothing-local []
@@ -164,6 +180,7 @@ call-local frozen (write name offset bytes time room) =
     let f = Option·map (writtenContents offset bytes time) in
     either-local (λ files. withNamed files name (f (files name))) (name ∷ []) (named-local name f) (eqb (length bytes) 0)
 call-local frozen (rename old new time room) = rename-local old new time
+call-local frozen (renameSet names lengths time room) = renames-local time (namesOf names lengths)
 
 -- of several calls, the latest first, on a ledger that is frozen or isn't
 module _ (frozen : Bool) where
@@ -184,6 +201,11 @@ module _ (frozen : Bool) where
 
 -- ---- the root but for its times: calls raise its version so many times, whatever it is, and change nothing else
 
+-- of renames one after the other: how many of them are applied
+raisesOf : Pairs → ℕ
+raisesOf [] = 0
+raisesOf (r ∷ rs) = raisesOf rs + cond (equalBytes (r .0) (r .1)) 0 1
+
 abbrev raises : Call → ℕ
 raises summary = 0
 raises check = 0
@@ -195,6 +217,7 @@ raises (delete name time room) = 1
 raises (resize name size time room) = 0
 raises (write name offset bytes time room) = 0
 raises (rename old new time room) = cond (equalBytes old new) 0 1
+raises (renameSet names lengths time room) = raisesOf (pairsOf (namesOf names lengths))
 
 abbrev raisesIn : List Call → ℕ
 raisesIn [] = 0
@@ -223,8 +246,27 @@ kept-written L i offset bytes time = go (eqb (length bytes) 0)
     go true = refl
     go false = refl
 
+root-renamed : (L : Ledger) (old new : List ℕ) (time : ℕ) → rootButTimes (afterRename L old new time .root) ≡ raisedBy (cond (equalBytes old new) 0 1) (rootButTimes (L .root))
+unfolding afterRename updatedRoot
+root-renamed L old new time = go (equalBytes old new)
+  where
+    go : (b : Bool) → rootButTimes (cond b L (record {
+      geometry = L .geometry;
+      root = updatedRoot time (L .root);
+      slots = withSlot (slotsWithout L (slotNamed L new)) (slotOf L old) (some (renamedFile new time (fileOf L old)));
+    }) .root) ≡ raisedBy (cond b 0 1) (rootButTimes (L .root))
+    go true = refl
+    go false = refl
+
+root-renames : (time : ℕ) (rs : Pairs) (L : Ledger) → rootButTimes (afterRenames L rs time .root) ≡ raisedBy (raisesOf rs) (rootButTimes (L .root))
+unfolding afterRenames raisesOf
+root-renames time [] L = refl
+root-renames time (r ∷ rs) L =
+    root-renames time rs (afterRename L (r .0) (r .1) time) ∙ ap (raisedBy (raisesOf rs)) (root-renamed L (r .0) (r .1) time)
+    ∙ sym (raised-sum (raisesOf rs) (cond (equalBytes (r .0) (r .1)) 0 1) (rootButTimes (L .root)))
+
 root-by : (c : Call) (L : Ledger) → rootButTimes (step c L .done .root) ≡ raisedBy (raises c) (rootButTimes (L .root))
-unfolding step afterRename updatedRoot accessedRoot
+unfolding step updatedRoot accessedRoot
 root-by summary L = refl
 root-by check L = refl
 root-by (find name) L = refl
@@ -247,15 +289,8 @@ root-by (resize name size time room) L = ap rootButTimes (go (ltb size (fileOf L
     go true = refl
     go false = kept-written L (slotOf L name) (fileOf L name .entry .size) (zeroBytes (size - fileOf L name .entry .size)) time
 root-by (write name offset bytes time room) L = ap rootButTimes (kept-written L (slotOf L name) offset bytes time)
-root-by (rename old new time room) L = go (equalBytes old new)
-  where
-    go : (b : Bool) → rootButTimes (cond b L (record {
-      geometry = L .geometry;
-      root = updatedRoot time (L .root);
-      slots = withSlot (slotsWithout L (slotNamed L new)) (slotOf L old) (some (renamedFile new time (fileOf L old)));
-    }) .root) ≡ raisedBy (cond b 0 1) (rootButTimes (L .root))
-    go true = refl
-    go false = refl
+root-by (rename old new time room) L = root-renamed L old new time
+root-by (renameSet names lengths time room) L = root-renames time (pairsOf (namesOf names lengths)) L
 
 -- ---- blocks of accepted calls
 

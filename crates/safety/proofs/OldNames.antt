@@ -29,7 +29,7 @@ use Rattle.safety.proofs.OwnWords.{frozen-is, name-if, time-is, name-is
 use Rattle.safety.proofs.Searches.{or-left-no, is-no, countBelow-le}
 use Rattle.safety.proofs.Rep.{Rep, cat-is, catalogue-geometry}
 use Rattle.safety.proofs.KeptFile.{well-named}
-use Rattle.safety.proofs.Rename.{named-so}
+use Rattle.safety.proofs.Renamed.{named-so}
 use Rattle.safety.proofs.Naming.{filled, Found, found-by, slotOf}
 use Rattle.safety.proofs.FileSaid.{said}
 use Rattle.safety.proofs.CallFacts.{facts}

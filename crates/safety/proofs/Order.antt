@@ -3,17 +3,17 @@
 use Prim.Native.Nat.{ℕ, suc, _≤_}
 use mathlib.Core.Path.{_≡_, refl, sym, ap, _∙_, fun-ext}
 use mathlib.Core.Logic.{_≢_}
-use mathlib.Core.Bool.{Bool, true, false, cond}
+use mathlib.Core.Bool.{Bool, true, false, cond, _||_}
 use mathlib.Core.List.{List, [], _∷_, _++_}
 use native.Mathlib.Omega.{arith}
 use lib.Dec.{eqb}
 use lib.ListN.{length}
-use borrow.Author.Tests.{eqb-true}
-use Rattle.model.specs.WriteList.{Record, Group, stored}
+use borrow.Author.Tests.{eqb-true, eqb-false, eq-eqb, ne-eqb}
+use Rattle.model.specs.WriteList.{Record, Group, stored, over, apply, sectorWrite, hits}
 use Rattle.model.specs.Cut.{kept}
 use Rattle.laws.proofs.Disk.{same-view}
-use Rattle.safety.proofs.Apply.{over, apply, All, all-map, all-kept, InImage, length-stored, stored-view, Own}
-use Rattle.safety.proofs.Journal.{Rising}
+use Rattle.safety.proofs.Apply.{over-miss, All, all-map, all-miss, all-kept, InImage, length-stored, stored-view, Own}
+use Rattle.safety.proofs.Journal.{Rising, picked, write-path}
 
 -- the same records in another order
 pub data Reordered : Group → Group → Type 0 where
@@ -77,3 +77,18 @@ pub rising-own : (ws : Group) (a : ℕ) → Rising a ws → Own ws
 rising-own [] a h = tt
 rising-own (w ∷ ws) a h =
     (all-map (λ v. suc (w .sector) ≤ v .sector) (λ v. w .sector ≢ v .sector) (λ v l e. omega arith) ws (above ws (suc (w .sector)) (h .1)), rising-own ws (suc (w .sector)) (h .1))
+
+-- the record for sector t among them: there if they write it, with what they leave there
+pub picked-is : (ws : Group) (a t : ℕ) (x : List ℕ) → Rising a ws → picked ws t ≡ cond (hits ws t) (sectorWrite t (over ws t x) ∷ []) []
+unfolding picked hits over
+picked-is [] a t x r = refl
+picked-is (w ∷ ws) a t x r = go (eqb t (w .sector)) refl (picked-is ws (suc (w .sector)) t x (r .1))
+  where
+    go : (b : Bool) → eqb t (w .sector) ≡ b → picked ws t ≡ cond (hits ws t) (sectorWrite t (over ws t x) ∷ []) []
+        → cond (eqb (w .sector) t) (w ∷ []) (picked ws t) ≡ cond (b || hits ws t) (sectorWrite t (over ws t (cond b (w .contents) x)) ∷ []) []
+    go true e h =
+        let q : t ≡ w .sector = eqb-true t (w .sector) e in
+        let miss : hits ws t ≡ false = all-miss t ws (all-map (λ v. suc (w .sector) ≤ v .sector) (λ v. t ≢ v .sector) (λ v l z. omega arith) ws (above ws (suc (w .sector)) (r .1))) in
+        ap (λ (b : Bool). cond b (w ∷ []) (picked ws t)) (eq-eqb (w .sector) t (sym q))
+        ∙ ap (λ (v : Record). v ∷ []) (sym (write-path t (over ws t (w .contents)) w q (over-miss ws t (w .contents) miss)))
+    go false e h = ap (λ (b : Bool). cond b (w ∷ []) (picked ws t)) (ne-eqb (w .sector) t (λ z. eqb-false t (w .sector) e (sym z))) ∙ h

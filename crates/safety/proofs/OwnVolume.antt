@@ -25,11 +25,12 @@ use Rattle.model.specs.Format.{Format}
 use Rattle.model.specs.Opened.{Bounded}
 use Rattle.model.specs.Ledger.{Ledger, File, fileOr, holderOf, ownerFrom, catalogue, unheldExtent, unheldExtents, isFrozen, needsMore, noRoomFor, slotNamed, fileOf, firstLedger, withSlot}
 use Rattle.model.specs.Ledger.{slotsWithout, written, afterWrite, shrunk, zeroBytes, afterRename, Call, summary, check, find, list, read, create, delete, resize, write, rename, numberOf, step, answer}
-use Rattle.model.specs.Ledger.{Feed, whole, cutMarked, cutUnmarked, fed, ledgerFrom}
+use Rattle.model.specs.Ledger.{renameSet, namesOf, pairsOf, afterRenames, Feed, whole, cutMarked, cutUnmarked, fed, ledgerFrom}
 use Rattle.model.proofs.Areas.{reserve-small}
 use Rattle.laws.proofs.Search.{length-tabulate, tabulate-ext}
 use Rattle.laws.proofs.Count.{countBelow-split}
 use Rattle.laws.proofs.Staging.{free, free-more, free-rises, free-first, staging-at}
+use Rattle.laws.proofs.RenameSet.{Pairs}
 use Rattle.safety.specs.Room.{geometryOn, freeOn, NoRoom}
 use Rattle.safety.specs.OwnVolume.{heldOn, OwnVolume, FromOwnFormat}
 use Rattle.safety.specs.Neighbours.{Accepted, AllAccepted}
@@ -120,6 +121,18 @@ module _ (L : Ledger) (low : Low L) where
   low-without Nowhere = low
   low-without (At k) = low-slot m (L .slots) k none low (below-none m)
 
+  low-renamed : (old new : List ℕ) (time : ℕ) → Low (afterRename L old new time)
+  unfolding afterRename fileOf
+  low-renamed old new time =
+      let i = indexOf (slotNamed L old) in
+      low-if (equalBytes old new) L _ low (low-slot m (slotsWithout L (slotNamed L new)) i _ (low-without (slotNamed L new)) (low i))
+
+low-renames : (time : ℕ) (rs : Pairs) (L : Ledger) → Low L → Low (afterRenames L rs time)
+unfolding afterRenames
+low-renames time [] L low = low
+low-renames time (r ∷ rs) L low = low-renames time rs (afterRename L (r .0) (r .1) time) (low-renamed L low (r .0) (r .1) time)
+
+module _ (L : Ledger) (low : Low L) where
   low-done : (c : Call) → numberOf (answer c L) ≡ 0 → Low (step c L .done)
   unfolding step fileOf shrunk afterRename zeroBytes
   low-done summary e = low
@@ -127,9 +140,9 @@ module _ (L : Ledger) (low : Low L) where
   low-done (find name) e = low
   low-done (list k time room space) e = low-if (isFrozen L) L _ low low
   low-done (read name offset count time room space) e =
-      let i = indexOf (slotNamed L name) in low-if (isFrozen L) L _ low (low-slot m (L .slots) i _ low (low i))
-  low-done (create name id mode time room) e = low-slot m (L .slots) _ _ low (below-none m)
-  low-done (delete name time room) e = low-slot m (L .slots) _ none low (below-none m)
+      let i = indexOf (slotNamed L name) in low-if (isFrozen L) L _ low (low-slot (usable (L .geometry)) (L .slots) i _ low (low i))
+  low-done (create name id mode time room) e = low-slot (usable (L .geometry)) (L .slots) _ _ low (below-none (usable (L .geometry)))
+  low-done (delete name time room) e = low-slot (usable (L .geometry)) (L .slots) _ none low (below-none (usable (L .geometry)))
   low-done (resize name size time room) e =
       let i = indexOf (slotNamed L name) in
       let old = fileOr (L .slots i) .entry .size in
@@ -140,19 +153,18 @@ module _ (L : Ledger) (low : Low L) where
           (afterWrite L i old (zeroBytes (size - old)) time))
       go true q room =
           let i = indexOf (slotNamed L name) in
-          low-slot m (L .slots) i (some (shrunk L i size time)) low (below-take m (extentsFor (L .geometry) size) (fileOr (L .slots i) .extents) (low i))
+          low-slot (usable (L .geometry)) (L .slots) i (some (shrunk L i size time)) low (below-take (usable (L .geometry)) (extentsFor (L .geometry) size) (fileOr (L .slots i) .extents) (low i))
       go false q room =
           let i = indexOf (slotNamed L name) in
           let old = fileOr (L .slots i) .entry .size in
           let l : old ≤ size = ltb-false size old q in
           let n : length (zeroBytes (size - old)) ≡ size - old = length-tabulate {A = ℕ} (λ k. 0) 0 (size - old) in
           let z : max old (old + length (zeroBytes (size - old))) ≡ size = omega arith in
-          low-written i old (zeroBytes (size - old)) time (ap (noRoomFor L old) z ∙ room)
+          low-written L low i old (zeroBytes (size - old)) time (ap (noRoomFor L old) z ∙ room)
   low-done (write name offset bytes time room) e =
-      low-written (indexOf (slotNamed L name)) offset bytes time (done-passed (step (write name offset bytes time room) L) refl refl e .1 .1 .1 .1 .0)
-  low-done (rename old new time room) e =
-      let i = indexOf (slotNamed L old) in
-      low-if (equalBytes old new) L _ low (low-slot m (slotsWithout L (slotNamed L new)) i _ (low-without (slotNamed L new)) (low i))
+      low-written L low (indexOf (slotNamed L name)) offset bytes time (done-passed (step (write name offset bytes time room) L) refl refl e .1 .1 .1 .1 .0)
+  low-done (rename old new time room) e = low-renamed L low old new time
+  low-done (renameSet names lengths time room) e = low-renames time (pairsOf (namesOf names lengths)) L low
 
   low-cut : (c : Call) (mask : List Bool) → Low (step c L .cut mask)
   unfolding step fileOf
@@ -164,8 +176,9 @@ module _ (L : Ledger) (low : Low L) where
   low-cut (create name id mode time room) mask = low
   low-cut (delete name time room) mask = low
   low-cut (resize name size time room) mask = low
-  low-cut (write name offset bytes time room) mask = let i = indexOf (slotNamed L name) in low-slot m (L .slots) i _ low (low i)
+  low-cut (write name offset bytes time room) mask = let i = indexOf (slotNamed L name) in low-slot (usable (L .geometry)) (L .slots) i _ low (low i)
   low-cut (rename old new time room) mask = low
+  low-cut (renameSet names lengths time room) mask = low
 
   low-fed : (f : Feed) → Accepted f L → Low (fed f L)
   low-fed (whole c) a = go (eqb (numberOf (answer c L)) 0) refl

@@ -163,7 +163,7 @@ pub named-conditions : (L : Ledger) (name : List ℕ) → nameConditions (catalo
 unfolding nameConditions catalogue
 named-conditions L name = rw (name-is L name, named-is L name)
 
-verdict-is : (rs : Refusals) → verdictOf (verdicts rs) ≡ numbered (lowest rs)
+pub verdict-is : (rs : Refusals) → verdictOf (verdicts rs) ≡ numbered (lowest rs)
 unfolding verdictOf lowest
 verdict-is [] = refl
 verdict-is (r ∷ rs) = go (r .0) (verdict-is rs)

@@ -17,7 +17,7 @@ use Rattle.model.specs.Search.{tabulate, scan, anyBelow}
 use Rattle.model.specs.Geometry.{superblockAt, extentSectors, reserveExtents, journalAt, tableAt, dataAt, volumeSectors}
 use Rattle.model.specs.Disk.{Disk}
 use Rattle.model.specs.Catalogue.{Catalogue, catalogueOf, lacksReserve, stagingExtents}
-use Rattle.model.specs.WriteList.{barrierNumber, sectorsOf, Record, sectorWrite, barrier, Plan, Group, stageIn, staging, copies, journalOf, groupA}
+use Rattle.model.specs.WriteList.{barrierNumber, sectorsOf, Record, sectorWrite, barrier, Plan, Group, stageIn, staging, copies, journalOf, groupA, over, apply, hits}
 use Rattle.model.specs.Superblock.{journalLength, withJournalLength, stateOf, stateOn}
 use Rattle.model.specs.Journal.{sourceAt, targetAt, journalSectors, journalSector}
 use Rattle.model.specs.Recovery.{isData, isMetadata, goodEntry, replayedSector, replayed, badJournal, replayGroups, entryWrite, differs, copied}
@@ -26,7 +26,7 @@ use Rattle.laws.proofs.Areas.{metadata-below}
 use Rattle.laws.proofs.WriteList.{sector-at, stage-at}
 use Rattle.laws.proofs.Staging.{Rises, free, length-staging, staging-rises, InExtent, stage-inside, stage-extent, stage-in-data, stages-apart}
 use Rattle.laws.proofs.Search.{allBelow-yes, anyBelow-no, concatenated-ext}
-use Rattle.safety.proofs.Apply.{over, apply, hits, over-append, over-miss, over-skip, over-none, All, all-map, all-at}
+use Rattle.safety.proofs.Apply.{over-append, over-miss, over-skip, over-none, All, all-map, all-at}
 use Rattle.safety.proofs.Apply.{all-tab0, hits-append, all-miss, tabulate-miss, tabulate-at, placed-at, Own}
 use Rattle.safety.proofs.Journal.{packed-source, packed-target, Rising, rising-lt, picked, concatenated-picked, made, made-picked}
 use Rattle.safety.proofs.Superblock.{journalLength-with, with-with, state-waiting, Volume, volume-with, recovers-by, Recovers, slices-by, Slices}

@@ -1,7 +1,8 @@
 -- What is preserved where sectors are: the catalogue slot by slot, files' bytes, entry marks, and the whole invariant. So a plan
 -- without data sectors that was cut before its start mark changes nothing that is said. Assumes nothing.
-use Prim.Native.Nat.{ℕ, zero, suc, _+_, _-_, _/_, _%_, _≤_, _<_}
+use Prim.Native.Nat.{ℕ, zero, suc, _+_, _*_, _-_, _/_, _%_, _≤_, _<_}
 use mathlib.Core.Path.{_≡_, refl, sym, ap, ap₂, _∙_, fun-ext}
+use mathlib.Core.Logic.{_≢_}
 use mathlib.Core.Bool.{Bool, true, false, cond, not, _&&_, _||_}
 use mathlib.Core.List.{List, []}
 use mathlib.Core.Option.{Option, none, some, Option·some-injective, Option·none-ne-some}
@@ -14,7 +15,7 @@ use Rattle.model.specs.declared.Geometry.{Geometry}
 use Rattle.model.specs.Bytes.{numberIn}
 use Rattle.model.specs.Geometry.{superblockAt, extentSectors, mostTargets, reserveExtents, entryAt, journalAt, dataAt, extentsFor}
 use Rattle.model.specs.Disk.{Disk, view}
-use Rattle.model.specs.WriteList.{stored, Plan, Group}
+use Rattle.model.specs.WriteList.{stored, Plan, Group, over}
 use Rattle.model.specs.Superblock.{geometryIn}
 use Rattle.model.specs.Root.{rootIn}
 use Rattle.model.specs.Entry.{entryField, freeMark, Entry, entryIn, isOccupied}
@@ -24,7 +25,7 @@ use Rattle.model.specs.Faults.{fault21}
 use Rattle.model.specs.Ledger.{Ledger, File, entryOfFile, catalogue}
 use Rattle.laws.proofs.Search.{tabulate-ext}
 use Rattle.laws.proofs.Staging.{free, free-rises, staging-at, InExtent, one-extent}
-use Rattle.safety.proofs.Apply.{over, over-none, kept-nil, All}
+use Rattle.safety.proofs.Apply.{over-none, kept-nil, All}
 use Rattle.safety.proofs.Journal.{Rising}
 use Rattle.safety.proofs.Plan.{Metadata, Whole, Unstaged, WellFormed, A}
 use Rattle.safety.proofs.Commit.{Ready, partOf, ready-part}
@@ -177,14 +178,14 @@ pub marks-keep : (d d′ : Disk) (i : ℕ) → d′ (entryAt i) ≡ d (entryAt i
 unfolding fault21
 marks-keep d d′ i e = ap (λ (s : List ℕ). not (eqb (numberIn s (entryField .mark)) freeMark || isOccupied s)) e
 
--- THE FRAME: an image that shows the same sectors outside journal and staging extents says the same
-module _ (L : Ledger) (img img′ : List ℕ) (rep : Rep L img) (ready : Ready (L .geometry) img′)
-    (keeps : (j : ℕ) → Outside (L .geometry) (catalogueOf (view img)) j → view img′ j ≡ view img j) where
+-- THE FRAME: a ready image that shows the same sectors outside journal and staging extents, which catalogue c says are free, says the same
+module _ (L : Ledger) (img img′ : List ℕ) (rep : Rep L img) (ready : Ready (L .geometry) img′) (c : Catalogue) (frees : FreeIn c L)
+    (keeps : (j : ℕ) → Outside (L .geometry) c j → j ≢ 0 → view img′ j ≡ view img j) where
   abbrev g : Geometry
   g = L .geometry
 
-  same-zero : view img′ superblockAt ≡ view img 0
-  same-zero = keeps 0 (out-front g 0 (omega arith))
+  front : (j : ℕ) → j < journalAt g → Outside g c j
+  front = out-front g {c = c}
 
   same-cat : catalogueOf (view img′) ≡ catalogueOf (view img)
   unfolding catalogueOf
@@ -192,10 +193,10 @@ module _ (L : Ledger) (img img′ : List ℕ) (rep : Rep L img) (ready : Ready (
       let eg : geometryIn (view img superblockAt) ≡ g = rep .ready .volume .geometry in
       let eg′ : geometryIn (view img′ superblockAt) ≡ g = ready .volume .geometry in
       λ i. record {
-        geometry = ap geometryIn same-zero i;
-        root = ap₂ (λ (x : Geometry) (s : List ℕ). rootIn (x .edition) s) (ap geometryIn same-zero) (keeps 1 (out-front g 1 (omega arith))) i;
-        entries = fun-ext (λ k. entries-keep g (view img) (view img′) eg eg′ k (λ l. keeps (entryAt k) (out-front g (entryAt k) (omega arith)))) i;
-        table = fun-ext (λ e. table-keep g (view img) (view img′) eg eg′ e (λ l. keeps (tableSectorOf g e) (out-table g e l))) i;
+        geometry = (eg′ ∙ sym eg) i;
+        root = ap₂ (λ (x : Geometry) (s : List ℕ). rootIn (x .edition) s) (eg′ ∙ sym eg) (keeps 1 (front 1 (omega arith)) (λ e. omega arith)) i;
+        entries = fun-ext (λ k. entries-keep g (view img) (view img′) eg eg′ k (λ l. keeps (entryAt k) (front (entryAt k) (omega arith)) (λ e. omega arith))) i;
+        table = fun-ext (λ e. table-keep g (view img) (view img′) eg eg′ e (λ l. keeps (tableSectorOf g e) (out-table g e l) (λ z. omega arith))) i;
       }
 
   pub rep-keep : Rep L img′
@@ -205,26 +206,27 @@ module _ (L : Ledger) (img img′ : List ℕ) (rep : Rep L img) (ready : Ready (
     faultless = rep .faultless;
     disjoint = rep .disjoint;
     sized = rep .sized;
-    says = says-of L img′ ready (ap (rootIn (g .edition)) (keeps 1 (out-front g 1 (omega arith))) ∙ rep .says .root)
-        (λ i l. marks-keep (view img) (view img′) i (keeps (entryAt i) (out-front g (entryAt i) (omega arith))) ∙ no-mark-fault L img (rep .says) i l)
+    says = says-of L img′ ready (ap (rootIn (g .edition)) (keeps 1 (front 1 (omega arith)) (λ e. omega arith)) ∙ rep .says .root)
+        (λ i l. marks-keep (view img) (view img′) i (keeps (entryAt i) (front (entryAt i) (omega arith)) (λ e. omega arith)) ∙ no-mark-fault L img (rep .says) i l)
         (λ i. ap (λ (c : Catalogue). c .entries i) same-cat ∙ rep .says .directory i)
         (λ e. ap (λ (c : Catalogue). c .table e) same-cat ∙ rep .says .table e)
         (λ i f e.
         ap (λ (c : Catalogue). fileBytes c (view img′) i 0 (f .entry .size)) (same-cat ∙ cat-is L img rep)
         ∙ bytes-keep-at (catalogue L) (view img) (view img′) i 0 (f .entry .size) (λ b l. rw zero-add
-        (bytes-keep L img img′ rep (catalogueOf (view img)) (free-said L img rep) (λ j p q. keeps j (out-data g j p q)) i f e b l))
+        (bytes-keep L img img′ rep c frees (λ j p q. keeps j (out-data g j p q) (λ z. omega arith)) i f e b l))
         ∙ ap (λ (c : Catalogue). fileBytes c (view img) i 0 (f .entry .size)) (sym (cat-is L img rep)) ∙ rep .says .bytes i f e);
   }
 
--- a plan without data sectors, where the reserve is there
-pub targets-fit : (L : Ledger) (img : List ℕ) → Rep L img → lacksReserve (catalogue L) ≡ false → (ts : Group) → 0 < length ts → length ts ≤ mostTargets (L .geometry)
+-- a plan without data sectors, where the reserve is there and has a sector for each target
+pub plan-fits : (L : Ledger) (img : List ℕ) → Rep L img → lacksReserve (catalogue L) ≡ false → (ts : Group) → 0 < length ts
+    → length ts ≤ reserveExtents (L .geometry) * extentSectors (L .geometry) → length ts ≤ 1024
     → All (Metadata (L .geometry)) ts → Rising 0 ts → All Whole ts → WellFormed (L .geometry) (view img) (record { dataSectors = []; targets = ts })
-targets-fit L img rep there ts nonempty most metadata rising whole = record {
+plan-fits L img rep there ts nonempty few journalled metadata rising whole = record {
   geometry = disk-geometry L img rep;
   there = ap lacksReserve (cat-is L img rep) ∙ there;
   nonempty = nonempty;
-  few = copies-fit (L .geometry) (rep .bounded) (length ts) most;
-  journalled = count-waits (L .geometry) (rep .bounded) (length ts) most;
+  few = few;
+  journalled = journalled;
   metadata = metadata;
   rising = rising;
   inData = tt;
@@ -234,6 +236,12 @@ targets-fit L img rep there ts nonempty most metadata rising whole = record {
   wholeData = tt;
   wholeTargets = whole;
 }
+
+-- so has it for the most that a call has
+pub targets-fit : (L : Ledger) (img : List ℕ) → Rep L img → lacksReserve (catalogue L) ≡ false → (ts : Group) → 0 < length ts → length ts ≤ mostTargets (L .geometry)
+    → All (Metadata (L .geometry)) ts → Rising 0 ts → All Whole ts → WellFormed (L .geometry) (view img) (record { dataSectors = []; targets = ts })
+targets-fit L img rep there ts nonempty most =
+    plan-fits L img rep there ts nonempty (copies-fit (L .geometry) (rep .bounded) (length ts) most) (count-waits (L .geometry) (rep .bounded) (length ts) most)
 
 -- so a plan without data sectors that was cut before its start mark changes nothing that is said
 over-nil : (k : ℕ) (m : List Bool) (j : ℕ) (x : List ℕ) → over (partOf k m []) j x ≡ x
@@ -245,4 +253,5 @@ pub part-keeps : (L : Ledger) (img : List ℕ) (p : Plan) → Rep L img → Well
 part-keeps L img p rep ok e k m =
     let s = rep-geometry L img rep in
     rep-keep L img (stored (partOf k m (A (L .geometry) (view img) p)) img) rep (ready-part (L .geometry) img p s ok (rep .ready) k m)
-    (λ j o. part-at (L .geometry) img p s ok (rep .ready) k m j o ∙ ap (λ (f : Group). over (partOf k m f) j (view img j)) e ∙ over-nil k m j (view img j))
+    (catalogueOf (view img)) (free-said L img rep)
+    (λ j o ne. part-at (L .geometry) img p s ok (rep .ready) k m j o ∙ ap (λ (f : Group). over (partOf k m f) j (view img j)) e ∙ over-nil k m j (view img j))

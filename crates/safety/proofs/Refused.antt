@@ -24,6 +24,7 @@ use Rattle.model.specs.Delete.{deleteDecision, deleteAnswer, deleteList}
 use Rattle.model.specs.Resize.{resizeDecision, resizeAnswer, resizeList}
 use Rattle.model.specs.Write.{writeDecision, writeAnswer, writeList}
 use Rattle.model.specs.Rename.{renameDecision, renameAnswer, renameList}
+use Rattle.model.specs.RenameSet.{renameSetDecision, renameSetAnswer, renameSetList}
 use Rattle.laws.proofs.Bytes.{put-nil}
 use Rattle.laws.proofs.WriteList.{emit-nil}
 use Rattle.safety.specs.Refused.{notChanged, RefusedWith}
@@ -49,7 +50,7 @@ module _ (img : List ℕ) (ne : checkAnswer (length img) (view img) .verdict .nu
   no = ne-eqb _ 0 ne
 
   -- a changing call decides nothing
-  decides : (cs : Conditions) (plan : Option Plan) (room : ℕ) → decided (length img) (view img) cs plan room ≡ record { verdict = judged (length img) (view img); plan = none }
+  pub decides : (cs : Conditions) (plan : Option Plan) (room : ℕ) → decided (length img) (view img) cs plan room ≡ record { verdict = judged (length img) (view img); plan = none }
   unfolding decided
   decides cs plan room =
       let later = andThen (verdictOf cs) (verdictOf (planConditions d plan room)) in
@@ -92,7 +93,7 @@ module _ (img : List ℕ) (ne : checkAnswer (length img) (view img) .verdict .nu
   -- EVERY CALL ANSWERS WHAT CHECK DOES
   pub refused-alike : RefusedWith (checkAnswer (length img) (view img) .verdict) img
   unfolding checkAnswer createAnswer createList createDecision deleteAnswer deleteList deleteDecision resizeAnswer resizeList resizeDecision writeAnswer writeList
-      writeDecision renameAnswer renameList renameDecision
+      writeDecision renameAnswer renameList renameDecision renameSetAnswer renameSetList renameSetDecision
   refused-alike = record {
     check = refl;
     find = refuses-find;
@@ -103,4 +104,5 @@ module _ (img : List ℕ) (ne : checkAnswer (length img) (view img) .verdict .nu
     resize = λ name size time list. refuses-change _ list (decides _ _ (length list));
     write = λ name offset bytes time list. refuses-change _ list (decides _ _ (length list));
     rename = λ old new time list. refuses-change _ list (decides _ _ (length list));
+    renameSet = λ names lengths time list. refuses-change _ list (decides _ _ (length list));
   }

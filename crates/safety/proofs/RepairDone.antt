@@ -26,7 +26,7 @@ use Rattle.model.specs.Root.{rootIn}
 use Rattle.model.specs.Table.{freeFile, tableSectorOf, tableFile, tableOffset}
 use Rattle.model.specs.Catalogue.{Catalogue, Owner, catalogueOf, isFree, lacksReserve, stagingExtents}
 use Rattle.model.specs.Refusals.{isDone, refusal, imageVerdict, stateNumber}
-use Rattle.model.specs.WriteList.{Plan, Group, stored, groupsFor, groupsOf, closed, listLength, isPlanned, planConditions}
+use Rattle.model.specs.WriteList.{Plan, Group, stored, groupsFor, groupsOf, closed, listLength, isPlanned, planConditions, over}
 use Rattle.model.specs.Cut.{Cut, landed, startMark}
 use Rattle.model.specs.Opened.{Bounded}
 use Rattle.model.specs.Repair.{isStray, holdsStray, repaired, repairedSector, repairPlan, repairPlanned, repairVerdict, repairDecision, repairAnswer, notRepaired}
@@ -39,7 +39,7 @@ use Rattle.laws.proofs.Seeking.{anyBelow-first}
 use Rattle.laws.proofs.Staging.{free, InExtent, one-extent}
 use Rattle.safety.specs.Repairing.{OfBytes, Repairs, repairedImage}
 use Rattle.safety.proofs.Searches.{place-found}
-use Rattle.safety.proofs.Apply.{over-append, over, over-none, over-miss, kept-nil, length-stored}
+use Rattle.safety.proofs.Apply.{over-append, over-none, over-miss, kept-nil, length-stored}
 use Rattle.safety.proofs.Plan.{UsableGeometry, WellFormed, stagesOn, A}
 use Rattle.safety.proofs.Commit.{Ready, uncut, partOf, ready-part, ready-uncut, stored-none, RecoveredTo, commit}
 use Rattle.safety.proofs.Frame.{Outside, part-at, done-shows}

@@ -21,13 +21,13 @@ use Rattle.model.specs.Geometry.{superblockAt, journalAt, dataAt, volumeSectors
 use Rattle.model.specs.Disk.{Disk}
 use Rattle.model.specs.Superblock.{stateOn}
 use Rattle.model.specs.Journal.{sourceAt, targetAt}
-use Rattle.model.specs.WriteList.{Record, Group, recordSize, superblockGroup, sectorWrite, closed, listLength}
+use Rattle.model.specs.WriteList.{Record, Group, recordSize, superblockGroup, sectorWrite, closed, listLength, over, hits}
 use Rattle.model.specs.Recovery.{isData, isMetadata, goodEntry, replayedSector, replayed}
 use Rattle.laws.proofs.Booleans.{and-left, and-right, or-left}
 use Rattle.laws.proofs.Search.{allBelow-yes, anyBelow-no, anyBelow-ext, first-ext, first-none, none-at, concatenated-ext}
 use Rattle.laws.proofs.Seeking.{first-there, anyBelow-first}
 use Rattle.safety.proofs.Searches.{place-found, not-yes}
-use Rattle.safety.proofs.Apply.{over, hits, over-append, over-here, over-miss, over-none, All, all-concatenated, all-map, all-miss}
+use Rattle.safety.proofs.Apply.{over-append, over-here, over-miss, over-none, All, all-concatenated, all-map, all-miss}
 use Rattle.safety.proofs.Superblock.{Volume, Recovers, recovers-by}
 use Rattle.laws.proofs.Areas.{metadata-below}
 use Rattle.safety.proofs.Plan.{metadata-no}

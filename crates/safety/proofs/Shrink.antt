@@ -20,13 +20,13 @@ use Rattle.model.specs.Root.{rootIn}
 use Rattle.model.specs.Entry.{updatedEntrySector}
 use Rattle.model.specs.Catalogue.{Catalogue, Owner, catalogueOf, lacksReserve, isPart, ownedFrom, extentOf, sectorOf, fileByte, fileBytes, sectorsFrom}
 use Rattle.model.specs.Faults.{exact}
-use Rattle.model.specs.WriteList.{Plan, Record, Group, sectorWrite, stored, groupsFor, listLength, recordSize, recordCount}
+use Rattle.model.specs.WriteList.{Plan, Record, Group, sectorWrite, stored, groupsFor, listLength, recordSize, recordCount, over}
 use Rattle.model.specs.Resize.{shrinkPlan}
 use Rattle.model.specs.Ledger.{Ledger, File, fileOr, catalogue, withFile, shrunk, updatedEntry}
 use Rattle.laws.proofs.Disk.{length-view}
 use Rattle.laws.proofs.Booleans.{and-left, and-yes}
 use Rattle.laws.proofs.Search.{allBelow-yes, allBelow-at, tabulate-ext, countBelow-ext}
-use Rattle.safety.proofs.Apply.{over, over-here, over-skip, over-none, All}
+use Rattle.safety.proofs.Apply.{over-here, over-skip, over-none, All}
 use Rattle.safety.proofs.Plan.{UsableGeometry, WellFormed, A, metadata-directory}
 use Rattle.safety.proofs.Commit.{Ready, partOf, uncut, ready-uncut}
 use Rattle.laws.proofs.WriteList.{plan-needs}

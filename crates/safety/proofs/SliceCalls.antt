@@ -20,7 +20,7 @@ use Rattle.model.specs.Disk.{Disk, view}
 use Rattle.model.specs.Superblock.{stateOn, stateOf, journalLength, withJournalLength}
 use Rattle.model.specs.Journal.{sourceAt, targetAt}
 use Rattle.model.specs.Refusals.{verdictOf, isDone, imageVerdict, stateNumber}
-use Rattle.model.specs.WriteList.{Record, Group, recordSize, superblockGroup, sectorWrite, stored, closed}
+use Rattle.model.specs.WriteList.{Record, Group, recordSize, superblockGroup, sectorWrite, stored, closed, over, apply, hits}
 use Rattle.model.specs.Recovery.{goodEntry, replayed, badJournal, entryWrite, differs, isCopied, copiedEntry, copied, slicedWrites}
 use Rattle.model.specs.Recovery.{sliceVerdict, sliceListed, sliceAnswer}
 use Rattle.laws.proofs.Booleans.{and-left}
@@ -32,7 +32,7 @@ use Rattle.safety.specs.Room.{geometryOn}
 use Rattle.safety.specs.AnyJournal.{recoveryNumber}
 use Rattle.safety.specs.SliceCalls.{slicedImage, sliceAt, reported, differing, Finishes, roundedUp, SliceCalls}
 use Rattle.safety.proofs.Searches.{same-refl, not-no}
-use Rattle.safety.proofs.Apply.{over, apply, hits, over-append, over-here, over-miss, over-none, apply-miss, All, all-concatenated, all-miss, InImage, stored-view, stored-closed}
+use Rattle.safety.proofs.Apply.{over-append, over-here, over-miss, over-none, apply-miss, All, all-concatenated, all-miss, InImage, stored-view, stored-closed}
 use Rattle.safety.proofs.Superblock.{journalLength-with, state-clean, Volume, Slices, slices-by, slice-done}
 use Rattle.safety.proofs.Landing.{Begun, part}
 use Rattle.safety.proofs.Changing.{earlier-done, later-done}

@@ -10,14 +10,14 @@ use lib.Dec.{leb, ltb}
 use lib.ListN.{length, getD}
 use borrow.Author.Tests.{leb-true, ltb-true}
 use Rattle.model.specs.Bytes.{bytesFrom, put}
-use Rattle.model.specs.WriteList.{Record, Group}
+use Rattle.model.specs.WriteList.{Record, Group, over, hits}
 use Rattle.model.specs.Write.{spliced, splicedFrom}
 use Rattle.model.specs.Cut.{kept, dataBy}
 use Rattle.model.specs.Search.{tabulate}
 use Rattle.laws.proofs.Booleans.{and-left, and-right, range-yes}
 use Rattle.laws.proofs.Bytes.{length-bytesFrom, length-put, getD-bytesFrom, getD-put-same, getD-put-other}
 use Rattle.laws.proofs.Search.{length-tabulate, getD-tabulate}
-use Rattle.safety.proofs.Apply.{over, hits, over-here, over-skip, over-none, over-miss, kept-miss, all-miss, all-at, All, Own, own-tabulate}
+use Rattle.safety.proofs.Apply.{over-here, over-skip, over-none, over-miss, kept-miss, all-miss, all-at, All, Own, own-tabulate}
 use Rattle.safety.proofs.Commit.{partOf}
 
 -- bytes from `from` to `to` of a file, put into the sector that starts at base

@@ -17,13 +17,12 @@ use Rattle.model.specs.Disk.{view}
 use Rattle.model.specs.Root.{rootIn}
 use Rattle.model.specs.Table.{tableSectorOf}
 use Rattle.model.specs.Catalogue.{catalogueOf, lacksReserve, isPart, entryOf, sectorOf, fileByte, fileBytes}
-use Rattle.model.specs.WriteList.{Plan, Group, stored}
+use Rattle.model.specs.WriteList.{Plan, Group, stored, over}
 use Rattle.model.specs.Write.{fileSectorAt, dataSector, touchedSectors, writePlan}
 use Rattle.model.specs.Cut.{dataBy}
 use Rattle.model.specs.Ledger.{Ledger, File, catalogue, withFile, partlyWritten}
 use Rattle.laws.proofs.Booleans.{and-left, and-right}
 use Rattle.laws.proofs.Search.{length-tabulate, getD-tab0}
-use Rattle.safety.proofs.Apply.{over}
 use Rattle.safety.proofs.Plan.{UsableGeometry, A}
 use Rattle.safety.proofs.Commit.{Ready, partOf, ready-part}
 use Rattle.safety.proofs.Frame.{Outside, part-at}

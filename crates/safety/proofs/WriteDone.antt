@@ -20,14 +20,14 @@ use Rattle.model.specs.Root.{rootIn}
 use Rattle.model.specs.Entry.{updatedEntrySector}
 use Rattle.model.specs.Table.{tableSectorOf, takenIn}
 use Rattle.model.specs.Catalogue.{catalogueOf, lacksReserve, isPart, entryOf, sectorOf, fileByte, fileBytes}
-use Rattle.model.specs.WriteList.{Plan, Record, Group, sectorWrite}
+use Rattle.model.specs.WriteList.{Plan, Record, Group, sectorWrite, over}
 use Rattle.model.specs.Write.{heldExtents, fileSectorAt, dataSector, touchedSectors, writePlan}
 use Rattle.model.specs.Ledger.{Ledger, File, catalogue, withFile, updatedEntry, written}
 use Rattle.laws.proofs.Booleans.{range-yes}
 use Rattle.laws.proofs.Bytes.{length-put, length-bytesFrom, getD-put, getD-bytesFrom}
 use Rattle.laws.proofs.Search.{length-tabulate, getD-tab0}
 use Rattle.laws.proofs.Disk.{length-view}
-use Rattle.safety.proofs.Apply.{over, over-append, over-here, over-skip, over-miss, All}
+use Rattle.safety.proofs.Apply.{over-append, over-here, over-skip, over-miss, All}
 use Rattle.safety.proofs.Journal.{Rising}
 use Rattle.safety.proofs.Plan.{UsableGeometry, WellFormed, Unstaged, Metadata, Whole, metadata-directory, metadata-table}
 use Rattle.safety.proofs.Commit.{Ready, uncut, ready-uncut}

@@ -15,7 +15,7 @@ use Rattle.model.specs.Search.{tabulate, indexOf}
 use Rattle.model.specs.Geometry.{extentSectors, extentAt, extentsFor, dataAt}
 use Rattle.model.specs.Disk.{view}
 use Rattle.model.specs.Catalogue.{Catalogue, catalogueOf, lacksReserve, stagingExtents, isPart, ownedFrom, extentOf, sectorOf, fileByte, fileBytes}
-use Rattle.model.specs.WriteList.{Group}
+use Rattle.model.specs.WriteList.{Group, over, hits}
 use Rattle.model.specs.Write.{heldExtents, fileSectorAt, dataSector, touchedSectors, spliced}
 use Rattle.model.specs.Cut.{dataBy}
 use Rattle.model.specs.Ledger.{Ledger, File, catalogue}
@@ -23,7 +23,7 @@ use Rattle.laws.proofs.Booleans.{and-false, range-no}
 use Rattle.laws.proofs.Search.{first-ext, getD-tab0}
 use Rattle.laws.proofs.Disk.{length-view}
 use Rattle.laws.proofs.Staging.{InExtent, one-extent, lowest-below}
-use Rattle.safety.proofs.Apply.{over, hits, All, all-tabulate, all-miss, Own, own-tabulate}
+use Rattle.safety.proofs.Apply.{All, all-tabulate, all-miss, Own, own-tabulate}
 use Rattle.safety.proofs.Plan.{DataSector, Unstaged, Whole}
 use Rattle.safety.proofs.Commit.{partOf}
 use Rattle.safety.proofs.Rep.{Rep, cat-is}

@@ -9,7 +9,7 @@ use mathlib.Core.Option.{Option, none, some}
 use Rattle.model.specs.Disk.{view}
 use Rattle.model.specs.Root.{Root}
 use Rattle.model.specs.Catalogue.{catalogueOf, lacksReserve}
-use Rattle.model.specs.Ledger.{Call, summary, check, find, list, read, create, delete, resize, write, rename, Feed, callOf, accessedEntry, accessedRoot}
+use Rattle.model.specs.Ledger.{Call, summary, check, find, list, read, create, delete, resize, write, rename, renameSet, Feed, callOf, accessedEntry, accessedRoot}
 use Rattle.safety.specs.Naming.{Contents, fileOn}
 use Rattle.safety.specs.Saving.{SameFiles}
 
@@ -53,6 +53,7 @@ asks (delete name time room) = false
 asks (resize name size time room) = false
 asks (write name offset bytes time room) = false
 asks (rename old new time room) = false
+asks (renameSet names lengths time room) = false
 
 abbrev pub OnlyAsk : List Feed → Type 0
 OnlyAsk [] = Unit {0}

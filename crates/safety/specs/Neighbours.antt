@@ -14,13 +14,14 @@ use Rattle.model.specs.Search.{equalBytes}
 use Rattle.model.specs.Geometry.{FileNumber}
 use Rattle.model.specs.Root.{Root}
 use Rattle.model.specs.Format.{Format}
-use Rattle.model.specs.Ledger.{Ledger, File, firstLedger, Call, summary, check, find, list, read, create, delete, resize, write, rename, Answer, numberOf, newEntry, updatedEntry}
-use Rattle.model.specs.Ledger.{answer, Feed, whole, cutMarked, cutUnmarked, ledgerFrom, answersFrom}
+use Rattle.model.specs.Ledger.{Ledger, File, firstLedger, Call, summary, check, find, list, read, create, delete, resize, write, rename, renameSet, Answer}
+use Rattle.model.specs.Ledger.{numberOf, newEntry, updatedEntry, namesOf, pairsOf, answer, Feed, whole, cutMarked, cutUnmarked, ledgerFrom, answersFrom}
 use Rattle.model.specs.Run.{arguments}
 use Rattle.safety.specs.Described.{SoundAs}
 use Rattle.safety.specs.Naming.{NotAmong, Contents, fileIn, OneName}
-use Rattle.safety.specs.Saving.{renamedContents, OnlyOf}
+use Rattle.safety.specs.Saving.{OnlyOf}
 use Rattle.safety.specs.Accessing.{accessedContents}
+use Rattle.safety.specs.RenameSet.{Files, renamedFiles, filesAfterRenames}
 
 -- ---- what the ledger was fed before
 
@@ -41,7 +42,7 @@ abbrev pub wholes : List Call → List Feed
 wholes [] = []
 wholes (c ∷ cs) = whole c ∷ wholes cs
 
--- the names that they take, of a rename both. Find changes no file: it has none to share
+-- the names that they take, of a rename both, of a set of renames all. Find changes no file: it has none to share
 abbrev pub namesIn : List Call → List (List ℕ)
 namesIn [] = []
 namesIn (c ∷ cs) = arguments c .files ++ namesIn cs
@@ -113,9 +114,6 @@ pub record Orderly (L : Ledger) : Type 0 where
 
 -- ---- what a call that is accepted makes of the files by name
 
-abbrev pub Files : Type 0
-Files = List ℕ → Option Contents
-
 -- all as they were, but for one name
 abbrev pub withNamed : Files → List ℕ → Option Contents → Files
 withNamed files m o n = cond (equalBytes m n) o (files n)
@@ -134,10 +132,6 @@ writtenContents offset bytes time x =
     let size = max (x .entry .size) (offset + length bytes) in
     record { entry = updatedEntry size time (x .entry); bytes = put (bytesFrom (x .bytes) 0 size) offset bytes }
 
--- "gives an entry a new name"; "If the new name exists, that file is deleted"; "A name renamed to itself" changes nothing
-abbrev pub renameFiles : List ℕ → List ℕ → ℕ → Files → Files
-renameFiles old new time files = cond (equalBytes old new) files (withNamed (withNamed files old none) new (Option·map (renamedContents new time) (files old)))
-
 -- T-12: on a frozen ledger "the access time stays"
 abbrev pub filesAfter : Bool → Call → Files → Files
 filesAfter frozen summary files = files
@@ -149,4 +143,5 @@ filesAfter frozen (create name id mode time room) files = withNamed files name (
 filesAfter frozen (delete name time room) files = withNamed files name none
 filesAfter frozen (resize name size time room) files = withChanged files name (resizedContents size time)
 filesAfter frozen (write name offset bytes time room) files = cond (eqb (length bytes) 0) files (withChanged files name (writtenContents offset bytes time))
-filesAfter frozen (rename old new time room) files = renameFiles old new time files
+filesAfter frozen (rename old new time room) files = renamedFiles old new time files
+filesAfter frozen (renameSet names lengths time room) files = filesAfterRenames (pairsOf (namesOf names lengths)) time files

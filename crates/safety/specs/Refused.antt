@@ -15,6 +15,7 @@ use Rattle.model.specs.Delete.{deleteAnswer, deleteList}
 use Rattle.model.specs.Resize.{resizeAnswer, resizeList}
 use Rattle.model.specs.Write.{writeAnswer, writeList}
 use Rattle.model.specs.Rename.{renameAnswer, renameList}
+use Rattle.model.specs.RenameSet.{renameSetAnswer, renameSetList}
 
 abbrev pub notChanged : Verdict → Changed
 notChanged v = record { verdict = v; length = 0 }
@@ -44,3 +45,6 @@ pub record RefusedWith (v : Verdict) (img : List ℕ) : Type 0 where
   pub rename : (old new : List ℕ) (time : ℕ) (list : List ℕ)
       → (renameAnswer (length img) (view img) old new time (length list) ≡ notChanged v)
       × (renameList (length img) (view img) old new time list ≡ list)
+  pub renameSet : (names lengths : List ℕ) (time : ℕ) (list : List ℕ)
+      → (renameSetAnswer (length img) (view img) names lengths time (length list) ≡ notChanged v)
+      × (renameSetList (length img) (view img) names lengths time list ≡ list)

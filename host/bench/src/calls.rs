@@ -65,6 +65,7 @@ fn sample(table: &mut CallTable) {
     table.delete("delete, 2 extents", input, &image, name);
     table.rename("rename, to a new name", input, &image, name, b"new");
     table.rename("rename, onto 2 extents", input, &image, b"empty", name);
+    table.rename_set("rename_set, of eight", input, &image, name);
     let mut leaked = image.clone();
     mark_entry(&mut leaked, 0, 0);
     table.repair("repair, 2 extents", input, &leaked);
@@ -144,6 +145,7 @@ fn almost_full(table: &mut CallTable) {
     table.rename("rename, to a new name", input, &image, &name, b"new");
     let before = images::short_name(images::largest().files() - 3);
     table.rename("rename, onto the last entry", input, &image, &before, &name);
+    table.rename_set("rename_set, of eight", input, &image, &name);
 }
 
 fn one_file(table: &mut CallTable) {
@@ -341,6 +343,22 @@ impl CallTable<'_> {
             &mut self.list,
             |list| goofs::rename(black_box(image), old, new, 2, list).length,
             |list| oracle::rename(black_box(image), old, new, 2, list).length,
+        );
+        self.row_of_list(call, input, &compared);
+    }
+
+    /// A file to a name of its own, then to a second, and so on: eight renames of one set.
+    fn rename_set(&mut self, call: &str, input: &str, image: &[u8], name: &[u8]) {
+        let mut names = vec![name.to_vec()];
+        names.extend((1..=8u8).map(|k| vec![b's', b'0' + k]));
+        let pairs = Vec::from_iter(names.windows(2).flatten());
+        let lengths = Vec::from_iter(pairs.iter().map(|name| name.len() as u64));
+        let names = Vec::from_iter(pairs.into_iter().flatten().copied());
+        let compared = self.comparisons.filling(
+            call,
+            &mut self.list,
+            |list| goofs::rename_set(black_box(image), &names, &lengths, 2, list).length,
+            |list| oracle::rename_set(black_box(image), &names, &lengths, 2, list).length,
         );
         self.row_of_list(call, input, &compared);
     }

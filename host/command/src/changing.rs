@@ -8,7 +8,7 @@ use std::os::unix::ffi::OsStrExt;
 use std::path::Path;
 use std::time::{SystemTime, UNIX_EPOCH};
 
-use goofs::change::{Change, Format};
+use goofs::change::{Change, Format, Rename, MOST_RENAMES};
 use goofs::device::{Device, Disk, SECTOR};
 use goofs::error::{Error, Refusal};
 use goofs::image::{Edition, Image, State};
@@ -20,7 +20,7 @@ use goofs::volume::{self, Stage, Volume};
 use crate::arguments::Arguments;
 use crate::card;
 use crate::failure::{
-    not_beside, of_card, of_file, of_names, of_opening, of_rename, of_several, or_frozen, quoted,
+    not_beside, of_card, of_file, of_names, of_opening, of_renames, of_several, or_frozen, quoted,
     Detail, Failure,
 };
 use crate::logging;
@@ -422,34 +422,80 @@ fn of_removals<'r>(card: &'r OsStr, names: &'r [OsString]) -> impl Fn(Error) -> 
     }
 }
 
+/// The renames of a mv, old and new name of each.
+pub fn renames(names: &[OsString]) -> Result<Vec<Rename<'_>>, Failure> {
+    if let [.., old] = names {
+        if !names.len().is_multiple_of(2) {
+            let old = text::word(old.as_bytes());
+            return Err(Failure::Usage(format!(
+                "NEW is missing: there is no name for {old} to get"
+            )));
+        }
+    }
+    let renames = names
+        .chunks_exact(2)
+        .map(|pair| (pair[0].as_bytes(), pair[1].as_bytes()));
+    let renames = Vec::from_iter(renames);
+    if renames.len() > MOST_RENAMES {
+        return Err(Failure::Usage(format!(
+            "one change has up to {MOST_RENAMES} renames, and there are {}; give those that belong together in \
+             one command, and the others in another",
+            renames.len()
+        )));
+    }
+    for (_, new) in &renames {
+        not_beside(new, "take another NEW")?;
+    }
+    Ok(renames)
+}
+
+/// The change that does one or more renames.
+pub fn rename_change<'c>(renames: &'c [Rename<'c>], time: u64) -> Change<'c> {
+    match *renames {
+        [(old, new)] => Change::Rename { old, new, time },
+        _ => Change::RenameSet { renames, time },
+    }
+}
+
 pub fn mv(arguments: &Arguments) -> Result<(), Failure> {
-    let places = arguments.places(&["CARD", "OLD", "NEW"])?;
+    let places = arguments.places_or_more(&["CARD", "OLD", "NEW"])?;
     let time = time(arguments)?;
-    let (card, old, new) = (&places[0], places[1].as_bytes(), places[2].as_bytes());
-    not_beside(new, "take another NEW")?;
+    let (card, renames) = (&places[0], renames(&places[1..])?);
     let mut volume = logging::volume(arguments, card)?;
     let image = volume.image().map_err(of_card(card))?;
-    let (edition, space) = (edition_for(card, image, time)?, Space::of(image));
-    let replaced = image.find(new);
-    let other = of_rename(card, old, new, edition);
-    apply(&mut volume, &[Change::Rename { old, new, time }])
-        .map_err(or_frozen(card, space, other))?;
-    match replaced {
-        Ok(_) if old == new => print_done(
-            card,
-            &format!("nothing to do: {} has this name\n", text::word(old)),
-        ),
-        Ok(file) => print_done(
-            card,
-            &format!(
-                "replaced: the old {}, of {} bytes and with id {}, is gone\n",
-                text::word(new),
-                file.size,
-                file.id
-            ),
-        ),
-        Err(_) => Ok(()),
+    edition_for(card, image, time)?;
+    let space = Space::of(image);
+    let change = rename_change(&renames, time);
+    // What is refused is told by the names as they are before.
+    let judged = image.list_of(&change);
+    judged.map_err(or_frozen(
+        card,
+        space,
+        of_renames(card, image, &renames, time),
+    ))?;
+    let before = image.entries().map_err(of_card(card))?;
+    apply(&mut volume, &[change]).map_err(of_card(card))?;
+    if renames.iter().all(|(old, new)| old == new) {
+        let what = match renames[..] {
+            [(old, _)] => format!("nothing to do: {} has this name\n", text::word(old)),
+            _ => "nothing to do: each of these files has its name\n".to_string(),
+        };
+        return print_done(card, &what);
     }
+    let after = volume.image().and_then(|image| Ok(image.entries()?));
+    let after = after.map_err(of_card(card))?;
+    let gone = before
+        .iter()
+        .filter(|old| after.iter().all(|file| file.id != old.id));
+    let gone = gone.map(|old| {
+        format!(
+            "replaced: the old {}, of {} bytes and with id {}, is gone\n",
+            text::word(&old.name),
+            old.size,
+            old.id
+        )
+    });
+    print_done(card, &String::from_iter(gone))
 }
 
 pub fn recover(arguments: &Arguments) -> Result<(), Failure> {

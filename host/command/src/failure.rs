@@ -5,8 +5,9 @@ use std::fmt;
 use std::io::{self, ErrorKind};
 use std::os::unix::ffi::OsStrExt;
 
+use goofs::change::Rename;
 use goofs::error::{Error, Fault, FaultKind, Refusal};
-use goofs::image::{Edition, Summary};
+use goofs::image::{Edition, Image, Summary};
 use goofs::names;
 
 use crate::card::is_device_name;
@@ -214,6 +215,73 @@ pub fn of_rename<'c, E: Into<Error>>(
     }
 }
 
+/// Makes failures of renames in one change, and says which of them is refused.
+pub fn of_renames<'c, E: Into<Error>>(
+    card: &'c OsStr,
+    image: &'c Image,
+    renames: &'c [Rename<'c>],
+    time: u64,
+) -> impl Fn(E) -> Failure + 'c {
+    move |error| match (error.into(), renames) {
+        (error, [(old, new)]) => of_rename(card, old, new, image.summary().edition)(error),
+        (error @ Error::Refused(Refusal::NoRoom), _) => of_large_set(card, error),
+        (error, _) => match image.refused_rename(renames, time) {
+            Some(place) if matches!(error, Error::Refused(_)) => {
+                of_one_rename(card, image, renames, place, error)
+            }
+            _ => of_card(card)(error),
+        },
+    }
+}
+
+/// The failure of one of several renames. Those before it count as done.
+fn of_one_rename(
+    card: &OsStr,
+    image: &Image,
+    renames: &[Rename],
+    place: usize,
+    error: Error,
+) -> Failure {
+    let (old, new) = renames[place];
+    let is_taken_away =
+        matches!(error, Error::Refused(Refusal::NotThere)) && image.find(old).is_ok();
+    let mut failure = of_rename(card, old, new, image.summary().edition)(error);
+    if let Failure::Card { detail, .. } = &mut failure {
+        let mut what = format!(
+            "rename {} of {}, {} to {}",
+            place + 1,
+            renames.len(),
+            word(old),
+            word(new)
+        );
+        let mut next = None;
+        if let Some(detail) = detail.take() {
+            what = format!("{what}: {}", detail.what);
+            next = detail.next;
+        }
+        if is_taken_away {
+            what += "; the renames before it count as done, and take this name away";
+            next =
+                Some("see that each OLD is the name that its file has at that point".to_string());
+        }
+        *detail = Some(Detail { what, next });
+    }
+    failure
+}
+
+/// The failure of renames that change more sectors than the extents that must stay free have.
+pub fn of_large_set(card: &OsStr, error: Error) -> Failure {
+    Failure::Card {
+        card: card.to_owned(),
+        error,
+        detail: Some(Detail::with_next(
+            "the renames together change more sectors than the extents that must stay free hold copies of"
+                .to_string(),
+            "rename fewer files at once, or remove a file that is to be replaced first",
+        )),
+    }
+}
+
 /// How the files of a frozen volume get to another one. A larger card is needed: of an equal one some
 /// extents must stay free, too.
 pub fn to_a_larger_card(card: &str, old: Summary) -> String {
@@ -292,21 +360,21 @@ pub fn in_place_instead(is_given: bool) -> String {
     )
 }
 
-/// Makes the failure of a save for which there is no room, or no entry, beside the old file.
+/// Makes the failure of a save for which there is no room, or no entry, beside the old file. `instead` is
+/// how less is needed.
 pub fn no_room_for_both(
     card: &OsStr,
     space: Space,
     refusal: Refusal,
     what: String,
-    is_given: bool,
+    instead: &str,
 ) -> Failure {
     if let (Refusal::NoRoom, Some(old)) = (refusal, space.frozen) {
         return frozen(card, old);
     }
     let next = format!(
-        "remove a file that is not needed (goofs rm {} NAME) and give the command again; or {}",
-        quoted(card),
-        in_place_instead(is_given)
+        "remove a file that is not needed (goofs rm {} NAME) and give the command again; or {instead}",
+        quoted(card)
     );
     Failure::Card {
         card: card.to_owned(),

@@ -17,7 +17,7 @@ goofs - files on a volume that survives a cut of the power
   goofs put CARD FILE... [--as NAME]  copy files to the card
   goofs write CARD NAME OFFSET FILE   write into a file
   goofs rm CARD NAME...               remove files
-  goofs mv CARD OLD NEW               give a file another name
+  goofs mv CARD OLD NEW [OLD NEW...]  give files other names, in one change
   goofs resize CARD NAME SIZE         give a file another size
   goofs recover CARD [--budget N]     finish a change that was cut
   goofs repair CARD [--yes]           free extents that belong to no file
@@ -145,7 +145,8 @@ bytes then is cut: each part but the last has %+ behind it and is a folder for t
 ";
 
 pub const PUT: &str = "\
-goofs put CARD FILE... [--as NAME] [--id ID] [--mode M] [--time T] [--in-place] [--log LOG]
+goofs put CARD FILE... [--as NAME] [--id ID] [--mode M] [--time T] [--in-place | --together]
+          [--log LOG]
 
 Copies files to the card, each under the last part of its own name. A file of that name on the card is
 replaced. A name has 1 to 476 letters, digits and signs of ASCII, without space and slash; on a volume
@@ -155,6 +156,7 @@ of edition 2 it has 1 to 468.
   --mode M    the mode of new files, octal; else that of the file that is replaced, or 644
   --time T    the time of the change, in seconds since 1970, on edition 1 up to 4294967295; else now
   --in-place  write over a file that is there, which keeps its id and mode
+  --together  for up to 8 FILEs that belong together: all change over in one change
   --log LOG   append each call to this file before its first write, for goofs audit
 
 A file is written beside the old one, as NAME.goofs-saving, and when it is whole it takes the name, in
@@ -162,6 +164,11 @@ one change with the end of the old file. So after a cut of the power and `goofs 
 old file or the new one, each whole, and a new file is there whole or not at all. The file that a cut
 leaves beside is told by ls and check, and removed by the next put of NAME. So no other file may get a
 name that ends like that.
+
+With --together all FILEs are written beside first, and then all take their names in one change, with
+the end of all old files. So after a cut of the power and `goofs recover` every NAME is the old file or
+every NAME is the new one: a box that loads them never finds a part of each. Until then all old and all
+new files need room. More than 8 FILEs are refused: one change has no more renames.
 
 Until the old file is gone, both need room. Where there is not so much, put says so. With --in-place
 the changes are made to the old file, one after the other: pieces of at most 65536 bytes are written,
@@ -202,13 +209,18 @@ Ctrl-C is pressed, in the middle, it says which files are removed and which are 
 ";
 
 pub const MV: &str = "\
-goofs mv CARD OLD NEW [--time T] [--log LOG]
+goofs mv CARD OLD NEW [OLD NEW...] [--time T] [--log LOG]
 
 Gives the file OLD the name NEW, in one change. A file that has the name NEW already is replaced: it is
 removed with the same change, which is told. After a cut of the power and `goofs recover` both files
 are as before, or only the one is there, as NEW. It keeps its size, id and mode.
   --time T    the time of the change, in seconds since 1970, on edition 1 up to 4294967295; else now
   --log LOG   append each call to this file before its first write, for goofs audit
+
+Up to 8 renames are one change: after a cut all of them are done, or none. They are done in order, and
+each finds the names as those before it leave them. So two files change names through a third one that
+no file has: goofs mv CARD a t b a t b. Without it they don't: goofs mv CARD a b b a replaces b by a, and
+gives that its name back. If one of them is refused, it says which, and nothing is changed.
 
 NEW has 1 to 476 letters, digits and signs of ASCII, without space and slash; on a volume of edition 2
 it has 1 to 468. OLD may be a name with other bytes, from a volume of before this rule, as ls prints
@@ -304,9 +316,10 @@ refused.
 
 pub const TRIAL: &str = "\
 goofs trial CARD put FILE [--as NAME] [--in-place]
+goofs trial CARD put FILE... --together
 goofs trial CARD create NAME
 goofs trial CARD rm NAME
-goofs trial CARD mv OLD NEW
+goofs trial CARD mv OLD NEW [OLD NEW...]
 goofs trial CARD resize NAME SIZE
 goofs trial CARD write NAME OFFSET FILE
 goofs trial CARD get NAME

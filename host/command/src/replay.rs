@@ -141,6 +141,15 @@ pub fn request(line: &Line) -> Option<Request> {
         },
         Line::Delete { name, time } => Request::Delete { name, time },
         Line::Rename { old, new, time } => Request::Rename { old, new, time },
+        Line::RenameSet { renames, time } => {
+            let names = renames.into_iter().flat_map(|(old, new)| [old, new]);
+            let names = Vec::from_iter(names);
+            Request::RenameSet {
+                lengths: names.iter().map(|name| name.len() as u64).collect(),
+                names: names.concat(),
+                time,
+            }
+        }
         Line::Resize { name, size, time } => Request::Resize { name, size, time },
         Line::Write {
             name,
@@ -181,6 +190,11 @@ fn words(line: &Line) -> String {
         Line::Create { name, .. } => format!("create {}", word(name)),
         Line::Delete { name, .. } => format!("delete {}", word(name)),
         Line::Rename { old, new, .. } => format!("rename {} to {}", word(old), word(new)),
+        Line::RenameSet { renames, .. } => {
+            let pairs = renames.iter();
+            let pairs = pairs.map(|(old, new)| format!("{} to {}", word(old), word(new)));
+            format!("rename {}", Vec::from_iter(pairs).join(", "))
+        }
         Line::Resize { name, size, .. } => format!("resize {} to {size}", word(name)),
         Line::Write {
             name, offset, data, ..

@@ -13,16 +13,15 @@ use goofs::image::Image;
 
 use crate::arguments::Arguments;
 use crate::card;
-use crate::changing::{edition_for, time, NewFile};
-use crate::failure::{
-    not_beside, of_call, of_card, of_file, of_new, of_rename, or_frozen, quoted, Failure,
-};
+use crate::changing::{edition_for, rename_change, renames, time, NewFile};
+use crate::failure::{of_call, of_card, of_file, of_new, of_renames, or_frozen, quoted, Failure};
 use crate::output::{print, save_image};
 use crate::progress::Progress;
 use crate::space::Space;
 use crate::text;
 use crate::writing::{
-    look_up, of_put, one_write, put_changes, read_all, resize_changes, size, Source,
+    look_up, of_put, one_write, put_changes, put_renames, read_all, resize_changes, size, How,
+    Source,
 };
 
 /// Groups of up to this many writes are cut in every way.
@@ -47,16 +46,28 @@ pub fn run(arguments: &Arguments) -> Result<(), Failure> {
             )))
         }
     };
-    let places = arguments.places(&[&["CARD", "CHANGE"], names].concat())?;
+    let names = [&["CARD", "CHANGE"], names].concat();
+    let together = arguments.flag("together");
+    let places = match arguments.places_or_more(&names)?[1].as_bytes() {
+        b"mv" => arguments.places_or_more(&names)?,
+        b"put" if together => arguments.places_or_more(&names)?,
+        _ => arguments.places(&names)?,
+    };
     let (new_file, time) = (NewFile::options(arguments)?, time(arguments)?);
     let seed = arguments.number("seed", 10, u64::MAX)?.unwrap_or(1);
     let leave = arguments.word("leave");
     let (card, kind, rest) = (&places[0], places[1].as_bytes(), &places[2..]);
-    let in_place = arguments.flag("in-place");
-    if kind != b"put" && (in_place || arguments.word("as").is_some()) {
+    let how = How::options(arguments, rest.len())?;
+    if kind != b"put" && (how != How::Beside || arguments.word("as").is_some()) {
         return Err(Failure::Usage(
-            "--as and --in-place are for put".to_string(),
+            "--as, --in-place and --together are for put".to_string(),
         ));
+    }
+    if let (Some(id), b"put", 2..) = (new_file.id, kind, rest.len()) {
+        return Err(Failure::Usage(format!(
+            "--id {id} is for one file, and there are {} FILEs",
+            rest.len()
+        )));
     }
     // A trial may be long, so this is found out before it.
     if let Some(file) = leave.filter(|file| fs::symlink_metadata(file).is_ok()) {
@@ -70,7 +81,7 @@ pub fn run(arguments: &Arguments) -> Result<(), Failure> {
         _ => Vec::new(),
     };
     let (puts, space) = (
-        look_up(card, &image, &sources, &new_file, in_place, time)?,
+        look_up(card, &image, &sources, &new_file, how, time)?,
         Space::of(&image),
     );
     let contents = match kind {
@@ -81,22 +92,18 @@ pub fn run(arguments: &Arguments) -> Result<(), Failure> {
         [source] => source.name,
         _ => rest.first().map_or(&b""[..], |name| name.as_bytes()),
     };
+    let renames = match kind {
+        b"mv" => renames(rest)?,
+        _ => put_renames(&puts),
+    };
     let changes = match kind {
         b"create" => {
             let create = new_file.change(&image, name, time);
             vec![create.map_err(of_card(card))?]
         }
         b"rm" => vec![Change::Delete { name, time }],
-        b"mv" => {
-            let new = rest[1].as_bytes();
-            not_beside(new, "take another NEW")?;
-            vec![Change::Rename {
-                old: name,
-                new,
-                time,
-            }]
-        }
-        b"put" => put_changes(card, space, &puts, &contents)?,
+        b"mv" => vec![rename_change(&renames, time)],
+        b"put" => put_changes(card, space, &puts, &contents, &renames)?,
         b"resize" => resize_changes(card, &image, name, size(&rest[1])?, time)?,
         b"get" => vec![Change::Touch { name, time }],
         b"ls" => {
@@ -113,16 +120,15 @@ pub fn run(arguments: &Arguments) -> Result<(), Failure> {
     };
     // A refusal of any change comes before the first line of the table.
     let mut tried = Progress::new("changes tried", changes.len() as u64);
+    let outcome = image.try_out(&changes, &mut |count| tried.at(count as u64));
     let refused = |error: Error| match kind {
         b"create" => of_new(card, name, edition, new_file.id, "take another NAME")(error),
-        b"mv" => of_rename(card, name, rest[1].as_bytes(), edition)(error),
+        b"mv" => of_renames(card, &image, &renames, time)(error),
         b"put" => of_put(card, space, &puts)(error),
         b"ls" => of_card(card)(error),
         _ => of_call(card, name, edition)(error),
     };
-    image
-        .try_out(&changes, &mut |count| tried.at(count as u64))
-        .map_err(or_frozen(card, space, refused))?;
+    outcome.map_err(or_frozen(card, space, refused))?;
     drop(tried);
 
     let mut draw = Draw(seed);
@@ -207,6 +213,11 @@ fn words(change: &Change) -> String {
         Change::Create { name, .. } => format!("create {}", text::word(name)),
         Change::Delete { name, .. } => format!("rm {}", text::word(name)),
         Change::Rename { old, new, .. } => format!("mv {} {}", text::word(old), text::word(new)),
+        Change::RenameSet { renames, .. } => {
+            let names = renames.iter().flat_map(|(old, new)| [*old, *new]);
+            let names = names.map(text::word);
+            format!("mv {}", Vec::from_iter(names).join(" "))
+        }
         Change::Resize { name, size, .. } => format!("resize {} {size}", text::word(name)),
         Change::Write { name, offset, .. } => format!("write {} at {offset}", text::word(name)),
         Change::Touch { name, .. } => format!("get {}", text::word(name)),

@@ -6,17 +6,17 @@ use std::io::{self, ErrorKind, Read};
 use std::os::unix::ffi::OsStrExt;
 use std::path::Path;
 
-use goofs::change::Change;
+use goofs::change::{Change, Rename, MOST_RENAMES};
 use goofs::error::{Error, Refusal};
 use goofs::image::{Entry, Image, LONGEST_TRANSFER};
-use goofs::save::Save;
+use goofs::save::{changes_together, Save};
 
 use crate::arguments::{self, Arguments};
 use crate::card;
 use crate::changing::{apply, edition_for, time, NewFile};
 use crate::failure::{
-    in_place_instead, no_room, no_room_for_both, not_beside, of_call, of_card, of_file, of_new,
-    or_frozen, quoted, Failure,
+    in_place_instead, no_room, no_room_for_both, not_beside, of_call, of_card, of_file,
+    of_large_set, of_new, or_frozen, quoted, Failure,
 };
 use crate::logging;
 use crate::progress::Progress;
@@ -128,12 +128,41 @@ pub fn one_write(file: &OsStr) -> Result<Vec<u8>, Failure> {
     Ok(contents.unwrap_or_else(|| vec![0; LONGEST_TRANSFER + 1]))
 }
 
+/// How files are put.
+#[derive(Clone, Copy, PartialEq, Eq)]
+pub enum How {
+    /// Each beside, and then it takes its name.
+    Beside,
+    /// All beside, and then all take their names in one change.
+    Together,
+    /// An old file is written over.
+    InPlace,
+}
+
+impl How {
+    pub fn options(arguments: &Arguments, files: usize) -> Result<How, Failure> {
+        let usage = |text: String| Err(Failure::Usage(text));
+        match (arguments.flag("together"), arguments.flag("in-place")) {
+            (true, true) => usage(
+                "--together saves the files beside the old ones, and --in-place writes over them; give one of the two"
+                    .to_string(),
+            ),
+            (true, false) if files > MOST_RENAMES => usage(format!(
+                "--together takes up to {MOST_RENAMES} FILEs, as many as one change gives their names, and there \
+                 are {files}; put those that belong together in sets of up to {MOST_RENAMES}, or leave --together out"
+            )),
+            (true, false) => Ok(How::Together),
+            (false, true) => Ok(How::InPlace),
+            (false, false) => Ok(How::Beside),
+        }
+    }
+}
+
 /// A file to be put.
 pub struct Put<'p> {
     source: &'p Source<'p>,
     save: Save<'p>,
-    /// Whether an old file is written over.
-    in_place: bool,
+    how: How,
     /// Whether the new file's id or mode is given.
     is_given: bool,
 }
@@ -144,9 +173,10 @@ pub fn look_up<'p>(
     image: &Image,
     sources: &'p [Source],
     new_file: &NewFile,
-    in_place: bool,
+    how: How,
     time: u64,
 ) -> Result<Vec<Put<'p>>, Failure> {
+    let in_place = how == How::InPlace;
     let edition = edition_for(card, image, time)?;
     let another = match sources {
         [_] => "give another with --as NAME",
@@ -182,7 +212,7 @@ pub fn look_up<'p>(
         puts.push(Put {
             source,
             save,
-            in_place,
+            how,
             is_given,
         });
     }
@@ -191,7 +221,7 @@ pub fn look_up<'p>(
 
 /// Reads the files, none further than there is room for it after those before it.
 pub fn read_all(card: &OsStr, space: Space, puts: &[Put]) -> Result<Vec<Vec<u8>>, Failure> {
-    let mut left = space;
+    let mut left = before_all(space, puts);
     let contents = puts.iter().map(|put| {
         let bytes = put.source.read(put.most(left))?;
         let size = bytes.as_ref().map(|bytes| bytes.len() as u64);
@@ -201,23 +231,49 @@ pub fn read_all(card: &OsStr, space: Space, puts: &[Put]) -> Result<Vec<Vec<u8>>
     contents.collect()
 }
 
-/// The changes of all files, one file after the other.
+/// The renames with which files that are put together take their names.
+pub fn put_renames<'c>(puts: &'c [Put]) -> Vec<Rename<'c>> {
+    puts.iter().map(|put| put.save.rename()).collect()
+}
+
+/// The changes of all files, one file after the other, or those of files that are put together, which
+/// `renames` ends.
 pub fn put_changes<'c>(
     card: &OsStr,
     space: Space,
     puts: &'c [Put],
     contents: &'c [Vec<u8>],
+    renames: &'c [Rename<'c>],
 ) -> Result<Vec<Change<'c>>, Failure> {
-    let mut left = space;
+    let mut left = before_all(space, puts);
     let mut changes = Vec::new();
     for (put, contents) in puts.iter().zip(contents) {
         left = put.after(card, space, left, Some(contents.len() as u64))?;
-        changes.extend(match put.in_place {
-            true => put.save.changes_in_place(contents),
-            false => put.save.changes(contents),
+        changes.extend(match put.how {
+            How::InPlace => put.save.changes_in_place(contents),
+            How::Beside => put.save.changes(contents),
+            How::Together => Vec::new(),
         });
     }
+    if let [Put {
+        how: How::Together,
+        save,
+        ..
+    }, ..] = puts
+    {
+        let saves = puts
+            .iter()
+            .zip(contents)
+            .map(|(put, bytes)| (&put.save, &bytes[..]));
+        changes = changes_together(saves, renames, save.time);
+    }
     Ok(changes)
+}
+
+/// The room before the first file. Of files that are put together, all that cuts have left goes first.
+fn before_all(space: Space, puts: &[Put]) -> Space {
+    let together = puts.iter().filter(|put| put.how == How::Together);
+    together.fold(space, |left, put| left.without(size_of(&put.save.leftover)))
 }
 
 /// Makes failures of the changes of a put.
@@ -231,8 +287,15 @@ pub fn of_put<'p>(
         Error::Refused(refusal @ Refusal::DirectoryFull)
             if puts.iter().all(|put| put.save.old.is_some()) =>
         {
-            let is_given = puts.iter().any(|put| put.is_given);
-            no_room_for_both(card, space, refusal, "each new file".to_string(), is_given)
+            let instead = puts.iter().find(|put| put.is_given).or(puts.first());
+            let instead = instead.map(Put::instead).unwrap_or_default();
+            no_room_for_both(card, space, refusal, "each new file".to_string(), &instead)
+        }
+        // The room was looked at before: it is the number of sectors.
+        Error::Refused(Refusal::NoRoom)
+            if space.frozen.is_none() && puts.iter().any(|put| put.how == How::Together) =>
+        {
+            of_large_set(card, error)
         }
         error => or_frozen(card, space, of_card(card))(error),
     }
@@ -277,13 +340,34 @@ fn size_of(entry: &Option<Entry>) -> u64 {
 }
 
 impl Put<'_> {
-    /// The most bytes that the file may have, in place of an old one.
-    fn most(&self, left: Space) -> u64 {
-        left.without(size_of(&self.save.leftover))
-            .most(size_of(&self.save.old))
+    /// What is free before this file, when what a cut has left beside it is gone. Of files that are put
+    /// together that is counted before the first.
+    fn before(&self, left: Space) -> Space {
+        match self.how {
+            How::Together => left,
+            How::Beside | How::InPlace => left.without(size_of(&self.save.leftover)),
+        }
     }
 
-    /// The room after the put of a file of this size, or of one that is longer than can be.
+    /// The most bytes that the file may have, in place of an old one.
+    fn most(&self, left: Space) -> u64 {
+        self.before(left).most(size_of(&self.save.old))
+    }
+
+    /// How less room is needed.
+    fn instead(&self) -> String {
+        match self.how {
+            How::Together => {
+                "leave --together out: then one file is saved after the other, each takes its name at once, and \
+                 a cut of the power can leave some of the old files and some of the new ones"
+                    .to_string()
+            }
+            How::Beside | How::InPlace => in_place_instead(self.is_given),
+        }
+    }
+
+    /// The room after the put of a file of this size, or of one that is longer than can be. Files that are put
+    /// together leave the old ones until the last is there.
     fn after(
         &self,
         card: &OsStr,
@@ -292,21 +376,26 @@ impl Put<'_> {
         size: Option<u64>,
     ) -> Result<Space, Failure> {
         let name = self.source.name;
-        let left = left.without(size_of(&self.save.leftover));
+        let left = self.before(left);
         let old_size = size_of(&self.save.old);
         let in_place = size.and_then(|size| left.after(old_size, size));
-        let after = in_place.ok_or_else(|| no_room(card, name, space))?;
-        // Beside, the old file goes when the new one is there.
-        match self.in_place || left.after(0, size.unwrap_or(0)).is_some() {
-            true => Ok(after),
-            false => Err(no_room_for_both(
+        let in_place = in_place.ok_or_else(|| no_room(card, name, space))?;
+        let beside = left.after(0, size.unwrap_or(0));
+        let after = match self.how {
+            How::InPlace => Some(in_place),
+            // The old file goes when the new one is there.
+            How::Beside => beside.map(|_| in_place),
+            How::Together => beside,
+        };
+        after.ok_or_else(|| {
+            no_room_for_both(
                 card,
                 space,
                 Refusal::NoRoom,
                 format!("{}: {space}; the new file", text::word(name)),
-                self.is_given,
-            )),
-        }
+                &self.instead(),
+            )
+        })
     }
 }
 
@@ -314,7 +403,7 @@ pub fn put(arguments: &Arguments) -> Result<(), Failure> {
     let places = arguments.places_or_more(&["CARD", "FILE"])?;
     let (new_file, time) = (NewFile::options(arguments)?, time(arguments)?);
     let (card, files) = (&places[0], &places[1..]);
-    let in_place = arguments.flag("in-place");
+    let how = How::options(arguments, files.len())?;
     if let (Some(id), 2..) = (new_file.id, files.len()) {
         return Err(Failure::Usage(format!(
             "--id {id} is for one file, and there are {} FILEs",
@@ -326,7 +415,7 @@ pub fn put(arguments: &Arguments) -> Result<(), Failure> {
     // may come from this card.
     let image = card::read(card, arguments.wait()?)?;
     let (puts, space) = (
-        look_up(card, &image, &sources, &new_file, in_place, time)?,
+        look_up(card, &image, &sources, &new_file, how, time)?,
         Space::of(&image),
     );
     drop(image);
@@ -334,9 +423,10 @@ pub fn put(arguments: &Arguments) -> Result<(), Failure> {
 
     let mut volume = logging::volume(arguments, card)?;
     let image = volume.image().map_err(of_card(card))?;
-    let puts = look_up(card, image, &sources, &new_file, in_place, time)?;
+    let puts = look_up(card, image, &sources, &new_file, how, time)?;
     let space = Space::of(image);
-    let changes = put_changes(card, space, &puts, &contents)?;
+    let renames = put_renames(&puts);
+    let changes = put_changes(card, space, &puts, &contents, &renames)?;
     apply(&mut volume, &changes).map_err(of_put(card, space, &puts))
 }
 

@@ -133,11 +133,26 @@ fn every_command_logs() {
         "get",
         &["--all", all.to_str().unwrap(), "--touch", "--time", "1014"],
     );
+    sample.good("mv", &["a", "t", "f", "a", "t", "f", "--time", "1015"]);
+    let set = ["f", "h"].map(|name| sample.folder.write(name, &[5; 20]));
+    let set = set.each_ref().map(|file| file.to_str().unwrap());
+    sample.good(
+        "put",
+        &[&set[..], &["--together", "--time", "1016"]].concat(),
+    );
     sample.good("recover", &[]);
     sample.good("repair", &[]);
     let log = fs::read_to_string(&sample.log).unwrap();
     for call in [
-        "format", "create", "write", "rename", "resize", "read", "list", "delete",
+        "format",
+        "create",
+        "write",
+        "rename",
+        "rename_set",
+        "resize",
+        "read",
+        "list",
+        "delete",
     ] {
         assert!(log.contains(&format!("\ngoofs {call} ")), "{call}");
     }
@@ -148,6 +163,13 @@ fn every_command_logs() {
         ("write name=b offset=100 time=1011 ", 1),
         ("write name=b offset=65636 time=1011 ", 1),
         ("time=1014 ", 3),
+        // Of several renames one, and of files that are put together one with all of their names.
+        ("time=1015 ", 1),
+        ("rename_set old=a new=t old=f new=a old=t new=f ", 1),
+        (
+            "rename_set old=f.goofs-saving new=f old=h.goofs-saving new=h ",
+            1,
+        ),
     ] {
         let found = log.lines().filter(|line| line.contains(call)).count();
         assert_eq!(found, count, "{call}");
@@ -157,7 +179,12 @@ fn every_command_logs() {
     let all = format!("as the log says, with all of its {calls} calls done\n");
     assert!(said.ends_with(&all), "{said}");
     // A refused command, and one that has nothing to do, leave the log as it is.
-    for (command, rest) in [("rm", &["x"][..]), ("mv", &["a", "a"]), ("recover", &[])] {
+    for (command, rest) in [
+        ("rm", &["x"][..]),
+        ("mv", &["a", "a"]),
+        ("mv", &["a", "y", "x", "a"]),
+        ("recover", &[]),
+    ] {
         let log = sample.log.to_str().unwrap();
         on(command, &sample.card, &[rest, &["--log", log]].concat());
     }
@@ -258,6 +285,13 @@ fn calls_half_done() {
         ("rm", &["b"], "delete b"),
         ("mv", &["a", "b"], "rename a to b"),
         ("mv", &["a", "c"], "rename a to c"),
+        (
+            "mv",
+            &["a", "t", "b", "a", "t", "b"],
+            "rename a to t, b to a, t to b",
+        ),
+        ("mv", &["a", "c", "b", "a"], "rename a to c, b to a"),
+        ("mv", &["a", "b", "b", "a"], "rename a to b, b to a"),
         ("resize", &["b", "1"], "resize b to 1"),
         ("resize", &["a", "66236"], "resize a to 66236"),
     ] {

@@ -127,7 +127,7 @@ impl Run {
             let words = [&["put", file.to_str().unwrap()], rest, &["--time", &time]].concat();
             self.with_log(&words)
         };
-        match size % 12 {
+        match size % 14 {
             0 | 1 => put(size % 3_000, &[]),
             2 => put(size, &[]),
             3 | 4 => put(size, &["--in-place"]),
@@ -149,6 +149,21 @@ impl Run {
                 let piece = self.folder.write("piece", &piece);
                 self.with_log(&["write", &old, "0", piece.to_str().unwrap(), "--time", &time])
             }
+            12 => {
+                let files = NAMES[1..].iter().map(|name| {
+                    let length = self.draw.below(3_000);
+                    let contents = self.draw.bytes(length as usize);
+                    self.folder.write(name, &contents)
+                });
+                let files = Vec::from_iter(files);
+                let files = files.iter().map(|file| file.to_str().unwrap());
+                let words = Vec::from_iter(["put"].into_iter().chain(files));
+                self.with_log(&[&words[..], &["--together", "--time", &time]].concat())
+            }
+            13 if is_there && old != name && there.iter().any(|there| there == name) => self
+                .with_log(&[
+                    "mv", &old, "third", name, &old, "third", name, "--time", &time,
+                ]),
             _ => put(size % 3_000, &["--in-place"]),
         }
     }

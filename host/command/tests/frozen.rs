@@ -97,6 +97,7 @@ fn what_is_refused() {
         ("rm", &["a"]),
         ("mv", &["ab", "other"]),
         ("mv", &["a", "ab"]),
+        ("mv", &["ab", "other", "a", "ab"]),
         ("resize", &["ab", "0"]),
         ("resize", &["cab", "599"]),
         ("resize", &["cab", "601"]),
@@ -109,8 +110,12 @@ fn what_is_refused() {
         ("put", &[&new, "--as", "cab", "--in-place"]),
         ("put", &[&large, "--as", "cab", "--in-place"]),
         ("put", &[&new, &empty]),
+        ("put", &[&new, &cab, "--together"]),
+        ("put", &[&empty, "--together"]),
         ("trial", &["rm", "ab"]),
         ("trial", &["mv", "ab", "other"]),
+        ("trial", &["mv", "ab", "other", "a", "ab"]),
+        ("trial", &["put", &empty, &cab, "--together"]),
         ("trial", &["create", "other"]),
         ("trial", &["put", &cab]),
         ("trial", &["resize", "cab", "1"]),
@@ -131,6 +136,7 @@ fn what_is_refused() {
     for (number, command, rest) in [
         (9, "rm", &["none"][..]),
         (9, "mv", &["none", "other"]),
+        (9, "mv", &["ab", "other", "none", "ab"]),
         (8, "mv", &["ab", "a b"]),
         (8, "put", &[&new, "--as", "a b"]),
         (10, "put", &[&new, "--id", "900"]),
@@ -139,6 +145,7 @@ fn what_is_refused() {
         assert!(err.contains(&format!("refused ({number})")), "{err}");
     }
     good("mv", &card, &["ab", "ab"]);
+    good("mv", &card, &["ab", "ab", "a", "a"]);
     good("resize", &card, &["cab", "600"]);
     assert!(good("repair", &card, &[]).starts_with("nothing to do"));
     assert!(good("recover", &card, &[]).starts_with("nothing to do"));

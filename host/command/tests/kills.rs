@@ -1,6 +1,7 @@
 //! The command killed at random moments: a thousand times within puts, of a new file and over an old
-//! one, small and of 1 MiB, and some times within the other changes. After each kill and a recovery the
-//! oracle must find every file as the rules say; of a put that is the old file or the new one, whole.
+//! one, small and of 1 MiB, and of three together, and some times within the other changes. After each kill
+//! and a recovery the oracle must find every file as the rules say; of a put that is the old file or the new
+//! one, whole, and of three together all old or all new ones.
 //! What is done is drawn from a seed, which is printed and can be given again with KILL_SEED; the
 //! moments of the kills depend on the machine as well.
 
@@ -21,7 +22,7 @@ use oracle::{FormatRequest, Ledger, Lent, Request};
 use shared::{good, start, Folder};
 
 /// Of each kind, in the order of `KINDS`; a thousand are of puts.
-const KILLS: [u64; 5] = [400, 400, 100, 100, 60];
+const KILLS: [u64; 6] = [350, 350, 100, 100, 100, 60];
 /// They are shared out among so many cards, as most of the time is spent at barriers.
 const CARDS: u64 = 8;
 const SIGKILL: i32 = 9;
@@ -41,7 +42,9 @@ enum Kind {
         is_new: bool,
         is_large: bool,
     },
-    /// Rm, mv, resize, a put in place, and a get that sets the access time.
+    /// Three files that change over together.
+    Together,
+    /// Rm, mv, of several names too, resize, a put in place, and a get that sets the access time.
     Other,
 }
 
@@ -49,21 +52,21 @@ const fn put(is_new: bool, is_large: bool) -> Kind {
     Kind::Put { is_new, is_large }
 }
 
-const KINDS: [Kind; 5] = [
+const KINDS: [Kind; 6] = [
     put(true, false),
     put(false, false),
     put(true, true),
     put(false, true),
+    Kind::Together,
     Kind::Other,
 ];
 
 /// A command, and the calls that it comes to by its help.
 struct Work {
-    name: &'static str,
     words: Vec<String>,
     calls: Vec<Request>,
-    /// What a put saves.
-    contents: Option<Vec<u8>>,
+    /// What a put saves, and under which name.
+    saved: Vec<(&'static str, Vec<u8>)>,
 }
 
 struct Run {
@@ -144,6 +147,7 @@ impl Run {
                 }
                 self.save(name, size)
             }
+            Kind::Together => self.save_together(),
             Kind::Other => {
                 let name = *self.draw.pick(&SMALL);
                 if self.file(name).is_none() {
@@ -153,9 +157,10 @@ impl Run {
                     self.time += 1;
                 }
                 let size = self.draw.below(2 * PIECE + 1);
-                match self.draw.below(5) {
+                match self.draw.below(6) {
                     0 => rm(name, self.time),
                     1 => self.mv(name),
+                    5 => self.mv_several(name),
                     2 => self.resize(name, size),
                     3 => self.get_touching(name),
                     _ => self.put_in_place(name, size),
@@ -184,21 +189,47 @@ impl Run {
         others.retain(|other| *other != name);
         let new = *self.draw.pick(&others);
         Work {
-            name: new,
             words: ["mv", name, new].map(String::from).to_vec(),
             calls: vec![Request::Rename {
                 old: name.into(),
                 new: new.into(),
                 time: self.time,
             }],
-            contents: None,
+            saved: Vec::new(),
+        }
+    }
+
+    /// Another name through a third one; a file that has it gets this one's.
+    fn mv_several(&mut self, name: &'static str) -> Work {
+        let mut others = SMALL.to_vec();
+        others.retain(|other| *other != name);
+        let other = *self.draw.pick(&others);
+        let names = match self.file(other) {
+            Some(_) => vec![name, "spare", other, name, "spare", other],
+            None => vec![name, "spare", "spare", other],
+        };
+        Work {
+            calls: vec![self.rename_set(&names)],
+            words: [&["mv"], &names[..]]
+                .concat()
+                .into_iter()
+                .map(String::from)
+                .collect(),
+            saved: Vec::new(),
+        }
+    }
+
+    fn rename_set(&self, names: &[&str]) -> Request {
+        Request::RenameSet {
+            names: names.concat().into(),
+            lengths: names.iter().map(|name| name.len() as u64).collect(),
+            time: self.time,
         }
     }
 
     fn get_touching(&self, name: &'static str) -> Work {
         let copy = self.folder.file("copy");
         Work {
-            name,
             words: ["get", name, "--touch", "--as", copy.to_str().unwrap()]
                 .map(String::from)
                 .to_vec(),
@@ -208,7 +239,7 @@ impl Run {
                 count: 0,
                 time: self.time,
             }],
-            contents: None,
+            saved: Vec::new(),
         }
     }
 
@@ -225,12 +256,11 @@ impl Run {
             });
         }
         Work {
-            name,
             words: ["resize", name, &size.to_string()]
                 .map(String::from)
                 .to_vec(),
             calls,
-            contents: None,
+            saved: Vec::new(),
         }
     }
 
@@ -278,10 +308,44 @@ impl Run {
             time: self.time,
         });
         Work {
-            name,
             words: vec!["put".to_string(), file.to_str().unwrap().to_string()],
             calls,
-            contents: Some(contents),
+            saved: vec![(name, contents)],
+        }
+    }
+
+    /// Three files beside, and then their renames in one call. What was left goes first.
+    fn save_together(&mut self) -> Work {
+        let names = &SMALL[..3];
+        let besides = Vec::from_iter(names.iter().map(|name| format!("{name}.goofs-saving")));
+        let files = self.ledger.slots().iter().flatten();
+        let greatest = files.map(|file| file.id).max().unwrap_or(1).max(1);
+        let mut words = vec!["put".to_string(), "--together".to_string()];
+        let mut calls: Vec<Request> = besides
+            .iter()
+            .flat_map(|beside| self.removal(beside))
+            .collect();
+        let (mut saved, mut renames) = (Vec::new(), Vec::new());
+        for ((name, beside), id) in names.iter().zip(&besides).zip(greatest + 1..) {
+            let size = self.draw.between(1, 3_000);
+            let contents = self.draw.bytes(size as usize);
+            let file = self.folder.write(name, &contents);
+            words.push(file.to_str().unwrap().to_string());
+            calls.push(Request::Create {
+                name: beside.clone().into(),
+                id,
+                mode: 0o644,
+                time: self.time,
+            });
+            calls.extend(self.writes(beside, &contents));
+            saved.push((*name, contents));
+            renames.extend([&beside[..], name]);
+        }
+        calls.push(self.rename_set(&renames));
+        Work {
+            words,
+            calls,
+            saved,
         }
     }
 
@@ -299,23 +363,21 @@ impl Run {
         }
         let words = ["put", file.to_str().unwrap(), "--in-place"];
         Work {
-            name,
             words: words.map(String::from).to_vec(),
             calls,
-            contents: None,
+            saved: Vec::new(),
         }
     }
 }
 
 fn rm(name: &'static str, time: u64) -> Work {
     Work {
-        name,
         words: ["rm", name].map(String::from).to_vec(),
         calls: vec![Request::Delete {
             name: name.into(),
             time,
         }],
-        contents: None,
+        saved: Vec::new(),
     }
 }
 
@@ -410,7 +472,7 @@ struct Counts {
 }
 
 /// So many kills of each kind on one card.
-fn kills(seed: u64, mut most: [u64; 5]) -> Counts {
+fn kills(seed: u64, mut most: [u64; 6]) -> Counts {
     let mut run = Run::new(seed);
     let mut counts = Counts::default();
     // The time of a command without a kill, by the number of its calls.
@@ -452,15 +514,25 @@ fn kills(seed: u64, mut most: [u64; 5]) -> Counts {
         for call in &work.calls[..done] {
             whole.call(call, LENT);
         }
-        let old = run.file(work.name).map(|file| file.bytes.clone());
+        let files_of = |run: &Run| {
+            let files = work
+                .saved
+                .iter()
+                .map(|(name, _)| run.file(name).map(|file| file.bytes.clone()));
+            Vec::from_iter(files)
+        };
+        let old = files_of(&run);
         counts.recovered += u64::from(was_cut);
         counts.between += u64::from(done > 0 && !is_whole);
         counts.within += u64::from(whole != ledger);
         run.ledger = ledger;
         // In one sentence what the ledger says of a put: never a mixture, never a lost file.
-        if let Some(contents) = work.contents {
-            let now = run.file(work.name).map(|file| file.bytes.clone());
-            let is_new = now.as_ref() == Some(&contents);
+        if !work.saved.is_empty() {
+            let now = files_of(&run);
+            let is_new = now
+                .iter()
+                .zip(&work.saved)
+                .all(|(now, (_, new))| now.as_ref() == Some(new));
             assert!(is_new || now == old, "KILL_SEED={seed}: {words:?}");
             counts.new += u64::from(was_killed && is_new);
             counts.old += u64::from(was_killed && !is_new);

@@ -1,15 +1,16 @@
-//! The session in the readme's section on the command, run line by line: it prints what stands there.
+//! The sessions in the readme's sections on the command and on sets, run line by line: they print what stands
+//! there.
 
 mod shared;
 
 use shared::{goofs, run_session, Folder};
 
+const COMMAND: &str = "\n## The command\n";
+
 /// The section, from its heading to the next one.
-fn section() -> &'static str {
+fn section(heading: &str) -> &'static str {
     let readme = include_str!("../../../README.md");
-    let start = readme
-        .find("\n## The command\n")
-        .expect("it has the section");
+    let start = readme.find(heading).expect("it has the section");
     let section = &readme[start + 1..];
     section[2..]
         .find("\n## ")
@@ -21,10 +22,20 @@ fn the_session_is_real() {
     let folder = Folder::new("readme");
     // The first command is the installation; tests/install runs it.
     let prompt = "\n    $ ";
-    let (_, session) = section().split_once(prompt).expect("it has a session");
+    let (_, session) = section(COMMAND)
+        .split_once(prompt)
+        .expect("it has a session");
     assert!(session.starts_with("make install "), "{session}");
     let rest = session.find(prompt).expect("more follows the installation");
     let commands = run_session(&session[rest..], &folder);
+    assert!(commands > 5, "the section has a session");
+}
+
+#[test]
+fn the_session_of_a_set_is_real() {
+    let folder = Folder::new("readme-set");
+    let set = section("\n## A calibration set that changes over together\n");
+    let commands = run_session(set, &folder);
     assert!(commands > 5, "the section has a session");
 }
 
@@ -41,6 +52,6 @@ fn the_table_is_complete() {
     assert_eq!(usages.len(), 16);
     for usage in usages {
         let line = format!("| `goofs {usage}` |");
-        assert!(section().contains(&line), "{line}");
+        assert!(section(COMMAND).contains(&line), "{line}");
     }
 }

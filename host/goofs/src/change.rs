@@ -24,6 +24,9 @@ const MOST_TABLE_SECTORS: usize = u16::MAX.div_ceil(ENTRIES_IN_TABLE_SECTOR as u
 /// Sectors that the longest write touches: it may begin and end within a sector.
 const MOST_DATA_SECTORS: usize = LONGEST_TRANSFER / SECTOR + 1;
 
+/// Renames that one change may have.
+pub const MOST_RENAMES: usize = 8;
+
 /// The records of a change with so many data sectors and targets: the data, a copy of each target and
 /// the journal; the start mark; the targets; the end mark; and a barrier after each of the four.
 pub const fn records(data: usize, targets: usize) -> usize {
@@ -35,6 +38,9 @@ pub const fn records(data: usize, targets: usize) -> usize {
 pub const fn recovery_records(targets: usize) -> usize {
     targets + 1 + 2
 }
+
+/// Old and new name.
+pub type Rename<'r> = (&'r [u8], &'r [u8]);
 
 /// One change. It goes through whole or not at all, but for bytes that a write puts in the place of
 /// old ones: after a cut each such sector is the old or the new one. A time that is later than the
@@ -56,6 +62,12 @@ pub enum Change<'c> {
     Rename {
         old: &'c [u8],
         new: &'c [u8],
+        time: u64,
+    },
+    /// Up to `MOST_RENAMES`, in this order: each finds the names as those before
+    /// it leave them. So two files change names through a third name: a to t, b to a, t to b.
+    RenameSet {
+        renames: &'c [Rename<'c>],
         time: u64,
     },
     /// Another size; what is added, at most 65,536 bytes, is zero.
@@ -181,6 +193,13 @@ fn list_of(records: usize, call: impl FnOnce(&mut [u8]) -> ChangeAnswer) -> Resu
     Ok(List { bytes })
 }
 
+/// Old and new names in turn, one after the other, and the length of each.
+fn joined(renames: &[Rename]) -> (Vec<u8>, Vec<u64>) {
+    let names = || renames.iter().flat_map(|(old, new)| [*old, *new]);
+    let lengths = names().map(|name| name.len() as u64).collect();
+    (names().collect::<Vec<_>>().concat(), lengths)
+}
+
 impl Image {
     /// The list that does this change; empty if there is nothing to do.
     pub fn list_of(&self, change: &Change) -> Result<List, Refusal> {
@@ -204,6 +223,14 @@ impl Image {
                     crate::rename(image, old, new, time, list)
                 })
             }
+            // The root, and both entries of each.
+            Change::RenameSet { renames, time } => {
+                let (names, lengths) = joined(renames);
+                let targets = 1 + 2 * MOST_RENAMES + MOST_TABLE_SECTORS;
+                list_of(records(0, targets), |list| {
+                    crate::rename_set(image, &names, &lengths, time, list)
+                })
+            }
             // The entry. What a growing one writes is shorter.
             Change::Resize { name, size, time } => {
                 list_of(records(0, 1 + MOST_TABLE_SECTORS), |list| {
@@ -221,6 +248,15 @@ impl Image {
             Change::Touch { name, time } => Ok(self.read_touching(name, 0, &mut [], time)?.1),
             Change::TouchRoot { index, time } => Ok(self.list_touching(index, time)?.1),
         }
+    }
+
+    /// Which rename of a set is refused for its names, from 0 on; none where the set is not refused so.
+    pub fn refused_rename(&self, renames: &[Rename], time: u64) -> Option<usize> {
+        let (names, lengths) = joined(renames);
+        let answer = crate::rename_set(&self.bytes, &names, &lengths, time, &mut []);
+        let is_fit = (1..=MOST_RENAMES).contains(&renames.len());
+        let is_fit = is_fit && time <= self.summary().edition.latest_time();
+        (is_fit && matches!(answer.code, 8 | 9)).then_some(answer.place as usize)
     }
 
     /// As `read`, with the list that sets the file's access time; on a frozen volume it is empty. The
@@ -441,13 +477,14 @@ mod tests {
     use super::*;
 
     /// The lengths that the rules of the volume name: an access time, a first create, the longest delete,
-    /// the longest rename, and a write of 65,536 bytes into an empty file.
+    /// the longest rename, the longest set of them, and a write of 65,536 bytes into an empty file.
     #[test]
     fn records_of_changes() {
         assert_eq!(records(0, 1), 9);
         assert_eq!(records(0, 2), 11);
         assert_eq!(records(0, 2 + MOST_TABLE_SECTORS), 1_051);
         assert_eq!(records(0, 3 + MOST_TABLE_SECTORS), 1_053);
+        assert_eq!(records(0, 1 + 2 * MOST_RENAMES + MOST_TABLE_SECTORS), 1_081);
         assert_eq!(records(LONGEST_TRANSFER / SECTOR, 2), 139);
         assert_eq!(MOST_JOURNAL_ENTRIES, 1_024);
     }

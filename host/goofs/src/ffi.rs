@@ -91,6 +91,15 @@ macro_rules! calls {
     };
     (@ $about:tt $call:ident $symbol:ident $answer:ty;
         [$($type:ty,)*] [$($parameter:tt)*] [$($given:expr,)*];
+        $slice:ident: lengths, $($rest:tt)*) => {
+        calls! { @ $about $call $symbol $answer;
+            [$($type,)* *const u64, usize,]
+            [$($parameter)* $slice: &[u64],]
+            [$($given,)* $slice.as_ptr(), $slice.len(),];
+            $($rest)* }
+    };
+    (@ $about:tt $call:ident $symbol:ident $answer:ty;
+        [$($type:ty,)*] [$($parameter:tt)*] [$($given:expr,)*];
         $number:ident: $width:ident, $($rest:tt)*) => {
         calls! { @ $about $call $symbol $answer;
             [$($type,)* $width,] [$($parameter)* $number: $width,] [$($given,)* $number,];
@@ -148,6 +157,13 @@ calls! {
     /// Gives the file of the old name the new one; a file that had it is deleted.
     rename is goofs_rename(
         image: bytes, old_name: bytes, new_name: bytes, time: u64, list: buffer
+    ) -> ChangeAnswer;
+
+    /// Up to eight renames in one change, each as the ones before it leave the names. `names` holds old and
+    /// new names in turn, one after the other, and `lengths` the length of each. With 8 or 9 `place` is
+    /// that of the rename, from 0 on.
+    rename_set is goofs_rename_set(
+        image: bytes, names: bytes, lengths: lengths, time: u64, list: buffer
     ) -> ChangeAnswer;
 
     /// Gives the file another size; what is added at its end is zero.
@@ -210,6 +226,8 @@ mod tests {
                 goofs_rename(null(), 0, null(), 0, null(), 0, 0, null_mut(), 0).code,
                 one
             );
+            let renamed = goofs_rename_set(null(), 0, null(), 0, null(), 0, 0, null_mut(), 0);
+            assert_eq!(renamed.code, one);
             assert_eq!(
                 goofs_resize(null(), 0, null(), 0, 1, 0, null_mut(), 0).code,
                 one

@@ -3,8 +3,8 @@
 //! Every call takes an image of any bytes and gives back numbers; `code` is 0 or says why the call
 //! was refused, and a refused call leaves its buffers as they were.
 //! - `summary`, `check`, `check_with` and `find` change nothing;
-//! - `create`, `delete`, `rename`, `resize`, `write`, `repair`, `recover` and `recover_slice` only read
-//!   the image too, and fill a lent list of sector writes;
+//! - `create`, `delete`, `rename`, `rename_set`, `resize`, `write`, `repair`, `recover` and `recover_slice`
+//!   only read the image too, and fill a lent list of sector writes;
 //! - so do `list` and `read`, besides what they give: their list sets an access time, and who leaves
 //!   times alone drops it;
 //! - `format_record` gives the records of a format one at a time;
@@ -47,7 +47,7 @@ pub mod volume;
 
 pub use ffi::{
     carry_out, check, check_with, create, delete, find, format_record, list, read, recover,
-    recover_slice, rename, repair, resize, summary, write,
+    recover_slice, rename, rename_set, repair, resize, summary, write,
 };
 pub use ffi::{
     ChangeAnswer, CheckAnswer, FindAnswer, FormatRecordAnswer, ListAnswer, ReadAnswer,

@@ -36,6 +36,11 @@ pub enum Line {
         new: Vec<u8>,
         time: u64,
     },
+    /// Old and new name of each.
+    RenameSet {
+        renames: Vec<(Vec<u8>, Vec<u8>)>,
+        time: u64,
+    },
     Resize {
         name: Vec<u8>,
         size: u64,
@@ -91,6 +96,13 @@ impl From<&Change<'_>> for Line {
             Change::Rename { old, new, time } => Line::Rename {
                 old: old.to_vec(),
                 new: new.to_vec(),
+                time,
+            },
+            Change::RenameSet { renames, time } => Line::RenameSet {
+                renames: renames
+                    .iter()
+                    .map(|(old, new)| (old.to_vec(), new.to_vec()))
+                    .collect(),
                 time,
             },
             Change::Resize { name, size, time } => Line::Resize {
@@ -180,6 +192,13 @@ impl fmt::Display for Line {
             Line::Rename { old, new, time } => {
                 write!(f, "rename old={} new={} time={time}", Name(old), Name(new))
             }
+            Line::RenameSet { renames, time } => {
+                f.write_str("rename_set")?;
+                for (old, new) in renames {
+                    write!(f, " old={} new={}", Name(old), Name(new))?;
+                }
+                write!(f, " time={time}")
+            }
             Line::Resize { name, size, time } => {
                 write!(f, "resize name={} size={size} time={time}", Name(name))
             }
@@ -263,6 +282,16 @@ impl<'w> Words<'w> {
     fn name(&mut self, key: &str) -> Result<Vec<u8>, BadLine> {
         unescaped(self.value(key)?)
             .ok_or_else(|| BadLine::Unknown(format!("{key}= has an incomplete %")))
+    }
+
+    /// Pairs of an old and a new name, as many as follow.
+    fn renames(&mut self) -> Result<Vec<(Vec<u8>, Vec<u8>)>, BadLine> {
+        let mut renames = Vec::new();
+        let is_old = |word: &[u8]| word.starts_with(b"old=");
+        while self.left.clone().next().is_some_and(is_old) {
+            renames.push((self.name("old")?, self.name("new")?));
+        }
+        Ok(renames)
     }
 
     fn data(&mut self, key: &str) -> Result<Vec<u8>, BadLine> {
@@ -377,6 +406,10 @@ impl Line {
             b"rename" => Line::Rename {
                 old: words.name("old")?,
                 new: words.name("new")?,
+                time: words.number("time", 10)?,
+            },
+            b"rename_set" => Line::RenameSet {
+                renames: words.renames()?,
                 time: words.number("time", 10)?,
             },
             b"resize" => Line::Resize {
@@ -612,6 +645,14 @@ mod tests {
                 new: b"100%=x".to_vec(),
                 time: 7,
             },
+            Line::RenameSet {
+                renames: Vec::new(),
+                time: 7,
+            },
+            Line::RenameSet {
+                renames: vec![(name(), b"old=".to_vec()), (Vec::new(), Vec::new())],
+                time: 7,
+            },
             Line::Resize {
                 name: b"f".to_vec(),
                 size: 9,
@@ -736,6 +777,14 @@ mod tests {
         for (text, why) in [
             ("goofs renames a=b", "there is no call renames"),
             ("goofs delete name=a", "time= is missing"),
+            (
+                "goofs rename_set old=a new=b old=c time=1",
+                "new= is missing",
+            ),
+            (
+                "goofs rename_set old=a new=b new=c time=1",
+                "time= is missing",
+            ),
             ("goofs delete name=%4 time=1", "name= has an incomplete %"),
             ("goofs delete name=a time=+1", "time= is no number"),
             (

@@ -1,8 +1,10 @@
 //! Saving a file so that after a cut its name stands for the old file or for the new one, each whole.
 //! The new file is written under the name beside; when it is whole, a rename gives it the name and
-//! deletes the old file, in one change.
+//! deletes the old file, in one change. Several files that belong together are all written beside, and
+//! then take their names in one change: after a cut all names stand for the old files, or all for the
+//! new ones.
 
-use crate::change::Change;
+use crate::change::{Change, Rename};
 use crate::error::{Error, Refusal};
 use crate::image::{Entry, Image, LONGEST_TRANSFER};
 use crate::names;
@@ -105,6 +107,11 @@ impl<'s> Save<'s> {
         changes
     }
 
+    /// The rename that ends the save: the name beside, and the name.
+    pub fn rename(&self) -> Rename<'_> {
+        (&self.beside, self.name)
+    }
+
     /// The changes that write over the old file instead, with its id and mode. A cut leaves a part of
     /// them: some sectors old and some new, or another size than either file's. A new file may be
     /// there and not be whole.
@@ -122,6 +129,7 @@ impl<'s> Save<'s> {
         changes
     }
 
+    /// What a save that was cut has left beside is removed.
     fn removal(&self) -> Option<Change<'_>> {
         self.leftover.as_ref().map(|entry| Change::Delete {
             name: &entry.name,
@@ -153,4 +161,21 @@ impl<'s> Save<'s> {
             time,
         })
     }
+}
+
+/// The changes that save these files, of which no two have one name beside, together: each is written
+/// beside, a new and empty one too, and the last change is their `renames`. What cuts have left is
+/// removed first, as the room is needed until the end.
+pub fn changes_together<'c>(
+    saves: impl Iterator<Item = (&'c Save<'c>, &'c [u8])> + Clone,
+    renames: &'c [Rename<'c>],
+    time: u64,
+) -> Vec<Change<'c>> {
+    let mut changes = Vec::from_iter(saves.clone().filter_map(|(save, _)| save.removal()));
+    for (save, contents) in saves {
+        changes.push(save.create(&save.beside));
+        changes.extend(save.writes(&save.beside, contents));
+    }
+    changes.push(Change::RenameSet { renames, time });
+    changes
 }

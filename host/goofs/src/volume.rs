@@ -9,7 +9,7 @@ use crate::device::{Device, SECTOR};
 use crate::error::{Error, Interrupted};
 use crate::image::{Entry, Image, State};
 use crate::log::{Line, Log};
-use crate::save::Save;
+use crate::save::{changes_together, Save};
 
 #[derive(Debug)]
 pub struct Volume<D> {
@@ -129,6 +129,28 @@ impl<D: Device> Volume<D> {
         let id = image.unused_id(&[])?;
         let save = Save::new(image, name, id, None, time)?;
         self.apply(&save.changes(contents))
+    }
+
+    /// Saves files that belong together, name and contents of each, at most `MOST_RENAMES`. All are written
+    /// beside, and then take their names in one change: after a cut and a recovery all names stand for the
+    /// old files, or all for the new ones. What a cut leaves beside is removed by the next save of its name.
+    ///
+    /// Until the last change all old and new files need room and an entry. More files are refused with
+    /// `BadArgument`, and names of which two have one name beside, or that are the same, with `AlreadyThere`;
+    /// then nothing is written.
+    pub fn save_together(&mut self, files: &[(&[u8], &[u8])], time: u64) -> Result<(), Error> {
+        let image = self.image()?;
+        let mut saves = Vec::new();
+        let mut ids = Vec::new();
+        for (name, _) in files {
+            let id = image.unused_id(&ids)?;
+            ids.push(id);
+            saves.push(Save::new(image, name, id, None, time)?);
+        }
+        let renames = Vec::from_iter(saves.iter().map(Save::rename));
+        let contents = files.iter().map(|(_, contents)| *contents);
+        let changes = changes_together(saves.iter().zip(contents), &renames, time);
+        self.apply(&changes)
     }
 
     /// Frees the extents that belong to no file. Nothing of a file changes. A frozen volume with such
@@ -678,6 +700,9 @@ mod tests {
             .is_err());
         volume.read(b"f", 1, &mut [0; 4], 7).unwrap();
         volume.entries(8).unwrap();
+        volume
+            .save_together(&[(b"f", b"c"), (b"g", b"")], 9)
+            .unwrap();
         let mut expected = vec!["start"];
         for call in [
             "create name=f.goofs-saving id=901 mode=644 time=5",
@@ -685,6 +710,10 @@ mod tests {
             "rename old=f.goofs-saving new=f time=5",
             "read name=f offset=1 count=4 time=7",
             "list index=0 time=8",
+            "create name=f.goofs-saving id=902 mode=644 time=9",
+            "write name=f.goofs-saving offset=0 time=9 data=63",
+            "create name=g.goofs-saving id=903 mode=644 time=9",
+            "rename_set old=f.goofs-saving new=f old=g.goofs-saving new=g time=9",
         ] {
             expected.extend([call, "sync", "writes", "done"]);
         }

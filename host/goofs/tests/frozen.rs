@@ -68,6 +68,10 @@ fn a_frozen_volume() {
                 new: b"ab",
                 time,
             },
+            Change::RenameSet {
+                renames: &[(b"a", b"t"), (b"t", b"ab")],
+                time,
+            },
             Change::Resize {
                 name: b"ab",
                 size: 0,
@@ -95,6 +99,10 @@ fn a_frozen_volume() {
             .apply(&[
                 Change::Touch { name: b"ab", time },
                 Change::TouchRoot { index: 0, time },
+                Change::RenameSet {
+                    renames: &[(b"ab", b"ab")],
+                    time,
+                },
                 Change::Write {
                     name: b"ab",
                     offset: 0,

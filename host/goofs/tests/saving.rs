@@ -1,4 +1,4 @@
-//! `Volume::save` with the power cut at each write and barrier of it: the name stands for the old file
+//! `Volume::save` and `save_together` with the power cut at each write and barrier: a name stands for the old file
 //! or for the new one, whole, no other file changes, and the next save removes what is left.
 
 use std::collections::BTreeMap;
@@ -268,5 +268,119 @@ fn times_of_saves() {
             let refused = volume.save(b"f", b"newer", later);
             assert!(matches!(refused, Err(Error::Refused(Refusal::BadArgument))));
         }
+    }
+}
+
+const SET: [&[u8]; 3] = [b"beam", b"temperature", b"timing"];
+
+/// Three files that are saved together, cut at each step: all of them are old, or all new.
+#[test]
+fn a_set_cut_at_each_step() {
+    for (edition, is_over) in [
+        (Edition::First, true),
+        (Edition::First, false),
+        (Edition::Second, true),
+    ] {
+        let set = |contents: &'static [u8]| SET.map(|name| (name, contents));
+        let mut volume = Volume::open(formatted(edition, 8)).unwrap();
+        if is_over {
+            volume.save_together(&set(b"old"), TIME).unwrap();
+        }
+        let before = volume.into_device();
+        let (mut news, mut steps, mut most_left) = (0, 0, 0);
+        for at in 0.. {
+            let card = Card {
+                medium: before.clone(),
+                sent: BTreeMap::new(),
+                left: at + 2,
+                draw: Draw::new(at),
+            };
+            let mut volume = Volume::open(card).unwrap();
+            let saved = volume.save_together(&set(b"newer"), TIME);
+            let is_cut = matches!(saved, Err(Error::Interrupted(_)));
+            assert!(is_cut || saved.is_ok());
+            let mut again = Volume::open(volume.into_device().medium).unwrap();
+            again.recover().unwrap();
+            let image = again.image().unwrap();
+            image.check().unwrap();
+            let found = SET.map(|name| file(image, name));
+            let is_new = found.iter().all(|file| file.as_deref() == Some(b"newer"));
+            let old = is_over.then_some(&b"old"[..]);
+            let is_old = found.iter().all(|file| file.as_deref() == old);
+            assert!(is_new || is_cut && is_old, "cut at {at}");
+            assert_eq!(file(image, b"other").unwrap(), b"of another");
+            assert!(!is_new || leftovers(image) == 0);
+            most_left = most_left.max(leftovers(image));
+            news += u64::from(is_new);
+            steps += 1;
+            // Whatever is left, the next one ends well and leaves nothing.
+            again.save_together(&set(b"the next"), TIME).unwrap();
+            let image = again.image().unwrap();
+            assert_eq!(image.entries().unwrap().len(), 4);
+            if !is_cut {
+                break;
+            }
+        }
+        assert!(
+            most_left == 3 && news > 3 && steps > 60,
+            "{most_left} {news} {steps}"
+        );
+    }
+}
+
+/// Sets that are refused: nothing is written.
+#[test]
+fn sets_that_are_refused() {
+    let mut volume = Volume::open(formatted(Edition::First, 8)).unwrap();
+    let before = volume.image().unwrap().bytes().to_vec();
+    let names: Vec<Vec<u8>> = (0..9).map(|i| format!("n{i}").into_bytes()).collect();
+    let nine: Vec<(&[u8], &[u8])> = names.iter().map(|name| (&name[..], &b""[..])).collect();
+    let long = ["a", "b"].map(|end| ["n".repeat(470).as_str(), end].concat());
+    let long = long.each_ref().map(|name| (name.as_bytes(), &b""[..]));
+    let large = [3; 200_000];
+    for (files, refusal) in [
+        (&nine[..], Refusal::BadArgument),
+        (&nine[..0], Refusal::BadArgument),
+        (&[nine[0], (b"a b", b"")], Refusal::BadArgument),
+        // The same name, and names that have one beside.
+        (&[nine[0], nine[1], nine[0]], Refusal::AlreadyThere),
+        (&long, Refusal::AlreadyThere),
+        (&[(b"f", &large), (b"g", &large)], Refusal::NoRoom),
+    ] {
+        let refused = volume.save_together(files, TIME);
+        let Err(Error::Refused(given)) = refused else {
+            panic!("{refused:?}");
+        };
+        assert_eq!(given, refusal, "{} files", files.len());
+        assert!(volume.image().unwrap().bytes() == before);
+    }
+    let beside = volume.save_together(&[nine[0], (b"f.goofs-saving", b"")], TIME);
+    assert!(matches!(beside, Err(Error::NameBeside)));
+    volume.save_together(&nine[..8], TIME).unwrap();
+    assert_eq!(volume.image().unwrap().entries().unwrap().len(), 9);
+}
+
+/// Which rename of a set is refused.
+#[test]
+fn places_of_refused_renames() {
+    let mut volume = Volume::open(formatted(Edition::First, 8)).unwrap();
+    volume.save(b"a", b"of a", TIME).unwrap();
+    let image = volume.image().unwrap();
+    for (renames, time, place) in [
+        (&[(&b"a"[..], &b"b"[..]), (b"b", b"a")][..], TIME, None),
+        (&[(b"b", b"c"), (b"a", b"x")], TIME, Some(0)),
+        (&[(b"a", b"x"), (b"a", b"c")], TIME, Some(1)),
+        (&[(b"a", b"x"), (b"x", b"y z")], TIME, Some(1)),
+        // Neither a time nor the number of them is a rename's.
+        (&[(b"b", b"c"), (b"a", b"x")], 1 << 32, None),
+        (&[], TIME, None),
+        (&[(&b"b"[..], &b"c"[..]); 9], TIME, None),
+    ] {
+        assert_eq!(image.refused_rename(renames, time), place, "{renames:?}");
+        let change = Change::RenameSet { renames, time };
+        assert_eq!(
+            image.list_of(&change).is_ok(),
+            place.is_none() && renames.len() == 2 && time == TIME
+        );
     }
 }

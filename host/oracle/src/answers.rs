@@ -187,7 +187,8 @@ pub struct ReadAnswer {
     pub length: u64,
 }
 
-/// The answer of create, delete, resize, write and rename; the length is that of the list, in bytes.
+/// The answer of create, delete, resize, write, rename and a set of renames. The place is a fault's
+/// with 7, and a set's rename's with 8 or 9; the length is that of the list, in bytes.
 #[derive(Clone, Copy, Debug, Default, PartialEq, Eq)]
 pub struct ChangeAnswer {
     pub code: u64,

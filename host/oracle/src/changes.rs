@@ -5,8 +5,8 @@ use crate::answers::{code, ChangeAnswer, Refusal};
 use crate::calls::find_file;
 use crate::judge::{open_sound, SoundVolume, Volume};
 use crate::layout::{
-    entry, get32, put16, put32, put64, root, Extent, FileIndex, Sector, LONGEST_SPAN, NO_FILE,
-    SECTOR,
+    entry, get32, put16, put32, put64, root, Edition, Extent, FileIndex, Sector, LONGEST_SPAN,
+    NO_FILE, SECTOR,
 };
 use crate::lists::{list_length, ListWriter, Target};
 use crate::staging::Staging;
@@ -245,6 +245,10 @@ pub(crate) fn transaction(
     list: &mut [u8],
 ) -> Result<u64, Refusal> {
     let staging = Staging::of(volume)?;
+    // Only a set of renames can have so many.
+    if targets.len() > staging.sectors() {
+        return Err(Refusal::new(code::NO_ROOM));
+    }
     if list.len() < list_length(0, targets.len()) {
         return Err(Refusal::new(code::BUFFER_TOO_SHORT));
     }
@@ -256,14 +260,18 @@ pub(crate) fn transaction(
 /// The root after a create, delete or rename.
 pub(crate) fn changed_root(volume: Volume, time: u64) -> Target {
     let mut contents = *volume.root();
-    let version = get32(&contents, root::VERSION).wrapping_add(1);
-    put32(&mut contents, root::VERSION, version);
-    let edition = volume.edition();
-    edition.put_time(&mut contents, edition.root_change_time(), time);
+    change_root(&mut contents, volume.edition(), time);
     Target {
         sector: volume.geometry().root_at(),
         contents,
     }
+}
+
+/// Raises the root's version and sets its change time.
+pub(crate) fn change_root(contents: &mut [u8; SECTOR], edition: Edition, time: u64) {
+    let version = get32(contents, root::VERSION).wrapping_add(1);
+    put32(contents, root::VERSION, version);
+    edition.put_time(contents, edition.root_change_time(), time);
 }
 
 /// The file's entry after a write or resize.
@@ -274,16 +282,20 @@ fn resized_entry(volume: Volume, file: FileIndex, size: u64, time: u64) -> Targe
 }
 
 /// The file's entry with its version raised and its change time set.
-pub(crate) fn changed_entry(volume: Volume, file: FileIndex, time: u64) -> Target {
-    let old = volume.entry(file);
-    let edition = volume.edition();
-    let mut contents = *old.sector;
-    put32(&mut contents, entry::VERSION, old.version().wrapping_add(1));
-    edition.put_time(&mut contents, edition.entry_change_time(), time);
+fn changed_entry(volume: Volume, file: FileIndex, time: u64) -> Target {
+    let mut contents = *volume.entry(file).sector;
+    change_entry(&mut contents, volume.edition(), time);
     Target {
         sector: volume.geometry().entry_at(file),
         contents,
     }
+}
+
+/// Raises an entry's version and sets its change time.
+pub(crate) fn change_entry(contents: &mut [u8; SECTOR], edition: Edition, time: u64) {
+    let version = get32(contents, entry::VERSION).wrapping_add(1);
+    put32(contents, entry::VERSION, version);
+    edition.put_time(contents, edition.entry_change_time(), time);
 }
 
 /// The table sectors in which one of these extents is freed, in rising order. A file's extents may

@@ -5,6 +5,8 @@
 //! It shares with the calls only the geometry; answers, list lengths and the choice of entries and
 //! extents are worked out here a second time. How an image is held against it stands in `compare`.
 
+use std::collections::BTreeSet;
+
 use crate::answers::{
     code, ChangeAnswer, CheckAnswer, FindAnswer, ListAnswer, ReadAnswer, Refusal, SummaryAnswer,
 };
@@ -96,6 +98,8 @@ enum Change {
         replaced: Option<usize>,
         time: u64,
     },
+    /// All of them, in this order.
+    Several(Vec<Change>),
 }
 
 impl Ledger {
@@ -262,6 +266,11 @@ impl Ledger {
                 time,
             } => self.write(name, *offset, data, *time)?,
             Request::Rename { old, new, time } => self.rename(old, new, *time)?,
+            Request::RenameSet {
+                names,
+                lengths,
+                time,
+            } => self.rename_set(names, lengths, *time)?,
             // The reading calls are expected elsewhere.
             _ => (0, Change::Nothing),
         };
@@ -434,6 +443,69 @@ impl Ledger {
         Ok((length_by_groups(0, 2 + replaced_targets), change))
     }
 
+    fn rename_set(
+        &self,
+        names: &[u8],
+        lengths: &[u64],
+        time: u64,
+    ) -> Result<(usize, Change), Refusal> {
+        let names = set_names(names, lengths).ok_or(Refusal::new(code::BAD_ARGUMENT))?;
+        // Each slot's name after the renames so far.
+        let mut now: Vec<Option<&[u8]>> = self
+            .slots
+            .iter()
+            .map(|slot| slot.as_ref().map(|file| &file.name[..]))
+            .collect();
+        let mut renames = Vec::new();
+        for (place, pair) in (0..).zip(names.chunks(2)) {
+            let (old, new) = (pair[0], pair[1]);
+            let refused = |code| Refusal {
+                place,
+                ..Refusal::new(code)
+            };
+            if self.bad_name(old) || self.bad_new_name(new) {
+                return Err(refused(code::BAD_ARGUMENT));
+            }
+            let slot_of = |name| now.iter().position(|has| *has == Some(name));
+            let slot = slot_of(old).ok_or(refused(code::NOT_THERE))?;
+            if old != new {
+                let replaced = slot_of(new);
+                if let Some(replaced) = replaced {
+                    now[replaced] = None;
+                }
+                now[slot] = Some(new);
+                renames.push((slot, new, replaced));
+            }
+        }
+        let targets = self.set_targets(&renames);
+        if targets as u64 > self.geometry.reserve_extents() * self.geometry.extent_sectors() {
+            return Err(Refusal::new(code::NO_ROOM));
+        }
+        if renames.is_empty() {
+            return Ok((0, Change::Nothing));
+        }
+        let change = |(slot, name, replaced): (usize, &[u8], Option<usize>)| Change::Rename {
+            slot,
+            name: name.to_vec(),
+            replaced,
+            time,
+        };
+        let changes = renames.into_iter().map(change).collect();
+        Ok((length_by_groups(0, targets), Change::Several(changes)))
+    }
+
+    /// How many sectors these renames touch: the root, entries, and table sectors of replaced files.
+    fn set_targets(&self, renames: &[(usize, &[u8], Option<usize>)]) -> usize {
+        let mut entries = BTreeSet::new();
+        let mut freed = Vec::new();
+        for (slot, _, replaced) in renames {
+            entries.extend([*slot].into_iter().chain(*replaced));
+            let replaced = replaced.and_then(|slot| self.slots[slot].as_ref());
+            freed.extend(replaced.iter().flat_map(|file| &file.extents).copied());
+        }
+        1 + entries.len() + table_sectors_with(&freed)
+    }
+
     fn put(
         &self,
         slot: usize,
@@ -564,6 +636,11 @@ impl Ledger {
                     self.slots[replaced] = None;
                 }
             }
+            Change::Several(changes) => {
+                for change in changes {
+                    self.apply(change);
+                }
+            }
         }
     }
 
@@ -607,6 +684,23 @@ impl Ledger {
         file.change_time = time;
         file
     }
+}
+
+/// The names of a set, old and new in turn, or nothing if the shape is bad. The sum of the lengths
+/// may not fit 64 bits.
+fn set_names<'n>(names: &'n [u8], lengths: &[u64]) -> Option<Vec<&'n [u8]>> {
+    let sum: u128 = lengths.iter().map(|length| u128::from(*length)).sum();
+    let good_count = [2, 4, 6, 8, 10, 12, 14, 16].contains(&lengths.len());
+    if !good_count || sum != names.len() as u128 {
+        return None;
+    }
+    let mut rest = names;
+    let next_name = |length: &u64| {
+        let (name, later) = rest.split_at(*length as usize);
+        rest = later;
+        name
+    };
+    Some(lengths.iter().map(next_name).collect())
 }
 
 /// How many table sectors hold the entries of these extents.

@@ -1,9 +1,9 @@
 //! Rename: an entry gets a new name; a file that had it is deleted in the same transaction.
 
 use crate::answers::{code, ChangeAnswer, Refusal};
-use crate::changes::{answer, changed_entry, changed_root, freed_table, transaction};
+use crate::changes::{answer, change_entry, changed_root, freed_table, transaction};
 use crate::judge::{open_sound, Volume};
-use crate::layout::{FileIndex, SECTOR};
+use crate::layout::{Edition, FileIndex, SECTOR};
 use crate::lists::Target;
 
 /// Gives the file another name, which may be another file's: that one is then deleted.
@@ -43,10 +43,18 @@ fn rename_file(
     transaction(volume, &targets, list)
 }
 
-/// The file's entry with its new name and zeros after it.
 fn renamed_entry(volume: Volume, file: FileIndex, name: &[u8], time: u64) -> Target {
-    let mut target = changed_entry(volume, file, time);
-    target.contents[volume.edition().name()..].fill(0);
-    volume.edition().put_name(&mut target.contents, name);
-    target
+    let mut contents = *volume.entry(file).sector;
+    rename_entry(&mut contents, volume.edition(), name, time);
+    Target {
+        sector: volume.geometry().entry_at(file),
+        contents,
+    }
+}
+
+/// Gives an entry a new name, with zeros after it.
+pub(crate) fn rename_entry(contents: &mut [u8; SECTOR], edition: Edition, name: &[u8], time: u64) {
+    change_entry(contents, edition, time);
+    contents[edition.name()..].fill(0);
+    edition.put_name(contents, name);
 }

@@ -69,6 +69,12 @@ pub enum Request {
         new: Vec<u8>,
         time: u64,
     },
+    RenameSet {
+        /// Old and new names in turn, one after the other.
+        names: Vec<u8>,
+        lengths: Vec<u64>,
+        time: u64,
+    },
 }
 
 #[derive(Clone, Copy, Debug, PartialEq, Eq)]
@@ -92,22 +98,35 @@ impl Request {
             | Request::Delete { time, .. }
             | Request::Resize { time, .. }
             | Request::Write { time, .. }
-            | Request::Rename { time, .. } => Some(*time),
+            | Request::Rename { time, .. }
+            | Request::RenameSet { time, .. } => Some(*time),
         }
     }
 
-    /// All names that the call is given, where it is a call by name.
+    /// All names that the call is given, where it is a call by name; of a set whose shape is good.
     pub fn names(&self) -> Vec<&[u8]> {
         match self {
             Request::Rename { old, new, .. } => vec![old, new],
+            Request::RenameSet { names, lengths, .. } => {
+                let mut rest = &names[..];
+                let mut next_name = |length: &u64| {
+                    let (name, later) = rest.split_at((*length as usize).min(rest.len()));
+                    rest = later;
+                    name
+                };
+                lengths.iter().map(&mut next_name).collect()
+            }
             _ => self.name().into_iter().collect(),
         }
     }
 
-    /// The name of the file that the call is about; of a rename the old one.
+    /// The name of the file that the call is about; of a rename the old one. A set has several.
     pub fn name(&self) -> Option<&[u8]> {
         match self {
-            Request::Summary | Request::Check | Request::List { .. } => None,
+            Request::Summary
+            | Request::Check
+            | Request::List { .. }
+            | Request::RenameSet { .. } => None,
             Request::Find { name }
             | Request::Read { name, .. }
             | Request::Create { name, .. }
@@ -158,6 +177,11 @@ impl Request {
                 time,
             } => changes::write(image, name, *offset, data, *time, list),
             Request::Rename { old, new, time } => crate::rename(image, old, new, *time, list),
+            Request::RenameSet {
+                names,
+                lengths,
+                time,
+            } => crate::rename_set(image, names, lengths, *time, list),
             _ => unreachable!("the reading calls have other answers"),
         }
     }

@@ -1,20 +1,7 @@
--- `directory::has_name` meets its contract. The bytes are compared, the lengths differ, or the entry is free.
+-- `directory::has_name` meets its contract.
 use borrow.Author.Needs.{needs}
-use Prim.Native.Nat.{_+_}
-use mathlib.Core.Path.{_≡_, sym, _∙_}
-use native.Mathlib.Omega.{arith}
-use lib.ListN.{length}
-use Rattle.model.specs.Bytes.{bytesFrom}
-use Rattle.model.specs.Edition.{layoutOf}
-use Rattle.model.specs.Entry.{nameIn}
-use Rattle.laws.proofs.Search.{same-length}
-use Rattle.laws.proofs.Bytes.{bytesFrom-bytesFrom}
-use Rattle.laws.proofs.Entry.{length-nameIn}
 use Rattle.directory.proofs.has_name.Statement.{statement}
 use Rattle.directory.proofs.has_name.Tie as tie
-
-is-occupied-requires : tie.Need-is-occupied-requires
-is-occupied-requires c κs = search needs
 
 sector-requires : tie.Need-sector-requires
 sector-requires c κs = search needs
@@ -22,62 +9,11 @@ sector-requires c κs = search needs
 sector-part-requires : tie.Need-sector-part-requires
 sector-part-requires c κs = search needs
 
-name-length-requires : tie.Need-name-length-requires
-name-length-requires c κs = search needs
-
-name-part-requires : tie.Need-name-part-requires
-name-part-requires c κs = search needs
-
-starts-with-requires : tie.Need-starts-with-requires
-starts-with-requires c κs = search needs
+is-named-requires : tie.Need-is-named-requires
+is-named-requires c κs = search needs
 
 returns : tie.Need-returns
-unfolding nameIn
-returns c =
-    let d = c .before .before .before in
-    let p = d .before in
-    let o = p .before .before .before in
-    let s = p .sector-part .result .now in
-    let n = length (o .before .before .before .args .name .now) in
-    let l = layoutOf (o .before .before .before .args .edition) in
-    let e : bytesFrom s (l .name) n ≡ bytesFrom (bytesFrom s (l .name) (l .longestName)) 0 n =
-    (let z : l .name + 0 ≡ l .name = omega arith in sym (rw z at (bytesFrom-bytesFrom s (l .name) (l .longestName) 0 n (omega arith)))) in
-    rw (
-      ← o .is-occupied .ensures,
-      p .before .before .if1 .taken,
-      ← p .before .sector .ensures,
-      ← p .sector-part .ensures .0,
-      ← d .name-length .ensures,
-      c .before .before .if2 .taken,
-      e,
-      ← c .before .name-part .ensures .0,
-    )
-    (c .starts-with .ensures)
-
-returns-2 : tie.Need-returns-2
-returns-2 c =
-    let d = c .before in
-    let p = d .before in
-    let o = p .before .before .before in
-    let s = p .sector-part .result .now in
-    let edition = o .before .before .before .args .edition in
-    let e : length (nameIn edition s) ≡ d .name-length .result = length-nameIn edition s ∙ sym (d .name-length .ensures) in
-    rw (← o .is-occupied .ensures, p .before .before .if1 .taken, ← p .before .sector .ensures, ← p .sector-part .ensures .0)
-    (sym (same-length (nameIn edition s) (o .before .before .before .args .name .now) (λ h. c .if2 .left (sym e ∙ h))))
-
-returns-3 : tie.Need-returns-3
-returns-3 c = rw (← c .before .is-occupied .ensures, c .if1 .left)
+returns c = rw (← c .before .before .sector .ensures, ← c .before .sector-part .ensures .0) (c .is-named .ensures)
 
 pub has-name-spec : {M : Type 1} → statement M
-has-name-spec =
-    tie.close
-    (tie.spec
-    is-occupied-requires
-    sector-requires
-    sector-part-requires
-    name-length-requires
-    name-part-requires
-    starts-with-requires
-    returns
-    returns-2
-    returns-3)
+has-name-spec = tie.close (tie.spec sector-requires sector-part-requires is-named-requires returns)

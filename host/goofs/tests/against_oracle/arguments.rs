@@ -3,7 +3,7 @@
 use crate::counts::{count, Compared};
 use crate::shared::{alike, ask, calls, on_both, output, with_each_buffer};
 use oracle::draw::Draw;
-use oracle::testing::requests::{create, find, list, read, rename, write};
+use oracle::testing::requests::{create, find, list, read, rename, rename_set, write};
 use oracle::testing::volumes::some_files_of;
 use oracle::Lent;
 
@@ -196,6 +196,9 @@ fn empty_slices() {
             rename(&[], b"new"),
             rename(b"ab", &[]),
             rename(b"ab", b"ab"),
+            rename_set(&[]),
+            rename_set(&[(b"", b"")]),
+            rename_set(&[(b"ab", b"ab")]),
             write(b"ab", 0, Vec::new()),
             read(b"ab", 0, 0),
         ]);

@@ -8,7 +8,7 @@ use oracle::layout::{put32, Edition, Geometry, SECTOR};
 use oracle::lists::RECORD;
 use oracle::testing::damage::entry_field;
 use oracle::testing::images::{blank_of, put_file};
-use oracle::testing::requests::{create, delete, rename, resize, write};
+use oracle::testing::requests::{create, delete, rename, rename_set, resize, write};
 use oracle::testing::volumes::some_files_of;
 use oracle::Request;
 
@@ -257,6 +257,7 @@ fn versions_at_their_end() {
                 rename(b"ab", b"new"),
                 rename(b"ab", b"abc"),
                 rename(b"abc", b"ab"),
+                rename_set(&[(b"ab", b"t"), (b"t", b"ab")]),
             ] {
                 assert_eq!(edge_alike(&request, &image), 0);
             }

@@ -8,7 +8,7 @@ use oracle::layout::{get16, get32, get64, put16, superblock, Edition, SECTOR};
 use oracle::lists::{CONTENTS, RECORD};
 use oracle::testing::damage::entry_field;
 use oracle::testing::requests::{
-    at_time, create, delete, find, list, read, rename, resize, shortened, write,
+    at_time, create, delete, find, list, read, rename, rename_set, resize, shortened, write,
 };
 use oracle::testing::volumes::{sample_of, some_files_of, Volume, ANY, SAMPLE};
 use oracle::testing::Subject;
@@ -37,6 +37,8 @@ fn names_around_both_lengths() {
                 (missing, rename(&name, &name)),
                 (new, create(&name, 77)),
                 (new, rename(b"ab", &name)),
+                (missing, rename_set(&[(b"ab", b"t"), (&name, b"new")])),
+                (new, rename_set(&[(b"ab", b"t"), (b"t", &name)])),
             ] {
                 count(Compared::ArgumentEdges, 1);
                 let (code, _) = with_each_buffer(&request, &volume.image);
@@ -94,6 +96,10 @@ fn calls_with_a_time() -> Vec<(u64, Request)> {
         (0, rename(b"ab", b"ab")),
         (9, rename(b"none", b"new")),
         (9, rename(b"none", b"none")),
+        (0, rename_set(&[(b"ab", b"t"), (b"t", b"new")])),
+        (0, rename_set(&[(b"ab", b"ab")])),
+        (9, rename_set(&[(b"ab", b"t"), (b"ab", b"new")])),
+        (8, rename_set(&[])),
         (0, read(b"ab", 65_530, 20)),
         (0, read(b"ab", 0, 0)),
         (9, read(b"none", 0, 1)),

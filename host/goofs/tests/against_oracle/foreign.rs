@@ -24,7 +24,7 @@ fn every_choice_of_free_extents() {
         for free in every_choice() {
             let codes = each_call(&Both, edition, &free);
             let refused = match free.len() {
-                0 => 12,
+                0 => 14,
                 1 => 4,
                 _ => 0,
             };

@@ -10,7 +10,9 @@ use oracle::draw::Draw;
 use oracle::layout::{put16, put64, Edition, Geometry, SECTOR};
 use oracle::testing::damage::entry_field;
 use oracle::testing::images::{blank_of, put_file, table_entry};
-use oracle::testing::requests::{create, delete, find, list, read, rename, resize, write};
+use oracle::testing::requests::{
+    create, delete, find, list, read, rename, rename_set, resize, write,
+};
 use oracle::testing::volumes::ANY;
 use oracle::{Lent, Request};
 
@@ -240,6 +242,7 @@ fn largest_directory() {
             alike(&find(&name(index)), &image, Lent::NONE);
         }
         let last = name(65_534);
+        let swap = rename_set(&[(&last, b"t"), (&name(1), &last), (b"t", &name(1))]);
         for (expected, request) in [
             (0, create(&last, 1)),
             (11, create(b"none", 2)),
@@ -249,6 +252,9 @@ fn largest_directory() {
             (0, rename(&last, &name(0))),
             (0, create(&last, 3)),
             (0, rename(&name(0), &last)),
+            // The second entry and the last change names, and back.
+            (0, swap.clone()),
+            (0, swap),
         ] {
             assert_eq!(
                 with_each_buffer(&request, &image).0,

@@ -24,6 +24,7 @@ mod longest_lists;
 mod older_names;
 mod older_volumes;
 mod recoveries;
+mod rename_sets;
 mod renames;
 mod repairs;
 mod runs;

@@ -6,7 +6,7 @@ use crate::shared::{on_both, with_each_buffer, Both};
 use oracle::draw::Draw;
 use oracle::layout::Edition;
 use oracle::testing::requests::{
-    create, delete, find, list, read, rename, resize, shortened, write,
+    create, delete, find, list, read, rename, rename_set, resize, shortened, write,
 };
 use oracle::testing::volumes::{some_files_of, Volume};
 use oracle::Request;
@@ -71,6 +71,8 @@ fn every_call() {
                 (8, rename(&name, &name)),
                 (8, rename(b"ab", &name)),
                 (8, rename(b"none", &name)),
+                (0, rename_set(&[(&name, b"typed"), (b"typed", b"ab")])),
+                (8, rename_set(&[(b"ab", b"t"), (b"t", &name)])),
             ] {
                 count(Compared::ArgumentEdges, 1);
                 let (code, _) = with_each_buffer(&request, &volume.image);

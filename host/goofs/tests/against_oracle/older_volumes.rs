@@ -8,7 +8,7 @@ use oracle::layout::{put16, put64, superblock, Edition, Geometry, SECTOR};
 use oracle::lists::RECORD;
 use oracle::testing::images::{blank_of, put_file};
 use oracle::testing::requests::{
-    create, delete, find, list, read, rename, resize, shortened, write,
+    create, delete, find, list, read, rename, rename_set, resize, shortened, write,
 };
 use oracle::testing::Subject;
 use oracle::{Lent, Request};
@@ -50,6 +50,8 @@ fn calls_alike(image: &[u8], with_target: u64, with_extent: u64) {
         (with_target, rename(b"old", b"new")),
         (with_target, rename(b"ab", b"old")),
         (0, rename(b"ab", b"ab")),
+        (with_target, rename_set(&[(b"ab", b"t"), (b"t", b"old")])),
+        (0, rename_set(&[(b"ab", b"ab"), (b"old", b"old")])),
         (0, read(b"old", size - 1, 600)),
         (0, list(3)),
     ] {

@@ -8,7 +8,7 @@ use oracle::answers::{
 use oracle::layout::Edition;
 use oracle::testing::buffers::{LentBuffer, LentScratch};
 use oracle::testing::requests::{
-    create, delete, find, list, read, rename, resize, shortened, write,
+    create, delete, find, list, read, rename, rename_set, resize, shortened, write,
 };
 use oracle::testing::volumes::{ANY, ANY_LIST};
 use oracle::testing::{checks_alike, Filled, Oracle, Subject};
@@ -109,6 +109,11 @@ fn ask_change(request: &Request, image: &[u8], list: &mut [u8]) -> Answer {
             time,
         } => goofs::write(image, name, *offset, data, *time, list),
         Request::Rename { old, new, time } => goofs::rename(image, old, new, *time, list),
+        Request::RenameSet {
+            names,
+            lengths,
+            time,
+        } => goofs::rename_set(image, names, lengths, *time, list),
         _ => unreachable!("the reading calls have other answers"),
     };
     Answer::Change(as_oracle!(
@@ -365,6 +370,8 @@ pub fn calls() -> Vec<Request> {
         write(b"abc", 0, vec![1; 600]),
         rename(b"ab", b"new"),
         rename(b"abc", b"ab"),
+        rename_set(&[(b"ab", b"t"), (b"abc", b"ab"), (b"t", b"abc")]),
+        rename_set(&[(b"cab", b"ab"), (b"ab", b"abc")]),
     ]
 }
 

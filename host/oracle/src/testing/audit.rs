@@ -17,7 +17,7 @@ pub fn audit(request: &Request, before: &Ledger, after: &Ledger, image: &[u8], l
     for target in &groups[2] {
         assert_eq!(
             target.contents,
-            expected_target(before, after, image, target.sector),
+            expected_target(request, before, after, image, target.sector),
             "target {}",
             target.sector
         );
@@ -202,7 +202,15 @@ fn owners(ledger: &Ledger) -> Vec<Option<(u16, u16)>> {
 }
 
 /// The old contents of the sector with only the bytes changed that the rules name.
-fn expected_target(before: &Ledger, after: &Ledger, image: &[u8], sector: u64) -> [u8; SECTOR] {
+fn expected_target(
+    request: &Request,
+    before: &Ledger,
+    after: &Ledger,
+    image: &[u8],
+    sector: u64,
+) -> [u8; SECTOR] {
+    // A file may be renamed away and back again; the bytes after its name are zero then too.
+    let renamed = matches!(request, Request::Rename { .. } | Request::RenameSet { .. });
     let geometry = before.geometry();
     let mut contents = old_sector(image, sector);
     let places = places(before.edition());
@@ -217,12 +225,12 @@ fn expected_target(before: &Ledger, after: &Ledger, image: &[u8], sector: u64) -
         match (&before.slots()[index], &after.slots()[index]) {
             (_, None) => contents = [0; SECTOR],
             (None, Some(file)) => contents = fresh_entry(file, places),
-            (Some(old), Some(file)) => {
+            (Some(_), Some(file)) => {
                 put64(&mut contents, 2, file.bytes.len() as u64);
                 put32(&mut contents, 10, file.version);
                 put_time(&mut contents, 26, file.access_time, places);
                 put_time(&mut contents, places.change_time, file.change_time, places);
-                if old.name != file.name {
+                if renamed {
                     put_name(&mut contents, &file.name, places);
                 }
             }

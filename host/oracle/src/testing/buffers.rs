@@ -9,8 +9,8 @@ use crate::lists::RECORD;
 
 /// Bytes before the lent part, an odd number so that it is not aligned, and after it.
 const GUARD: usize = 61;
-/// The longest list has 1,053 records.
-const LONGEST: usize = 1_060 * RECORD;
+/// The longest list has 1,081 records.
+const LONGEST: usize = 1_090 * RECORD;
 
 static PATTERN: LazyLock<Vec<u8>> = LazyLock::new(|| Draw::new(165).bytes(LONGEST));
 

@@ -3,7 +3,7 @@
 
 use super::audit::audit;
 use super::foreign::{calls_with_lists, foreign_volume};
-use super::requests::{create, delete, list, read, rename, resize, write};
+use super::requests::{create, delete, list, read, rename, rename_set, resize, write};
 use super::slices::{differing, expected_slice};
 use super::volumes::{format_list, sample_of, Volume, ANY};
 use super::{Counts, Filled, Oracle, Subject};
@@ -52,6 +52,10 @@ fn calls_on_two_files(draw: &mut Draw) -> Vec<Request> {
         rename(b"alpha", b"gamma"),
         rename(b"beta", b"alpha"),
         rename(b"alpha", b"beta"),
+        // A swap, no swap, and a chain onto a file with extents.
+        rename_set(&[(b"alpha", b"t"), (b"beta", b"alpha"), (b"t", b"beta")]),
+        rename_set(&[(b"alpha", b"beta"), (b"beta", b"alpha")]),
+        rename_set(&[(b"beta", b"alpha"), (b"alpha", b"gamma")]),
         // These set an access time.
         read(b"alpha", 65_000, 1_000),
         read(b"beta", 0, 0),
@@ -66,7 +70,7 @@ pub fn cut_each_kind_of_call(subject: &dyn Subject, edition: Edition) -> Counts 
     cut_everywhere(subject, &two_files(edition), &requests, &mut draw)
 }
 
-/// Cuts a delete, a resize and a rename everywhere whose freed extents stand in two table sectors.
+/// Cuts a delete, a resize, a rename and a set everywhere whose freed extents stand in two table sectors.
 pub fn cut_over_two_table_sectors(subject: &dyn Subject, edition: Edition) -> Counts {
     let format = FormatRequest {
         sectors: 546 + 255 + 130 * 128,
@@ -82,6 +86,7 @@ pub fn cut_over_two_table_sectors(subject: &dyn Subject, edition: Edition) -> Co
         delete(b"all"),
         resize(b"all", 65_536),
         rename(b"new", b"all"),
+        rename_set(&[(b"new", b"all"), (b"all", b"new")]),
     ];
     cut_everywhere(subject, &volume, &requests, &mut Draw::new(14))
 }

@@ -2,7 +2,9 @@
 //! number of extents free.
 
 use super::audit::audit;
-use super::requests::{create, delete, find, list, read, rename, resize, shortened, write};
+use super::requests::{
+    create, delete, find, list, read, rename, rename_set, resize, shortened, write,
+};
 use super::volumes::{sample_of, Volume, ANY};
 use super::{with_each_buffer, Oracle, Subject};
 use crate::answers::code;
@@ -74,6 +76,10 @@ pub fn calls_on(volume: &Volume) -> Vec<Request> {
         rename(b"ab", b"new"),
         rename(b"abc", b"ab"),
         rename(b"cab", b"cab"),
+        rename_set(&[(b"ab", b"t"), (b"cab", b"ab"), (b"t", b"cab")]),
+        rename_set(&[(b"abc", b"ab"), (b"c", b"ab")]),
+        rename_set(&[(b"cab", b"cab"), (b"a", b"a")]),
+        rename_set(&[(b"a", b"new"), (b"a", b"t")]),
         read(b"ab", size / 2, 65_536),
         read(b"cab", 0, 3),
         read(b"a", 0, 0),

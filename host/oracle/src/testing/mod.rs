@@ -13,6 +13,7 @@ pub mod records;
 pub mod repairs;
 pub mod requests;
 pub mod runs;
+pub mod sets;
 pub mod slices;
 pub mod volumes;
 
@@ -198,6 +199,9 @@ pub struct Counts {
     /// Renames with a list, and the files that they replaced.
     pub renames: usize,
     pub replaced_files: usize,
+    /// Sets of renames with a list, and those in which several were applied.
+    pub sets: usize,
+    pub chained_sets: usize,
     /// Lists that lost a record on the way and were not carried out.
     pub lost_records: usize,
 }

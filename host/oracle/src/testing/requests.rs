@@ -43,6 +43,18 @@ pub fn rename(old: &[u8], new: &[u8]) -> Request {
     }
 }
 
+/// Old and new names.
+pub type Renames<'n> = &'n [(&'n [u8], &'n [u8])];
+
+pub fn rename_set(renames: Renames) -> Request {
+    let names = || renames.iter().flat_map(|(old, new)| [*old, *new]);
+    Request::RenameSet {
+        names: names().flatten().copied().collect(),
+        lengths: names().map(|name| name.len() as u64).collect(),
+        time: 9_000,
+    }
+}
+
 pub fn read(name: &[u8], offset: u64, count: u64) -> Request {
     Request::Read {
         name: name.to_vec(),
@@ -71,7 +83,8 @@ pub fn at_time(mut request: Request, new: u64) -> Request {
         | Request::Delete { time, .. }
         | Request::Resize { time, .. }
         | Request::Write { time, .. }
-        | Request::Rename { time, .. } => *time = new,
+        | Request::Rename { time, .. }
+        | Request::RenameSet { time, .. } => *time = new,
         _ => panic!("{request:?} takes no time"),
     }
     request

@@ -76,6 +76,8 @@ impl Counts {
             self.cut_access_times,
             self.renames,
             self.replaced_files,
+            self.sets,
+            self.chained_sets,
         ] {
             assert!(reached > least, "too rare: {self:?}");
         }
@@ -452,6 +454,11 @@ impl Run<'_> {
                 counts.renames += 1;
                 counts.replaced_files += usize::from(replaced);
             }
+            Request::RenameSet { .. } => {
+                counts.sets += 1;
+                let root = (before.root().version, after.root().version);
+                counts.chained_sets += usize::from(root.0.wrapping_add(1) != root.1);
+            }
             Request::List { .. } | Request::Read { .. } => counts.access_times += 1,
             _ => {}
         }
@@ -490,7 +497,7 @@ impl Run<'_> {
 
     fn draw_request(&mut self) -> Request {
         let time = self.draw_time();
-        let kind = self.draw.below(23);
+        let kind = self.draw.below(26);
         let name = self.draw_name(if (7..=9).contains(&kind) { 1 } else { 8 });
         match kind {
             0 => Request::Summary,
@@ -537,6 +544,7 @@ impl Run<'_> {
                 new: self.draw_name(1),
                 time,
             },
+            17..=19 => self.draw_set(time),
             _ => {
                 let (offset, count) = self.draw_span(&name);
                 Request::Write {
@@ -546,6 +554,48 @@ impl Run<'_> {
                     time,
                 }
             }
+        }
+    }
+
+    /// Renames of which some see the earlier ones; the lengths are sometimes bad.
+    fn draw_set(&mut self, time: u64) -> Request {
+        let count = match self.draw.below(16) {
+            0 => *self.draw.pick(&[0, 9]),
+            1 => 8,
+            _ => self.draw.between(1, 4),
+        };
+        let mut drawn: Vec<Vec<u8>> = Vec::new();
+        for _ in 0..count {
+            let old = match drawn.is_empty() || self.draw.one_in(2) {
+                true => self.draw_name(20),
+                false => self.draw.pick(&drawn).clone(),
+            };
+            let new = match self.draw.below(8) {
+                0 => old.clone(),
+                1 | 2 => self.draw_name(1),
+                3 => self.draw_name(20),
+                _ => self
+                    .draw
+                    .pick(&[b"t".to_vec(), b"u".to_vec(), b"a".to_vec()])
+                    .clone(),
+            };
+            drawn.extend([old, new]);
+        }
+        let mut lengths: Vec<u64> = drawn.iter().map(|name| name.len() as u64).collect();
+        if !lengths.is_empty() && self.draw.one_in(12) {
+            let last = lengths.len() - 1;
+            match self.draw.below(4) {
+                0 => lengths.truncate(last),
+                1 => lengths[last] += 1,
+                2 => lengths[0] = lengths[0].wrapping_sub(1),
+                // The sum is right in 64 bits only.
+                _ => lengths.extend([u64::MAX, 1]),
+            }
+        }
+        Request::RenameSet {
+            names: drawn.concat(),
+            lengths,
+            time,
         }
     }
 

@@ -4,7 +4,9 @@ use crate::answers::code;
 use crate::layout::{get16, get32, get64, Edition, SECTOR};
 use crate::lists::{CONTENTS, RECORD};
 use crate::request::{Answer, Lent};
-use crate::testing::requests::{at_time, create, delete, find, list, read, rename, resize, write};
+use crate::testing::requests::{
+    at_time, create, delete, find, list, read, rename, rename_set, resize, write,
+};
 use crate::testing::volumes::{sample_of, some_files_of, Volume, ANY, SAMPLE};
 use crate::testing::{Oracle, Subject};
 use crate::{check, report, summary, FormatRequest};
@@ -109,6 +111,9 @@ fn wide_times() {
         rename(b"ab", b"new"),
         rename(b"ab", b"ab"),
         rename(b"none", b"new"),
+        rename_set(&[(b"ab", b"new")]),
+        rename_set(&[(b"ab", b"ab")]),
+        rename_set(&[(b"none", b"new")]),
         read(b"ab", 0, 1),
         read(b"none", 0, 0),
         read(b"ab", u64::MAX, 0),

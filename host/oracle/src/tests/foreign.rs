@@ -9,7 +9,9 @@ use crate::testing::cuts::foreign_files;
 use crate::testing::damage::table_field;
 use crate::testing::foreign::{each_call, every_choice};
 use crate::testing::images::{blank, put_file};
-use crate::testing::requests::{create, delete, find, list, read, rename, resize, write};
+use crate::testing::requests::{
+    create, delete, find, list, read, rename, rename_set, resize, write,
+};
 use crate::testing::volumes::{Volume, ANY};
 use crate::testing::{Filled, Oracle, Subject};
 use crate::{carry_out, check, find as find_file};
@@ -88,6 +90,9 @@ fn fewer_than_k_free() {
         (13, rename(b"be ta", b"new")),
         (13, rename(b"be ta", b"rest")),
         (0, rename(b"rest", b"rest")),
+        (13, rename_set(&[(b"be ta", b"t"), (b"t", b"rest")])),
+        (9, rename_set(&[(b"be ta", b"t"), (b"be ta", b"rest")])),
+        (0, rename_set(&[(b"rest", b"rest")])),
         (0, find(b"rest")),
         (0, Request::Check),
     ] {
@@ -184,16 +189,17 @@ fn every_choice_of_free_extents() {
             let refused = given[13];
             match free.len() {
                 // All but summary, check, find, what changes nothing, and what only reads.
-                0 => assert_eq!((refused, given[0]), (12, 11), "{given:?}"),
+                0 => assert_eq!((refused, given[0]), (14, 12), "{given:?}"),
                 // Only what needs an extent.
-                1 => assert_eq!((refused, given[0]), (4, 19), "{given:?}"),
-                _ => assert_eq!((refused, given[0]), (0, 23), "{given:?}"),
+                1 => assert_eq!((refused, given[0]), (4, 22), "{given:?}"),
+                _ => assert_eq!((refused, given[0]), (0, 26), "{given:?}"),
             }
             for (sum, given) in codes.iter_mut().zip(given) {
                 *sum += given;
             }
         }
-        assert_eq!(codes[0] + codes[13], 64 * 23);
+        // A set's second rename has no file.
+        assert_eq!((codes[0] + codes[13], codes[9]), (64 * 26, 64));
     }
 }
 

@@ -6,7 +6,9 @@ use crate::draw::Draw;
 use crate::layout::{put16, put32, Edition, SECTOR};
 use crate::request::{Answer, Request};
 use crate::testing::damage::{spoil_fields, FAULTS};
-use crate::testing::requests::{create, delete, find, list, read, rename, resize, write};
+use crate::testing::requests::{
+    create, delete, find, list, read, rename, rename_set, resize, write,
+};
 use crate::testing::volumes::{some_files_of, ANY, ANY_LIST};
 use crate::testing::{checks_alike, Filled, Oracle, Subject};
 use crate::{format_record, recover, summary, FormatRequest};
@@ -132,6 +134,7 @@ fn judging_calls() -> Vec<Request> {
         resize(b"ab", 131_074),
         write(b"abc", 0, vec![1; 600]),
         rename(b"abc", b"ab"),
+        rename_set(&[(b"abc", b"x"), (b"x", b"ab")]),
     ]
 }
 

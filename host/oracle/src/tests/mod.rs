@@ -17,4 +17,5 @@ mod renames;
 mod repairs;
 mod runs;
 mod scratch;
+mod sets;
 mod slices;

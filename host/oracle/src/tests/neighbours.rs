@@ -78,9 +78,9 @@ fn fill_directory(ledger: &mut Ledger) {
     }
 }
 
-const KINDS: u64 = 7;
+const KINDS: u64 = 8;
 
-/// A call of this kind with the first of these names; of a rename with the first two.
+/// A call of this kind with the first of these names; of a rename with the first two, of a set with all.
 fn draw_call(kind: u64, names: &[&[u8]], draw: &mut Draw) -> Request {
     let name = names[0].to_vec();
     let time = draw.below(1_000_000);
@@ -110,9 +110,14 @@ fn draw_call(kind: u64, names: &[&[u8]], draw: &mut Draw) -> Request {
             data: draw_data(draw),
             time,
         },
-        _ => Request::Rename {
+        6 => Request::Rename {
             old: name,
             new: names[1].to_vec(),
+            time,
+        },
+        _ => Request::RenameSet {
+            names: names.concat(),
+            lengths: names.iter().map(|name| name.len() as u64).collect(),
             time,
         },
     }

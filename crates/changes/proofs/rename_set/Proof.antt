@@ -1,0 +1,41 @@
+-- `changes::rename_set` meets its contract. The judgement refuses, or `rename_set::rename_set_in` gives the answer and the list.
+use Prim.Native.Nat.{_/_}
+use mathlib.Core.Path.{sym, ap, _∙_}
+use lib.ListN.{length}
+use Rattle.model.specs.declared.Verdict.{Verdict}
+use Rattle.model.specs.Disk.{view}
+use Rattle.model.specs.RenameSet.{renameSetConditions, setPlanned, renameSetDecision, renameSetAnswer, renameSetList}
+use Rattle.commit.proofs.Decided.{refused-as-judged}
+use borrow.Author.Needs.{needs}
+use Rattle.changes.proofs.rename_set.Statement.{statement}
+use Rattle.changes.proofs.rename_set.Tie as tie
+
+judge-requires : tie.Need-judge-requires
+judge-requires c κs = search needs
+
+rename-set-in-requires : tie.Need-rename-set-in-requires
+rename-set-in-requires c κs = ap (λ (v : Verdict). v .number) (sym (c .before .before .before .judge .ensures)) ∙ c .before .if1 .taken
+
+same-length : tie.Need-same-length
+same-length c = search needs
+
+returns : tie.Need-returns
+returns c = search needs
+
+refused-requires : tie.Need-refused-requires
+refused-requires c κs = search needs
+
+returns-2 : tie.Need-returns-2
+unfolding renameSetAnswer renameSetList renameSetDecision
+returns-2 c =
+    let a = c .before .before .before .before .before .before .before .before .args in
+    let d = view (a .img .now) in
+    let h = refused-as-judged (length (a .img .now)) d (renameSetConditions d (a .names .now) (a .lengths .now) (a .time))
+    (setPlanned d (a .names .now) (a .lengths .now) (a .time) (length (a .lengths .now) / 2)) (a .list .now)
+    (c .before .before .before .judge .result) (c .before .before .before .judge .ensures) (c .before .if1 .left) in
+    (c .refused .ensures ∙ h .0, h .1)
+
+pub rename-set-spec : {M : Type 1} → statement M
+rename-set-spec =
+    tie.close
+    (tie.spec judge-requires rename-set-in-requires same-length returns refused-requires returns-2)

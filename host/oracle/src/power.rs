@@ -2,7 +2,7 @@
 //! group, any subset of that group's records, and nothing later.
 
 use crate::draw::Draw;
-use crate::layout::{get64, JOURNAL_ENTRIES_IN_SECTOR, SECTOR};
+use crate::layout::{get64, sector, Sector, JOURNAL_ENTRIES_IN_SECTOR, SECTOR};
 use crate::ledger::CutReport;
 use crate::lists::{BARRIER, CONTENTS, NUMBER, RECORD};
 
@@ -91,6 +91,29 @@ impl Cut {
         groups.last().is_some_and(|last| {
             self.groups_before + 1 == groups.len() && self.landed.len() == last.len()
         })
+    }
+}
+
+/// The sectors that a list writes as they were, to be put back after a cut that was only tried.
+#[derive(PartialEq, Eq)]
+pub struct Kept {
+    sectors: Vec<(Sector, [u8; SECTOR])>,
+}
+
+impl Kept {
+    /// All sectors of the list must be the image's.
+    pub fn of(groups: &[Group], image: &[u8]) -> Kept {
+        let written = groups.iter().flatten().map(|record| Sector(record.sector));
+        Kept {
+            sectors: written.map(|at| (at, *sector(image, at))).collect(),
+        }
+    }
+
+    pub fn put_back(&self, image: &mut [u8]) {
+        for (at, contents) in &self.sectors {
+            let at = at.0 as usize * SECTOR;
+            image[at..at + SECTOR].copy_from_slice(contents);
+        }
     }
 }
 

@@ -1,11 +1,13 @@
 //! Names, indexes, offsets, counts and output lengths at every edge.
 
 use crate::counts::{count, Compared};
-use crate::shared::{alike, ask, calls, on_both, output, with_each_buffer};
+use crate::shared::{alike, calls, on_both, output, with_each_buffer};
 use oracle::draw::Draw;
+use oracle::testing::beside::Calls;
 use oracle::testing::requests::{create, find, list, read, rename, rename_set, write};
 use oracle::testing::volumes::some_files_of;
 use oracle::Lent;
+use soak::proved::Proved;
 
 /// Names that are taken, that begin alike, and bad ones.
 fn names() -> Vec<Vec<u8>> {
@@ -206,7 +208,7 @@ fn empty_slices() {
             for image in [&[][..], &image] {
                 count(Compared::ArgumentEdges, 1);
                 assert_eq!(
-                    ask(&request, image, &mut [], &mut []),
+                    Proved.ask(&request, image, &mut [], &mut []),
                     request.ask(image, &mut [], &mut []),
                     "{request:?}"
                 );

@@ -5,25 +5,8 @@ use crate::shared::Both;
 use oracle::draw::Draw;
 use oracle::layout::SECTOR;
 use oracle::lists::{BARRIER, RECORD};
+use oracle::testing::records::{draw_list, filled_with, list_of, record};
 use oracle::testing::Subject;
-
-/// A sector number and what is to stand in the sector.
-type Write = (u64, Vec<u8>);
-
-fn filled(number: u64, byte: u8) -> Write {
-    (number, vec![byte; SECTOR])
-}
-
-/// A record at a position.
-fn record(position: u64, (number, contents): &Write) -> Vec<u8> {
-    let front = [position.to_be_bytes(), number.to_be_bytes()].concat();
-    [&front[..], contents].concat()
-}
-
-fn list_of(writes: &[Write]) -> Vec<u8> {
-    let records = (0..).zip(writes);
-    records.flat_map(|(k, write)| record(k, write)).collect()
-}
 
 #[test]
 fn lists_by_hand() {
@@ -33,17 +16,22 @@ fn lists_by_hand() {
         Both.carry_out(&mut image, list)
     };
     assert_eq!(after(&[]), 0);
-    assert_eq!(after(&list_of(&[filled(BARRIER, 0)])), 0);
-    let twice = [filled(2, 1), filled(BARRIER, 0), filled(2, 5), filled(0, 6)];
+    assert_eq!(after(&list_of(&[filled_with(BARRIER, 0)])), 0);
+    let twice = [
+        filled_with(2, 1),
+        filled_with(BARRIER, 0),
+        filled_with(2, 5),
+        filled_with(0, 6),
+    ];
     assert_eq!(after(&list_of(&twice)), 0);
-    let good = filled(0, 1);
+    let good = filled_with(0, 1);
     for bad in [
-        filled(3, 0),
-        filled(BARRIER - 1, 0),
-        filled(1 << 55, 0),
-        filled((1 << 55) + 1, 0),
-        filled(1 << 63, 0),
-        filled(BARRIER, 1),
+        filled_with(3, 0),
+        filled_with(BARRIER - 1, 0),
+        filled_with(1 << 55, 0),
+        filled_with((1 << 55) + 1, 0),
+        filled_with(1 << 63, 0),
+        filled_with(BARRIER, 1),
         (BARRIER, [&[0; SECTOR - 1][..], &[1]].concat()),
         (BARRIER, [&[1][..], &[0; SECTOR - 1]].concat()),
     ] {
@@ -67,11 +55,11 @@ fn positions_out_of_order() {
         Both.carry_out(&mut image, list)
     };
     let writes = [
-        filled(2, 1),
-        filled(BARRIER, 0),
-        filled(0, 5),
-        filled(BARRIER, 0),
-        filled(3, 9),
+        filled_with(2, 1),
+        filled_with(BARRIER, 0),
+        filled_with(0, 5),
+        filled_with(BARRIER, 0),
+        filled_with(3, 9),
     ];
     let records: Vec<Vec<u8>> = (0..).zip(&writes).map(|(k, w)| record(k, w)).collect();
     assert_eq!(after(&records.concat()), 0);
@@ -104,7 +92,11 @@ fn positions_out_of_order() {
 
 #[test]
 fn images_of_every_length() {
-    let list = list_of(&[filled(0, 1), filled(1, 2), filled(BARRIER, 0)]);
+    let list = list_of(&[
+        filled_with(0, 1),
+        filled_with(1, 2),
+        filled_with(BARRIER, 0),
+    ]);
     for length in 0..=3 * SECTOR {
         let mut image = vec![7; length];
         let code = Both.carry_out(&mut image, &list);
@@ -126,7 +118,7 @@ fn images_of_every_length() {
 
 #[test]
 fn lists_of_every_length() {
-    let list = list_of(&[filled(0, 1), filled(1, 2)]);
+    let list = list_of(&[filled_with(0, 1), filled_with(1, 2)]);
     for length in 0..=list.len() {
         let mut image = vec![7; 2 * SECTOR];
         Both.carry_out(&mut image, &list[..length]);
@@ -140,30 +132,7 @@ fn random_lists() {
     for _ in 0..4_000 {
         let sectors = draw.between(1, 12);
         let mut image = draw.bytes(sectors as usize * SECTOR);
-        let mut list = Vec::new();
-        for position in 0..draw.below(20) {
-            let number = match draw.below(60) {
-                0 => sectors,
-                1 => draw.number(),
-                2..=9 => BARRIER,
-                _ => draw.below(sectors),
-            };
-            let mut contents = draw.bytes(SECTOR);
-            if number == BARRIER {
-                contents.fill(0);
-                if draw.one_in(30) {
-                    contents[draw.below(SECTOR as u64) as usize] = 1;
-                }
-            }
-            let position = match draw.below(60) {
-                0 => draw.below(20),
-                _ => position,
-            };
-            list.extend(record(position, &(number, contents)));
-        }
-        if draw.one_in(20) {
-            list.truncate(draw.below(list.len() as u64 + 1) as usize);
-        }
+        let list = draw_list(sectors, &mut draw);
         codes[Both.carry_out(&mut image, &list) as usize] += 1;
     }
     assert!(codes[0] > 500 && codes[8] > 500, "{codes:?}");

@@ -9,52 +9,10 @@ use std::io::Write;
 use std::path::Path;
 use std::process::Command;
 
+pub use oracle::testing::Compared;
 use oracle::testing::Counts;
 
 const FILE_VARIABLE: &str = "COUNTS_FILE";
-
-/// What is counted, and how it is told.
-#[derive(Clone, Copy, PartialEq, Eq, PartialOrd, Ord)]
-pub enum Compared {
-    Calls,
-    RandomRuns,
-    CallsInRuns,
-    Cuts,
-    Recoveries,
-    CutRecoveries,
-    Slices,
-    CutSlices,
-    DamagedImages,
-    Truncations,
-    ArgumentEdges,
-    ExactBuffers,
-    ShortBuffers,
-}
-
-const ALL: [(Compared, &str); 13] = [
-    (Compared::Calls, "calls put to both sides"),
-    (Compared::RandomRuns, "random runs"),
-    (Compared::CallsInRuns, "calls in random runs"),
-    (Compared::Cuts, "cuts"),
-    (Compared::Recoveries, "recoveries in runs and after cuts"),
-    (Compared::CutRecoveries, "cut recoveries"),
-    (Compared::Slices, "slices among the recoveries"),
-    (Compared::CutSlices, "cut slices"),
-    (
-        Compared::DamagedImages,
-        "damaged images, journals that no call wrote among them",
-    ),
-    (Compared::Truncations, "truncated images"),
-    (Compared::ArgumentEdges, "calls with arguments at edges"),
-    (
-        Compared::ExactBuffers,
-        "lists and outputs exactly long enough",
-    ),
-    (
-        Compared::ShortBuffers,
-        "lists and outputs one byte too short",
-    ),
-];
 
 /// The counts of one thread, written out when it ends.
 struct ThreadCounts(RefCell<BTreeMap<Compared, usize>>);
@@ -69,9 +27,9 @@ impl Drop for ThreadCounts {
             return;
         };
         let mut text = String::new();
-        for (compared, name) in ALL {
+        for compared in Compared::ALL {
             if let Some(times) = self.0.borrow().get(&compared) {
-                text += &format!("{times} {name}\n");
+                text += &format!("{times} {}\n", compared.name());
             }
         }
         let file = OpenOptions::new().create(true).append(true).open(path);
@@ -86,13 +44,7 @@ pub fn count(compared: Compared, times: usize) {
 
 /// Counts what runs or cuts went through.
 pub fn count_all(counts: &Counts) {
-    count(Compared::RandomRuns, counts.runs);
-    count(Compared::CallsInRuns, counts.calls);
-    count(Compared::Cuts, counts.cuts());
-    count(Compared::Recoveries, counts.recoveries);
-    count(Compared::CutRecoveries, counts.cut_recoveries);
-    count(Compared::Slices, counts.slices);
-    count(Compared::CutSlices, counts.cut_slices);
+    counts.tell(count);
 }
 
 #[test]
@@ -113,7 +65,8 @@ fn sums() {
         let times: usize = times.parse().expect("a number");
         *sums.entry(name).or_insert(0) += times;
     }
-    for (_, name) in ALL {
+    for compared in Compared::ALL {
+        let name = compared.name();
         let times = sums.get(name).copied().unwrap_or(0);
         println!("{times:>10} {name}");
         assert!(times > 0);

@@ -4,7 +4,7 @@ use crate::counts::{count, Compared};
 use crate::shared::{latest_time, on_both, Both};
 use oracle::draw::Draw;
 use oracle::lists::RECORD;
-use oracle::testing::volumes::{sample_of, Volume};
+use oracle::testing::volumes::{draw_any_format, sample_of, Volume};
 use oracle::testing::Subject;
 use oracle::FormatRequest;
 
@@ -155,18 +155,7 @@ fn root_fields_at_every_edge() {
 fn random_formats() {
     let mut draw = Draw::new(51);
     for _ in 0..3_000 {
-        let bits = draw.below(64);
-        let request = FormatRequest {
-            sectors: draw.number() >> bits,
-            files: match draw.below(4) {
-                0 => draw.between(1_030, 65_540),
-                _ => draw.between(250, 1_030),
-            },
-            id: draw.number(),
-            mode: draw.number() as u32,
-            time: draw.number() >> *draw.pick(&[0, 32]),
-            edition: *draw.pick(&[0, 1, 1, 1, 2, 2, 2, 3]),
-        };
+        let request = draw_any_format(&mut draw);
         for _ in 0..4 {
             let position = draw.below(2_000);
             let length = *draw.pick(&[0, RECORD - 1, RECORD, RECORD + 1]);

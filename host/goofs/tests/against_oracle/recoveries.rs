@@ -8,22 +8,12 @@ use oracle::layout::{put16, put64, SECTOR};
 use oracle::lists::RECORD;
 use oracle::testing::damage::{draw_journal, journal_field, journal_of_all_targets, set_journal};
 use oracle::testing::volumes::{sample_of, some_files_of, Volume};
-use oracle::testing::{Oracle, Subject};
+use oracle::testing::{with_each_recovery_list, Oracle, Subject};
 
 /// With lists around the length that is needed. Gives the code of the longest.
 fn with_each_list(image: &[u8], entries: usize) -> u64 {
     count(Compared::DamagedImages, 1);
-    let needed = (entries + 3) * RECORD;
-    for length in [0, needed - 1, needed, needed + 1] {
-        Both.recover(image, length);
-    }
-    for budget in [0, 1, 2, entries as u64, u64::MAX] {
-        let slice = Both.recover_slice(image, budget, needed).0.length as usize;
-        for length in [0, slice.saturating_sub(1), slice, slice + 1] {
-            Both.recover_slice(image, budget, length);
-        }
-    }
-    Both.recover(image, needed + RECORD).0.code
+    with_each_recovery_list(&Both, image, entries)
 }
 
 #[test]

@@ -39,32 +39,24 @@ impl LentBuffer {
     }
 
     /// What the lent part holds now, after making sure that the guards were left alone.
-    pub fn contents(mut self) -> Vec<u8> {
-        let end = self.bytes.len() - GUARD;
+    pub fn contents(&self) -> &[u8] {
+        let (before, rest) = self.bytes.split_at(GUARD);
+        let (contents, after) = rest.split_at(rest.len() - GUARD);
         let guard = &PATTERN[..GUARD];
-        assert!(
-            self.bytes[..GUARD] == *guard,
-            "bytes before the buffer changed"
-        );
-        assert!(
-            self.bytes[end..] == *guard,
-            "bytes after the buffer changed"
-        );
-        self.bytes.truncate(end);
-        self.bytes.drain(..GUARD);
-        self.bytes
+        assert!(before == guard, "bytes before the buffer changed");
+        assert!(after == guard, "bytes after the buffer changed");
+        contents
     }
 
     /// The filled start of a buffer that held the pattern, after making sure that the rest still
     /// does.
-    pub fn filled(self, filled: usize) -> Vec<u8> {
-        let mut contents = self.contents();
+    pub fn filled(&self, filled: usize) -> Vec<u8> {
+        let contents = self.contents();
         assert!(
             contents[filled..] == PATTERN[filled..contents.len()],
             "bytes past the answer changed"
         );
-        contents.truncate(filled);
-        contents
+        contents[..filled].to_vec()
     }
 }
 

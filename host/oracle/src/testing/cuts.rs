@@ -209,7 +209,7 @@ fn cut_call_everywhere(
 }
 
 /// Images of more bytes are copied less often.
-const LARGE_IMAGE: usize = 4 << 20;
+pub(super) const LARGE_IMAGE: usize = 4 << 20;
 
 /// Every cut of a recovery's list; of a large image's some.
 fn recovery_cuts(groups: &[Group], image: &[u8], draw: &mut Draw) -> Vec<Cut> {
@@ -330,28 +330,40 @@ pub fn cut_the_format(subject: &dyn Subject) -> usize {
 }
 
 fn cut_a_format(subject: &dyn Subject, format: &FormatRequest) -> usize {
-    let list = format_list(subject, format);
-    let format_groups = groups(&list);
-    let mut draw = Draw::new(13);
     // An older volume of another geometry stands there.
     let mut older = Volume::sample().image;
     older[superblock::EXTENTS + 1] = 3;
-    let cuts = every_cut(&format_groups, 20, &mut draw);
+    let list = format_list(subject, format);
+    let format_groups = groups(&list);
+    let cuts = every_cut(&format_groups, 20, &mut Draw::new(13));
     for cut in &cuts {
-        let mut image = older.clone();
-        cut.apply(&format_groups, &mut image);
-        let told = summary(subject, &image);
-        if cut.groups_before == 0 && cut.landed.is_empty() {
-            assert_eq!(told, summary(subject, &older));
-        } else if cut.landed_whole(&format_groups) {
-            assert_eq!((told.state, told.extents), (state::CLEAN, 4));
-            let ledger = Ledger::new(format).expect("the sample has a geometry");
-            finished(subject, &image, &ledger, cut);
-        } else {
-            assert_eq!((told.state, told.extents), (state::UNFINISHED, 4));
-            assert_eq!(check(subject, &image), code::UNFINISHED);
-            assert_eq!(subject.recover(&image, 0).0.code, code::UNFINISHED);
-        }
+        cut_of_a_format(subject, format, &older, &format_groups, cut);
     }
     cuts.len()
+}
+
+/// Cuts a format of an image on which something else stands: it stays as it was, or the volume is
+/// unfinished, or formatted.
+pub fn cut_of_a_format(
+    subject: &dyn Subject,
+    format: &FormatRequest,
+    older: &[u8],
+    format_groups: &[Group],
+    cut: &Cut,
+) {
+    let ledger = Ledger::new(format).expect("the format is not refused");
+    let extents = ledger.geometry().extents();
+    let mut image = older.to_vec();
+    cut.apply(format_groups, &mut image);
+    let told = summary(subject, &image);
+    if cut.groups_before == 0 && cut.landed.is_empty() {
+        assert_eq!(told, summary(subject, older));
+    } else if cut.landed_whole(format_groups) {
+        assert_eq!((told.state, told.extents), (state::CLEAN, extents));
+        finished(subject, &image, &ledger, cut);
+    } else {
+        assert_eq!((told.state, told.extents), (state::UNFINISHED, extents));
+        assert_eq!(check(subject, &image), code::UNFINISHED);
+        assert_eq!(subject.recover(&image, 0).0.code, code::UNFINISHED);
+    }
 }

@@ -150,7 +150,7 @@ pub fn spoil_fields(rounds: usize, judge: fn(&[u8]) -> CheckAnswer) {
 }
 
 /// Changes one field of a volume of six extents, mostly to a value that is an edge of some rule.
-fn spoil_a_field(image: &mut [u8], draw: &mut Draw) {
+pub fn spoil_a_field(image: &mut [u8], draw: &mut Draw) {
     let index = *draw.pick(&[0, 1, 2, 3, 4, 5, 6, 254]);
     let other = draw.below(8);
     let extent = draw.below(6);

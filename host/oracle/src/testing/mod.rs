@@ -3,8 +3,10 @@
 //! cuts serve the oracle alone and the oracle beside another program.
 
 pub mod audit;
+pub mod beside;
 pub mod buffers;
 pub mod cases;
+mod compared;
 pub mod cuts;
 pub mod damage;
 pub mod foreign;
@@ -20,11 +22,15 @@ pub mod volumes;
 use crate::answers::{
     code, CheckAnswer, FormatRecordAnswer, RecoverAnswer, Refusal, RepairAnswer, SliceAnswer,
 };
+use crate::lists::RECORD;
 use crate::request::{Answer, Lent, Request};
 use crate::sorted_check::scratch_length;
 use crate::FormatRequest;
 use buffers::{LentBuffer, LentScratch};
+use requests::{create, delete, find, list, read, rename, rename_set, resize, write};
 use volumes::ANY;
+
+pub use compared::Compared;
 
 /// The bytes that a call put at the start of its lent buffers.
 #[derive(Clone, Debug, Default, PartialEq, Eq)]
@@ -164,6 +170,60 @@ pub fn with_each_buffer(subject: &dyn Subject, request: &Request, image: &[u8]) 
         }
     }
     (answer.code(), exact)
+}
+
+/// Calls of every kind on `some_files`; none is refused there.
+pub fn calls() -> Vec<Request> {
+    vec![
+        Request::Summary,
+        Request::Check,
+        find(b"a"),
+        find(b"cab"),
+        list(0),
+        list(5),
+        read(b"ab", 65_530, 20),
+        read(b"abc", 0, 65_536),
+        create(b"new", 77),
+        delete(b"ab"),
+        resize(b"ab", 0),
+        resize(b"ab", 131_074),
+        write(b"abc", 0, vec![1; 600]),
+        rename(b"ab", b"new"),
+        rename(b"abc", b"ab"),
+        rename_set(&[(b"ab", b"t"), (b"abc", b"ab"), (b"t", b"abc")]),
+        rename_set(&[(b"cab", b"ab"), (b"ab", b"abc")]),
+    ]
+}
+
+/// Puts these calls, recovery, repair and the checks with scratch to an image. Gives what check says.
+pub fn calls_alike(
+    subject: &dyn Subject,
+    calls: &[Request],
+    image: &[u8],
+    lent: Lent,
+) -> CheckAnswer {
+    for request in calls {
+        subject.ask(request, image, lent);
+    }
+    subject.recover(image, lent.list);
+    subject.repair(image, lent.list);
+    checks_alike(subject, image)
+}
+
+/// Recovers with lists around the length that so many journal entries need, and by slices of some budgets.
+/// Gives the code of the longest list.
+pub fn with_each_recovery_list(subject: &dyn Subject, image: &[u8], entries: usize) -> u64 {
+    let needed = (entries + 3) * RECORD;
+    for length in [0, needed - 1, needed, needed + 1] {
+        subject.recover(image, length);
+    }
+    for budget in [0, 1, 2, entries as u64, u64::MAX] {
+        let slice = subject.recover_slice(image, budget, needed).0.length as usize;
+        for length in [0, slice.saturating_sub(1), slice, slice + 1] {
+            subject.recover_slice(image, budget, length);
+        }
+    }
+    subject.recover(image, needed + RECORD).0.code
 }
 
 /// What runs and cuts went through.

@@ -3,13 +3,13 @@
 
 use super::audit::{audit_groups, staging_sectors};
 use super::damage::entry_field;
-use super::images::{blank, put_file, table_entry};
+use super::images::{blank, blank_of, put_file, table_entry};
 use super::volumes::ANY_LIST;
 use super::Subject;
 use crate::answers::{code, Refusal, RepairAnswer};
 use crate::draw::Draw;
-use crate::layout::{get16, get64, put16, put64, Geometry, SECTOR};
-use crate::power::{every_cut, groups};
+use crate::layout::{get16, get64, put16, put64, Edition, Geometry, SECTOR};
+use crate::power::{every_cut, groups, Cut};
 use crate::{check, summary};
 
 /// What the rules say of a clean volume, one extent after the other.
@@ -166,8 +166,13 @@ pub fn draw_leaky(draw: &mut Draw) -> Vec<u8> {
         0 => draw.between(129, 140),
         _ => draw.between(4, 12),
     };
+    draw_leaky_of(Edition::First, extents, draw)
+}
+
+/// One of this edition with so many extents.
+pub fn draw_leaky_of(edition: Edition, extents: u64, draw: &mut Draw) -> Vec<u8> {
     let geometry = Geometry::new(255, extents, 128).expect("within the bounds");
-    let mut image = blank(geometry, geometry.end().0);
+    let mut image = blank_of(edition, geometry, geometry.end().0);
     let mut left: Vec<u64> = (0..extents).filter(|_| !draw.one_in(3)).collect();
     for index in 0..5 {
         let count = draw.below(4).min(left.len() as u64);
@@ -260,19 +265,29 @@ pub fn cut_a_repair(subject: &dyn Subject) {
     put_file(&mut image, geometry, 0, b"a", 65_536, &[3, 7, 130]);
     put_file(&mut image, geometry, 1, b"b", 131_072, &[129, 4]);
     let (_, list) = subject.repair(&image, ANY_LIST);
-    let mut repaired = image.clone();
-    assert_eq!(subject.carry_out(&mut repaired, &list), 0);
-    assert_eq!(check(&repaired).code, code::DONE);
-    let table = geometry.table_at().0 as usize * SECTOR..geometry.data_at().0 as usize * SECTOR;
     let call_groups = groups(&list);
-    for cut in every_cut(&call_groups, 0, &mut Draw::new(102)) {
-        let mut after = image.clone();
+    let cuts = every_cut(&call_groups, 0, &mut Draw::new(102));
+    cut_of_a_repair(subject, &image, &list, &cuts);
+    assert_eq!(subject.carry_out(&mut image, &list), 0);
+    assert_eq!(check(&image).code, code::DONE);
+}
+
+/// Cuts the list of a repair of this image in these ways: after recovery the table is the old one or the
+/// repaired one.
+pub fn cut_of_a_repair(subject: &dyn Subject, image: &[u8], list: &[u8], cuts: &[Cut]) {
+    let geometry = summary(image).geometry().expect("it was repaired");
+    let mut repaired = image.to_vec();
+    assert_eq!(subject.carry_out(&mut repaired, list), 0);
+    let table = geometry.table_at().0 as usize * SECTOR..geometry.data_at().0 as usize * SECTOR;
+    let call_groups = groups(list);
+    for cut in cuts {
+        let mut after = image.to_vec();
         cut.apply(&call_groups, &mut after);
         let (answer, recovery) = subject.recover(&after, ANY_LIST);
         assert_eq!(answer.code, code::DONE);
         assert_eq!(subject.carry_out(&mut after, &recovery), 0);
         let done = cut.report(&call_groups).start_mark;
-        let expected = if done { &repaired } else { &image };
+        let expected = if done { &repaired } else { image };
         assert!(after[table.clone()] == expected[table.clone()], "{cut:?}");
     }
 }

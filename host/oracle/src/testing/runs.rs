@@ -8,7 +8,7 @@
 use std::ops::RangeInclusive;
 
 use super::audit::audit;
-use super::cuts::recovery_length;
+use super::cuts::{recovery_length, LARGE_IMAGE};
 use super::requests::{create, resize, shortened};
 use super::slices::expected_slice;
 use super::volumes::{format_list, Volume, ANY, ANY_LIST};
@@ -18,7 +18,7 @@ use crate::draw::Draw;
 use crate::layout::{put32, superblock, Geometry, LONGEST_SPAN, SECTOR};
 use crate::ledger::{File, Ledger};
 use crate::lists::RECORD;
-use crate::power::{data_sectors, draw_cut, groups, sector_numbers};
+use crate::power::{data_sectors, draw_cut, groups, sector_numbers, Kept};
 use crate::request::{Answer, Lent, Request};
 use crate::FormatRequest;
 
@@ -35,7 +35,8 @@ pub fn random_runs(subject: &dyn Subject, usual: u64) -> Counts {
     };
     let mut counts = Counts::default();
     for seed in seeds {
-        random_run(subject, seed, &mut counts);
+        let _told_on_failure = Replay(seed);
+        random_run(subject, seed, &USUAL, &mut counts);
     }
     if counts.runs as u64 >= usual {
         counts.assert_all_reached();
@@ -99,10 +100,26 @@ impl Drop for Replay {
     }
 }
 
+/// How much is cut in a run.
+pub struct Cutting {
+    /// Cuts of each list that are tried and taken back, beside the one that may stay; on a large image at
+    /// most one.
+    pub tried: usize,
+    /// A recovery's list lands whole once in so many times.
+    pub whole_once_in: u64,
+    /// It is then carried out by the subject once in so many times, else as a device would.
+    pub carried_once_in: u64,
+}
+
+const USUAL: Cutting = Cutting {
+    tried: 0,
+    whole_once_in: 2,
+    carried_once_in: 1,
+};
+
 /// Draws one run and puts it to the subject: a small volume, or once in so many times one with two
 /// table sectors or with a full directory.
-fn random_run(subject: &dyn Subject, seed: u64, counts: &mut Counts) {
-    let _told_on_failure = Replay(seed);
+pub fn random_run(subject: &dyn Subject, seed: u64, cutting: &Cutting, counts: &mut Counts) {
     let mut draw = Draw::new(seed);
     counts.runs += 1;
     let (two_table_sectors, full_directory) = match draw.below(40) {
@@ -121,6 +138,7 @@ fn random_run(subject: &dyn Subject, seed: u64, counts: &mut Counts) {
     let mut run = Run {
         subject,
         volume: draw_format(subject, geometry, &mut draw),
+        cutting,
         draw,
         counts,
     };
@@ -140,6 +158,27 @@ fn random_run(subject: &dyn Subject, seed: u64, counts: &mut Counts) {
     for _ in 0..steps {
         run.step();
     }
+}
+
+/// A volume of this geometry after a short run of the oracle, perhaps with another writer's files, and so
+/// many calls drawn for it.
+pub fn after_a_run(geometry: Geometry, calls: usize, draw: &mut Draw) -> (Volume, Vec<Request>) {
+    let mut run = Run {
+        subject: &Oracle,
+        volume: draw_format(&Oracle, geometry, draw),
+        cutting: &USUAL,
+        draw: Draw::new(draw.number()),
+        counts: &mut Counts::default(),
+    };
+    if run.draw.one_in(2) {
+        run.put_foreign_files();
+    }
+    for _ in 0..run.draw.below(40) {
+        run.step();
+    }
+    run.volume.disturb(&mut run.draw);
+    let requests = (0..calls).map(|_| run.draw_request()).collect();
+    (run.volume, requests)
 }
 
 fn draw_small_geometry(draw: &mut Draw) -> Option<Geometry> {
@@ -185,6 +224,7 @@ fn draw_format(subject: &dyn Subject, geometry: Geometry, draw: &mut Draw) -> Vo
 struct Run<'s> {
     subject: &'s dyn Subject,
     volume: Volume,
+    cutting: &'s Cutting,
     draw: Draw,
     counts: &'s mut Counts,
 }
@@ -297,6 +337,11 @@ impl Run<'_> {
         if self.draw.one_in(20) {
             self.drop_a_record(&list);
         }
+        let large = self.volume.image.len() >= LARGE_IMAGE;
+        let tried = self.cutting.tried.min(if large { 1 } else { usize::MAX });
+        for _ in 0..tried {
+            self.try_a_cut(request, lent, &list);
+        }
         if self.draw.one_in(3) {
             self.cut(request, lent, &list);
         } else {
@@ -314,6 +359,16 @@ impl Run<'_> {
         let carried = self.subject.carry_out(&mut self.volume.image, &shorter);
         assert_eq!(carried, code::BAD_ARGUMENT);
         self.counts.lost_records += 1;
+    }
+
+    /// A cut with its recoveries, which is taken back: they write no other sectors than the list.
+    fn try_a_cut(&mut self, request: &Request, lent: Lent, list: &[u8]) {
+        let kept = Kept::of(&groups(list), &self.volume.image);
+        let ledger = self.volume.ledger.clone();
+        self.cut(request, lent, list);
+        self.volume.compare();
+        self.volume.ledger = ledger;
+        kept.put_back(&mut self.volume.image);
     }
 
     /// The power fails while the list is carried out; recoveries follow until one is completed.
@@ -404,14 +459,25 @@ impl Run<'_> {
     /// Carries out a recovery's list, or a part of it; whether all of it landed.
     fn land(&mut self, list: &[u8]) -> bool {
         let groups = groups(list);
-        let cut = draw_cut(&groups, &mut self.draw).filter(|_| self.draw.one_in(2));
+        let Cutting {
+            whole_once_in,
+            carried_once_in,
+            ..
+        } = *self.cutting;
+        let drawn = draw_cut(&groups, &mut self.draw);
+        let cut = drawn.filter(|_| self.draw.below(whole_once_in) + 1 < whole_once_in);
         match cut {
             Some(cut) => {
                 cut.apply(&groups, &mut self.volume.image);
                 cut.landed_whole(&groups)
             }
             None => {
-                let carried = self.subject.carry_out(&mut self.volume.image, list);
+                let image = &mut self.volume.image;
+                let carried = if carried_once_in == 1 || self.draw.one_in(carried_once_in) {
+                    self.subject.carry_out(image, list)
+                } else {
+                    Oracle.carry_out(image, list)
+                };
                 assert_eq!(carried, 0);
                 true
             }
@@ -421,7 +487,7 @@ impl Run<'_> {
     /// Until it is recovered, the volume refuses every other call but the summary.
     fn call_of_a_waiting_volume(&mut self) {
         let request = self.draw_request();
-        let (answer, _) = self.ask(&request, ANY);
+        let (answer, _) = self.ask(&request, Lent::both(RECORD));
         let expected = match request {
             Request::Summary => code::DONE,
             _ => code::WAITING,

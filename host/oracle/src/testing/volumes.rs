@@ -43,6 +43,22 @@ pub fn format_list(subject: &dyn Subject, format: &FormatRequest) -> Vec<u8> {
     list
 }
 
+/// A format of any arguments; many are refused.
+pub fn draw_any_format(draw: &mut Draw) -> FormatRequest {
+    let bits = draw.below(64);
+    FormatRequest {
+        sectors: draw.number() >> bits,
+        files: match draw.below(4) {
+            0 => draw.between(1_030, 65_540),
+            _ => draw.between(250, 1_030),
+        },
+        id: draw.number(),
+        mode: draw.number() as u32,
+        time: draw.number() >> *draw.pick(&[0, 32]),
+        edition: *draw.pick(&[0, 1, 1, 1, 2, 2, 2, 3]),
+    }
+}
+
 /// An image with the ledger of the same run.
 #[derive(Clone)]
 pub struct Volume {

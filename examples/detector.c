@@ -8,6 +8,8 @@
  *                                       saves these texts as the set, reads it back and prints it
  *     detector --boot IMAGE             finishes a change that was cut, a few sectors at a time, as a boot loader does
  *
+ * With --log LOG as the first words it appends each call to the file LOG before the call's first write (docs/RELAY.md).
+ *
  * Each other start first finishes a change that was cut, and removes what a save that was cut has left. The calls take some hundred KiB of
  * stack (include/goofs.h says how much); a thread with a small stack must be given more before it makes one.
  *
@@ -141,6 +143,79 @@ static void write_sector(const struct card *card, uint64_t sector, const uint8_t
     }
 }
 
+/* -------------------- the log of docs/RELAY.md: a line for each call, out before the call's first write */
+
+static FILE *log_file; /* none without --log */
+static uint32_t log_sum;
+
+static void log_byte(char c)
+{
+    int bit;
+
+    if (log_file == NULL)
+        return;
+    putc(c, log_file);
+    log_sum ^= (uint8_t)c;
+    for (bit = 0; bit < 8; bit++)
+        log_sum = (log_sum >> 1) ^ (UINT32_C(0xedb88320) & (0 - (log_sum & 1)));
+}
+
+static void log_text(const char *text)
+{
+    while (*text != '\0')
+        log_byte(*text++);
+}
+
+/* A number behind its key; a mode is octal. */
+static void log_number(const char *key, uint64_t value, const char *format)
+{
+    char digits[32];
+
+    (void)snprintf(digits, sizeof digits, format, value);
+    log_text(key);
+    log_text(digits);
+}
+
+/* Bytes behind their key, those of a name that need no escape as they are. */
+static void log_bytes(const char *key, const uint8_t *bytes, size_t length, int is_name)
+{
+    size_t i;
+
+    log_text(key);
+    for (i = 0; i < length; i++) {
+        if (is_name && bytes[i] > 32 && bytes[i] < 127 && bytes[i] != '%')
+            log_byte((char)bytes[i]);
+        else
+            log_number("", bytes[i], is_name ? "%%%02" PRIx64 : "%02" PRIx64);
+    }
+}
+
+static void log_begin(const char *call)
+{
+    log_sum = UINT32_MAX;
+    log_text("goofs ");
+    log_text(call);
+}
+
+/* The line is on its medium before the card is written to. */
+static void log_end(void)
+{
+    uint32_t sum = ~log_sum;
+
+    log_number(" sum=", sum, "%08" PRIx64);
+    log_text("\n");
+    if (log_file != NULL && (fflush(log_file) != 0 || fsync(fileno(log_file)) != 0))
+        system_failure("log");
+}
+
+static void log_line(const char *call)
+{
+    log_begin(call);
+    log_end();
+}
+
+/* -------------------- lists */
+
 /* Does one record on the file: a sector's contents, or a barrier. */
 static void land(const struct card *card, const uint8_t *record)
 {
@@ -163,6 +238,13 @@ static void carry_out(struct card *card, const uint8_t *records, uint64_t length
     for (at = 0; at < length; at += GOOFS_RECORD)
         land(card, records + at);
     done("carry out", goofs_carry_out(card->image, card->length, records, (size_t)length));
+}
+
+/* The same of a call, whose line is in the log. */
+static void carry_out_call(struct card *card, const uint8_t *records, uint64_t length)
+{
+    carry_out(card, records, length);
+    log_line("done");
 }
 
 /* Reads the whole image file. */
@@ -246,6 +328,14 @@ static void format(const char *path, uint64_t sectors)
         errno = error;
         system_failure(path);
     }
+    log_begin("format");
+    log_number(" sectors=", sectors, "%" PRIu64);
+    log_number(" files=", FILES, "%" PRIu64);
+    log_number(" edition=", EDITION, "%" PRIu64);
+    log_number(" id=", ROOT_ID, "%" PRIu64);
+    log_number(" mode=", MODE, "%" PRIo64);
+    log_number(" time=", now, "%" PRIu64);
+    log_end();
     while (answer.code == GOOFS_DONE) {
         land(&card, record);
         position++;
@@ -253,6 +343,7 @@ static void format(const char *path, uint64_t sectors)
     }
     if (answer.code != GOOFS_NOT_THERE) /* past the last record, so all of them have landed */
         done("format", answer.code);
+    log_line("done");
     sync_folder(path);
     if (close(card.file) != 0)
         system_failure(path);
@@ -277,6 +368,8 @@ static void boot(struct card *card)
         feed_watchdog();
         slice = goofs_recover_slice(card->image, card->length, SLICE, list.slice, sizeof list.slice);
         done("recover", slice.code);
+        if (slice.count != 0)
+            log_line("recover");
         carry_out(card, list.slice, slice.length);
     } while (slice.count != 0);
 }
@@ -290,15 +383,20 @@ static const uint8_t *bytes(const char *name)
 /* Removes a file beside that a save did not come to rename. Gives GOOFS_NO_ROOM where it can't be removed. */
 static uint64_t remove_beside(struct card *card, const struct part *part)
 {
-    goofs_change_result answer = goofs_delete(card->image, card->length, bytes(part->beside), strlen(part->beside),
-                                              (uint64_t)time(NULL), list.removal, sizeof list.removal);
+    uint64_t now = (uint64_t)time(NULL);
+    goofs_change_result answer = goofs_delete(card->image, card->length, bytes(part->beside), strlen(part->beside), now, list.removal,
+                                              sizeof list.removal);
 
     if (answer.code == GOOFS_NOT_THERE)
         return GOOFS_DONE;
     if (answer.code == GOOFS_NO_ROOM)
         return answer.code;
     done("delete", answer.code);
-    carry_out(card, list.removal, answer.length);
+    log_begin("delete");
+    log_bytes(" name=", bytes(part->beside), strlen(part->beside), 1);
+    log_number(" time=", now, "%" PRIu64);
+    log_end();
+    carry_out_call(card, list.removal, answer.length);
     fputs("detector: removed what a save that was cut had left\n", stderr);
     return GOOFS_DONE;
 }
@@ -327,6 +425,7 @@ static uint64_t start(struct card *card)
         /* If the power goes here too, the volume still waits, and the next start asks again. */
         goofs_length_result answer = goofs_recover(card->image, card->length, list.recover, sizeof list.recover);
         done("recover", answer.code);
+        log_line("recover");
         carry_out(card, list.recover, answer.length);
         fprintf(stderr, "detector: finished a change that was cut, of %" PRIu64 " sectors\n", summary.entries);
     }
@@ -375,10 +474,22 @@ static void save_beside(struct card *card, const struct part *part, const char *
         answer = goofs_create(card->image, card->length, beside, length, id, MODE, now, list.create, sizeof list.create);
     } while (answer.code == GOOFS_ALREADY_THERE);
     done("create", answer.code);
-    carry_out(card, list.create, answer.length);
+    log_begin("create");
+    log_bytes(" name=", beside, length, 1);
+    log_number(" id=", id, "%" PRIu64);
+    log_number(" mode=", MODE, "%" PRIo64);
+    log_number(" time=", now, "%" PRIu64);
+    log_end();
+    carry_out_call(card, list.create, answer.length);
     answer = goofs_write(card->image, card->length, beside, length, 0, contents, sizeof contents, now, list.write, sizeof list.write);
     done("write", answer.code);
-    carry_out(card, list.write, answer.length);
+    log_begin("write");
+    log_bytes(" name=", beside, length, 1);
+    log_number(" offset=", 0, "%" PRIu64);
+    log_number(" time=", now, "%" PRIu64);
+    log_bytes(" data=", contents, sizeof contents, 0);
+    log_end();
+    carry_out_call(card, list.write, answer.length);
 }
 
 static void save(struct card *card, const char *text)
@@ -392,7 +503,12 @@ static void save(struct card *card, const char *text)
     answer = goofs_rename(card->image, card->length, bytes(part->beside), strlen(part->beside), bytes(part->name), strlen(part->name), now,
                           list.rename, sizeof list.rename);
     done("rename", answer.code);
-    carry_out(card, list.rename, answer.length);
+    log_begin("rename");
+    log_bytes(" old=", bytes(part->beside), strlen(part->beside), 1);
+    log_bytes(" new=", bytes(part->name), strlen(part->name), 1);
+    log_number(" time=", now, "%" PRIu64);
+    log_end();
+    carry_out_call(card, list.rename, answer.length);
 }
 
 /* Until the last change the three old files and the three new ones are on the card. */
@@ -420,7 +536,14 @@ static void save_set(struct card *card, char *const texts[])
     if (answer.code == GOOFS_BAD_ARGUMENT || answer.code == GOOFS_NOT_THERE)
         fprintf(stderr, "detector: rename %" PRIu64 " of the set\n", answer.place);
     done("rename set", answer.code);
-    carry_out(card, list.rename_set, answer.length);
+    log_begin("rename_set");
+    for (i = 0; i < PARTS; i++) {
+        log_bytes(" old=", bytes(set[i].beside), strlen(set[i].beside), 1);
+        log_bytes(" new=", bytes(set[i].name), strlen(set[i].name), 1);
+    }
+    log_number(" time=", now, "%" PRIu64);
+    log_end();
+    carry_out_call(card, list.rename_set, answer.length);
 }
 
 static void print(const struct card *card, const struct part *part)
@@ -464,6 +587,13 @@ int main(int argc, char **argv)
     const char *path;
     int is_boot, is_set, words;
 
+    if (argc > 2 && strcmp(argv[1], "--log") == 0) {
+        log_file = fopen(argv[2], "a");
+        if (log_file == NULL)
+            system_failure(argv[2]);
+        argc -= 2;
+        argv += 2;
+    }
     if (argc == 4 && strcmp(argv[1], "--format") == 0) {
         char *end;
         unsigned long long sectors;
@@ -488,6 +618,8 @@ int main(int argc, char **argv)
     if (card.file < 0)
         system_failure(path);
     lock(&card);
+    log_text("\n"); /* ends a line that was cut off */
+    log_line("start");
     if (is_boot) {
         boot(&card);
     } else {

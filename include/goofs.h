@@ -2,8 +2,25 @@
  *
  * A slice passes as pointer then length; the pointer may be null where the length is 0. Slices of one call must not overlap.
  * No call keeps a pointer, takes memory or touches anything but the slices that it is lent. Every call ends with an answer, on
- * any bytes and any arguments. Measured, a call uses at most 16 KiB of stack on a volume of 255 files and 3 extents, and with 65,535 of
- * each at most 331 KiB (repair; resize 266 KiB, check 257 KiB).
+ * any bytes and any arguments. The stack that a call takes depends on the volume's files and extents alone, as its arrays have a few sizes;
+ * measured in bytes, of the library as `rt staticlib` compiles it, on x86-64 (`bench stack`, bench/README.md):
+ *
+ *     files up to                          1,024    1,024    1,024    65,535
+ *     extents up to                        1,024    4,096   65,535    65,535
+ *
+ *     check                                6,800    6,800   68,336   263,088
+ *     find, list, read, create, write      8,144    8,144   69,680   264,432
+ *     resize, delete, rename              15,808   15,808   77,344   272,096
+ *     rename_set                          14,080   14,080   75,616   270,368
+ *     repair                              15,800   51,768  338,616   338,616
+ *     recover                                304      304      304       304
+ *     the same of another writer's journal 4,792    4,792    4,792   133,160
+ *     recover_slice                          320      320      320       320
+ *     check_with                             384      384      384       384
+ *     format_record                          632      632      632       632
+ *     summary, carry_out, longest_list       184      184      184       184
+ *
+ * Another writer's journal is one whose targets don't rise; no change of these calls leaves one.
  *
  * `code` is a number of `enum goofs_code`; the lowest whose condition holds is given (but see goofs_rename_set). With any code but 0 all
  * other result numbers are 0 (except fault and place with 7, and place with 8 and 9 of goofs_rename_set) and no byte of a buffer has
@@ -90,22 +107,40 @@ extern "C" {
 #define GOOFS_RECORDS(data, targets) ((data) + 2 * (targets) + ((targets) + 31) / 32 + 2 + 4)
 #define GOOFS_RECOVERY_RECORDS(targets) ((targets) + 1 + 2)
 
-/* The longest list that each call can give, in bytes. Targets are the root, the entry, that of a file which a rename replaces, and
- * at most 512 sectors of the allocation table; a set of renames has two entries for each, and so 1,081 records; a write touches at most
- * 129 data sectors and one of the table; a journal has at most 1,024 entries. */
-#define GOOFS_ACCESS_LIST (GOOFS_RECORDS(0, 1) * GOOFS_RECORD) /* of goofs_read and goofs_list: this long or empty */
-#define GOOFS_CREATE_LIST (GOOFS_RECORDS(0, 2) * GOOFS_RECORD)
-#define GOOFS_DELETE_LIST (GOOFS_RECORDS(0, 2 + 512) * GOOFS_RECORD)
-#define GOOFS_RENAME_LIST (GOOFS_RECORDS(0, 3 + 512) * GOOFS_RECORD)
-#define GOOFS_RENAME_SET_LIST (GOOFS_RECORDS(0, 1 + 2 * GOOFS_MOST_RENAMES + 512) * GOOFS_RECORD)
-#define GOOFS_RESIZE_LIST (GOOFS_RECORDS(0, 1 + 512) * GOOFS_RECORD)
-#define GOOFS_WRITE_LIST (GOOFS_RECORDS(129, 2) * GOOFS_RECORD)
-#define GOOFS_RECOVER_LIST (GOOFS_RECOVERY_RECORDS(1024) * GOOFS_RECORD)
-#define GOOFS_REPAIR_LIST (GOOFS_RECORDS(0, 512) * GOOFS_RECORD)
-#define GOOFS_SLICE_LIST(budget) (((budget) + 1) * GOOFS_RECORD)
+/* The sectors of the allocation table of a volume with so many extents, and the extents that must stay free of one with so many extents
+ * of so many sectors. */
+#define GOOFS_TABLE_SECTORS(extents) (((extents) + 127) / 128)
+#define GOOFS_RESERVE(extents, extent_sectors) ((GOOFS_TABLE_SECTORS(extents) + 3 + (extent_sectors) - 1) / (extent_sectors))
 
-/* The extents that must stay free of a volume with so many extents of so many sectors. */
-#define GOOFS_RESERVE(extents, extent_sectors) ((((extents) + 127) / 128 + 3 + (extent_sectors) - 1) / (extent_sectors))
+/* The longest list that each call can give, in bytes, by the volume's geometry, for buffers of a fixed length; goofs_longest_list gives the
+ * same numbers while the program runs. Targets are the root, the entry, that of a file which a rename replaces, and sectors of the
+ * allocation table; a set of renames has two entries for each, but no more targets than the reserve has sectors; a write touches at most
+ * 129 data sectors and one of the table, and a resize that grows is one; a journal has at most 1,024 entries, each with a target of its
+ * own in root, directory or table. */
+#define GOOFS_LESSER(a, b) ((a) < (b) ? (a) : (b))
+#define GOOFS_GREATER(a, b) ((a) < (b) ? (b) : (a))
+#define GOOFS_CHANGE_LIST(targets) (GOOFS_RECORDS(0, targets) * GOOFS_RECORD)
+#define GOOFS_ACCESS_LIST GOOFS_CHANGE_LIST(1) /* of goofs_read and goofs_list: this long or empty */
+#define GOOFS_CREATE_LIST GOOFS_CHANGE_LIST(2)
+#define GOOFS_WRITE_LIST (GOOFS_RECORDS(129, 2) * GOOFS_RECORD)
+#define GOOFS_DELETE_LIST_ON(extents) GOOFS_CHANGE_LIST(2 + GOOFS_TABLE_SECTORS(extents))
+#define GOOFS_RENAME_LIST_ON(extents) GOOFS_CHANGE_LIST(3 + GOOFS_TABLE_SECTORS(extents))
+#define GOOFS_RENAME_SET_LIST_ON(extents, extent_sectors) \
+    GOOFS_CHANGE_LIST(GOOFS_LESSER(1 + 2 * GOOFS_MOST_RENAMES + GOOFS_TABLE_SECTORS(extents), \
+                                   GOOFS_RESERVE(extents, extent_sectors) * (extent_sectors)))
+#define GOOFS_RESIZE_LIST_ON(extents) GOOFS_GREATER(GOOFS_CHANGE_LIST(1 + GOOFS_TABLE_SECTORS(extents)), GOOFS_WRITE_LIST)
+#define GOOFS_REPAIR_LIST_ON(extents) GOOFS_CHANGE_LIST(GOOFS_TABLE_SECTORS(extents))
+#define GOOFS_JOURNAL_TARGETS(files, extents) GOOFS_LESSER(1024, 1 + (files) + GOOFS_TABLE_SECTORS(extents))
+#define GOOFS_RECOVER_LIST_ON(files, extents) (GOOFS_RECOVERY_RECORDS(GOOFS_JOURNAL_TARGETS(files, extents)) * GOOFS_RECORD)
+#define GOOFS_SLICE_LIST(budget) (((budget) + 1) * GOOFS_RECORD) /* of a slice: by its budget alone */
+
+/* The same on any volume: with 65,535 extents, 512 sectors of the table. */
+#define GOOFS_DELETE_LIST GOOFS_DELETE_LIST_ON(65535)
+#define GOOFS_RENAME_LIST GOOFS_RENAME_LIST_ON(65535)
+#define GOOFS_RENAME_SET_LIST GOOFS_RENAME_SET_LIST_ON(65535, 128)
+#define GOOFS_RESIZE_LIST GOOFS_RESIZE_LIST_ON(65535)
+#define GOOFS_REPAIR_LIST GOOFS_REPAIR_LIST_ON(65535)
+#define GOOFS_RECOVER_LIST GOOFS_RECOVER_LIST_ON(65535, 65535)
 
 /* The numbers of scratch that goofs_check_with needs. */
 #define GOOFS_SCRATCH(files, extents) (4 * (files) + (extents))
@@ -144,6 +179,20 @@ enum goofs_fault {
     GOOFS_FAULT_ID = 24,           /* its id is 0, the root's or that of an earlier one */
     GOOFS_FAULT_TABLE = 25,        /* an extent is given to no file that is there */
     GOOFS_FAULT_EXTENTS = 26       /* a file has too few, too many or doubled extents */
+};
+
+/* The calls that give a list, for goofs_longest_list. */
+enum goofs_call {
+    GOOFS_CALL_ACCESS = 1, /* goofs_list and goofs_read */
+    GOOFS_CALL_CREATE = 2,
+    GOOFS_CALL_DELETE = 3,
+    GOOFS_CALL_RENAME = 4,
+    GOOFS_CALL_RENAME_SET = 5,
+    GOOFS_CALL_RESIZE = 6,
+    GOOFS_CALL_WRITE = 7,
+    GOOFS_CALL_REPAIR = 8,
+    GOOFS_CALL_RECOVER = 9,
+    GOOFS_CALL_RECOVER_SLICE = 10 /* of any budget */
 };
 
 enum goofs_state {
@@ -208,7 +257,7 @@ goofs_check_result goofs_check(const uint8_t *image, size_t image_length);
 
 /* The same fault and place by way of `scratch`, `numbers` numbers of 32 bits, at least GOOFS_SCRATCH of the volume's files and extents:
  * fewer are refused 14, which is tested after 6 and before soundness. What scratch holds after 0 or 7 is not fixed; with any other
- * code it is untouched. The call has no large array of its own: 416 bytes of stack, measured. Gives 0 to 7 and 14. */
+ * code it is untouched. The call has no large array of its own. Gives 0 to 7 and 14. */
 goofs_check_result goofs_check_with(const uint8_t *image, size_t image_length, uint32_t *scratch, size_t numbers);
 
 /* The file of that name: its index and fields. It sets no time. Gives 0 to 9. */
@@ -312,6 +361,11 @@ goofs_length_result goofs_format_record(uint64_t sectors, uint64_t files, uint64
 /* All writes of a list, in order, on an image in memory. Gives 0, 1 and 8 (a part of a record, positions that aren't 0, 1, 2 and so on,
  * a sector outside the image, a barrier with other bytes); anything but 0 has written nothing. */
 uint64_t goofs_carry_out(uint8_t *image, size_t image_length, const uint8_t *list, size_t list_length);
+
+/* How many bytes the list of a call (a number of `enum goofs_call`) can have at most on a volume of this geometry, in whatever state it is
+ * and whatever the arguments are. A call that is lent a list so long never gives 14 for it. The numbers are those of goofs_summary, or of
+ * a volume that is to be made. Gives 0, 3 (files, extents or sectors per extent out of bounds) and 8 (no such call). */
+goofs_length_result goofs_longest_list(uint64_t files, uint64_t extents, uint64_t extent_sectors, uint64_t call);
 
 #ifdef __cplusplus
 }

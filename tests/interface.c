@@ -1,4 +1,4 @@
-/* Tests of the C interface through include/goofs.h: all seventeen calls on volumes of both editions, every result number, every byte of
+/* Tests of the C interface through include/goofs.h: all eighteen calls on volumes of both editions, every result number, every byte of
  * every buffer. What is expected is worked out from document 01 and stands here as plain numbers. The last line is 'N passed, M failed',
  * where a test is one function of the tables at the end, on one edition.
  *
@@ -765,6 +765,53 @@ static void macros(void)
     NUMBER(GOOFS_RESERVE(125 * 128 + 1, 128), 2);
     NUMBER(GOOFS_RESERVE(65535, 128), 5);
     NUMBER(GOOFS_RESERVE(65535, 256), 3);
+}
+
+/* The longest lists by geometry: the call, proved, and the macros, for buffers of a fixed length. */
+static void longest_by_geometry(void)
+{
+    static const uint64_t shapes[][3] = {
+        {255, 2, 128}, {255, 4, 128}, {255, 128, 128}, {255, 129, 128}, {1021, 4, 128}, {1022, 4, 128}, {1023, 4, 128}, {255, 8192, 128},
+        {255, 8320, 128}, {255, 14208, 128}, {255, 14336, 128}, {255, 14336, 129}, {255, 15360, 136}, {255, 15360, 137}, {255, 16001, 128},
+        {65535, 65535, 128}, {65535, 65535, 4294967295},
+    };
+    size_t k;
+
+    for (k = 0; k < sizeof shapes / sizeof *shapes; k++) {
+        const uint64_t f = shapes[k][0], n = shapes[k][1], s = shapes[k][2];
+
+        from = (int)k;
+        IS(goofs_length_result, goofs_longest_list(f, n, s, GOOFS_CALL_ACCESS), .code = 0, .length = GOOFS_ACCESS_LIST);
+        IS(goofs_length_result, goofs_longest_list(f, n, s, GOOFS_CALL_CREATE), .code = 0, .length = GOOFS_CREATE_LIST);
+        IS(goofs_length_result, goofs_longest_list(f, n, s, GOOFS_CALL_DELETE), .code = 0, .length = GOOFS_DELETE_LIST_ON(n));
+        IS(goofs_length_result, goofs_longest_list(f, n, s, GOOFS_CALL_RENAME), .code = 0, .length = GOOFS_RENAME_LIST_ON(n));
+        IS(goofs_length_result, goofs_longest_list(f, n, s, GOOFS_CALL_RENAME_SET), .code = 0, .length = GOOFS_RENAME_SET_LIST_ON(n, s));
+        IS(goofs_length_result, goofs_longest_list(f, n, s, GOOFS_CALL_RESIZE), .code = 0, .length = GOOFS_RESIZE_LIST_ON(n));
+        IS(goofs_length_result, goofs_longest_list(f, n, s, GOOFS_CALL_WRITE), .code = 0, .length = GOOFS_WRITE_LIST);
+        IS(goofs_length_result, goofs_longest_list(f, n, s, GOOFS_CALL_REPAIR), .code = 0, .length = GOOFS_REPAIR_LIST_ON(n));
+        IS(goofs_length_result, goofs_longest_list(f, n, s, GOOFS_CALL_RECOVER), .code = 0, .length = GOOFS_RECOVER_LIST_ON(f, n));
+        IS(goofs_length_result, goofs_longest_list(f, n, s, GOOFS_CALL_RECOVER_SLICE), .code = 0,
+           .length = GOOFS_SLICE_LIST(GOOFS_JOURNAL_TARGETS(f, n)));
+    }
+    /* The sample's, in plain numbers: 1, 2, 3, 4, 18 and 1 targets, 129 sectors of data, 257 sectors for a journal's targets. */
+    IS(goofs_length_result, goofs_longest_list(255, 4, 128, 1), .length = 9 * 528);
+    IS(goofs_length_result, goofs_longest_list(255, 4, 128, 2), .length = 11 * 528);
+    IS(goofs_length_result, goofs_longest_list(255, 4, 128, 3), .length = 13 * 528);
+    IS(goofs_length_result, goofs_longest_list(255, 4, 128, 4), .length = 15 * 528);
+    IS(goofs_length_result, goofs_longest_list(255, 4, 128, 5), .length = 43 * 528);
+    IS(goofs_length_result, goofs_longest_list(255, 4, 128, 6), .length = 140 * 528);
+    IS(goofs_length_result, goofs_longest_list(255, 4, 128, 7), .length = 140 * 528);
+    IS(goofs_length_result, goofs_longest_list(255, 4, 128, 8), .length = 9 * 528);
+    IS(goofs_length_result, goofs_longest_list(255, 4, 128, 9), .length = 260 * 528);
+    IS(goofs_length_result, goofs_longest_list(255, 4, 128, 10), .length = 258 * 528);
+    IS(goofs_length_result, goofs_longest_list(255, 4, 128, 0), .code = 8);
+    IS(goofs_length_result, goofs_longest_list(255, 4, 128, 11), .code = 8);
+    IS(goofs_length_result, goofs_longest_list(254, 4, 128, 1), .code = 3);
+    IS(goofs_length_result, goofs_longest_list(65536, 4, 128, 1), .code = 3);
+    IS(goofs_length_result, goofs_longest_list(255, 1, 128, 1), .code = 3);
+    IS(goofs_length_result, goofs_longest_list(255, 65536, 128, 1), .code = 3);
+    IS(goofs_length_result, goofs_longest_list(255, 4, 127, 0), .code = 3); /* before 8 */
+    IS(goofs_length_result, goofs_longest_list(255, 4, UINT64_C(4294967424), 1), .code = 3);
 }
 
 static void format_position_by_position(void)
@@ -2377,6 +2424,7 @@ static const struct test tests[] = {
 static const struct test others[] = {
     {"sizes of results", sizes_of_results},
     {"macros", macros},
+    {"longest lists by geometry", longest_by_geometry},
     {"editions refused", editions_refused},
     {"carrying out", carrying_out},
 };

@@ -8,3 +8,4 @@ pub mod AccessesComputed
 pub mod ReservesComputed
 pub mod RenameSetsComputed
 pub mod ExchangesComputed
+pub mod LengthsComputed

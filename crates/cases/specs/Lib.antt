@@ -1,5 +1,5 @@
 -- The table of the cases P1 to P10, a second one of literal bytes, a third of edges; cases of a repair, of the second edition, of access times, of the
--- reserve, of sets of renames and of exchanged calls.
+-- reserve, of sets of renames, of exchanged calls and of the longest lists.
 pub mod Cases
 pub mod Literals
 pub mod Edges
@@ -9,3 +9,4 @@ pub mod Accesses
 pub mod Reserves
 pub mod RenameSets
 pub mod Exchanges
+pub mod Lengths

@@ -9,6 +9,7 @@ use Rattle.model.specs.declared.Repaired.{Repaired}
 use Rattle.model.specs.declared.Recovered.{Recovered}
 use Rattle.model.specs.declared.Sliced.{Sliced}
 use Rattle.model.specs.declared.Formatted.{Formatted}
+use Rattle.model.specs.declared.Longest.{Longest}
 use Rattle.model.specs.Geometry.{extentSectors}
 use Rattle.model.specs.Summary.{stateCode, stateEntries}
 use Rattle.goofs.specs.declared.SummaryResult.{SummaryResult}
@@ -21,6 +22,7 @@ use Rattle.goofs.specs.declared.RepairResult.{RepairResult}
 use Rattle.goofs.specs.declared.RecoverResult.{RecoverResult}
 use Rattle.goofs.specs.declared.SliceResult.{SliceResult}
 use Rattle.goofs.specs.declared.FormatResult.{FormatResult}
+use Rattle.goofs.specs.declared.LongestResult.{LongestResult}
 
 abbrev pub summaryNumbers : Summarized → SummaryResult
 summaryNumbers a = record {
@@ -83,3 +85,6 @@ sliceNumbers a = record { code = a .number; length = a .length; count = a .count
 
 abbrev pub formatNumbers : Formatted → FormatResult
 formatNumbers a = record { code = a .number; length = a .length }
+
+abbrev pub longestNumbers : Longest → LongestResult
+longestNumbers a = record { code = a .number; length = a .length }

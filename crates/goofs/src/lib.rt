@@ -26,7 +26,8 @@ ghost use Rattle.model.specs.Repair.{repairAnswer, repairList};
 ghost use Rattle.model.specs.Recovery.{recoveryAnswer, recoveryList, sliceAnswer, sliceList};
 ghost use Rattle.model.specs.Format.{formatAnswer, formatOutput};
 ghost use Rattle.model.specs.CarryOut.{carryAnswer, carryImage};
-ghost use Rattle.goofs.specs.Numbers.{summaryNumbers, checkNumbers, findNumbers, listNumbers, readNumbers, changeNumbers, repairNumbers, recoverNumbers, sliceNumbers, formatNumbers};
+ghost use Rattle.model.specs.Lengths.{longestAnswer};
+ghost use Rattle.goofs.specs.Numbers.{summaryNumbers, checkNumbers, findNumbers, listNumbers, readNumbers, changeNumbers, repairNumbers, recoverNumbers, sliceNumbers, formatNumbers, longestNumbers};
 
 // ---- summary
 
@@ -483,4 +484,28 @@ pub extern "C" fn goofs_carry_out(img: &mut [u8], list: &[u8]) -> u64
 {
     let a = carry_out::carry_out(img, list);
     a.number
+}
+
+// ---- how long a list can be
+
+#[repr(C)]
+pub struct LongestResult {
+    pub code: u64,
+    pub length: u64,
+}
+
+#[no_mangle]
+pub extern "C" fn goofs_longest_list(
+    files: u64,
+    extents: u64,
+    sectors: u64,
+    call: u64,
+) -> LongestResult
+    ensures { λ r. ⌜ r ≡ longestNumbers (longestAnswer (record { files = files; extents = extents; «extent_sectors» = sectors; edition = 1 }) call) ⌝ }
+{
+    let a = lengths::longest_list(files, extents, sectors, call);
+    LongestResult {
+        code: a.number,
+        length: a.length,
+    }
 }

@@ -28,6 +28,7 @@ pub mod Repair
 pub mod Recovery
 pub mod Format
 pub mod CarryOut
+pub mod Lengths
 pub mod Cut
 pub mod Ledger
 pub mod Run

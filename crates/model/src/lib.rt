@@ -144,6 +144,12 @@ pub struct CarriedOut {
     pub number: u64,
 }
 
+// The most bytes that a call's list can have.
+pub struct Longest {
+    pub number: u64,
+    pub length: u64,
+}
+
 // ---- the layout's rules: only these turn file, extent and sector numbers into each other
 
 impl FileIndex {

@@ -52,7 +52,7 @@ few-sectors g h =
 
 -- ---- the state
 
-waiting-few : (m n : ℕ) → stateOf m ≡ Waiting n → n ≤ 1024
+pub waiting-few : (m n : ℕ) → stateOf m ≡ Waiting n → n ≤ 1024
 unfolding stateOf
 waiting-few m n e = subst (λ (k : ℕ). k ≤ 1024) (ap stateEntries e) (go (eqb m 0) (leb m 1024) (leb m 65534) refl)
   where

@@ -3,11 +3,11 @@
 use Prim.Native.Nat.{ℕ, zero, suc, _+_, _*_, _/_, _^_, _≤_, _<_}
 use mathlib.Core.Path.{_≡_, refl, sym, ap, _∙_, subst}
 use mathlib.Core.Logic.{_≢_, inl, inr, ⊎-elim, _↔_}
-use mathlib.Core.Bool.{Bool, true, false, cond, not, _&&_}
-use mathlib.Core.List.{List, [], _∷_, _++_}
+use mathlib.Core.Bool.{Bool, true, false, cond, _&&_}
+use mathlib.Core.List.{List, [], _∷_}
 use mathlib.Core.Option.{none, some}
 use native.Mathlib.Omega.{arith}
-use lib.Dec.{eqb, ltb}
+use lib.Dec.{ltb}
 use lib.ListN.{length}
 use borrow.Author.Tests.{eqb-true, eqb-false, ltb-true, ltb-false, lt-ltb}
 use Rattle.model.specs.declared.Geometry.{Geometry}
@@ -17,7 +17,7 @@ use Rattle.model.specs.Geometry.{superblockAt, extentSectors, tableSectors, dat
 use Rattle.model.specs.Disk.{Disk, view}
 use Rattle.model.specs.Superblock.{geometryIn}
 use Rattle.model.specs.Catalogue.{catalogueOf, lacksReserve}
-use Rattle.model.specs.Refusals.{Conditions, verdictOf, andThen, isDone, refusal, done}
+use Rattle.model.specs.Refusals.{verdictOf, andThen, isDone, refusal, done}
 use Rattle.model.specs.WriteList.{Plan, groupsFor, listLength, recordCount, isPlanned, planConditions, decided}
 use Rattle.model.specs.Summary.{checkAnswer}
 use Rattle.model.specs.Rename.{renameConditions}
@@ -32,19 +32,14 @@ use Rattle.laws.proofs.RenameSet.{good-set}
 use Rattle.safety.specs.Room.{geometryOn}
 use Rattle.safety.specs.RenameSet.{reserveSectors, targetCount, NoRoomFor, Counted}
 use Rattle.safety.proofs.RenameSet.{set-verdict}
-use Rattle.safety.proofs.NoRoom.{never13, not-13, last-13, own-is, frozen-on}
+use Rattle.safety.proofs.NoRoom.{never, not-given, never-append, last-13, own-is, frozen-on}
 
--- no rename is refused 13
-never-append : (a b : Conditions) → never13 a ≡ true → never13 b ≡ true → never13 (a ++ b) ≡ true
-never-append [] b p q = q
-never-append (c ∷ a) b p q =
-    and-yes (not (eqb (c .1 .number) 13)) (never13 (a ++ b)) (and-left (not (eqb (c .1 .number) 13)) (never13 a) p)
-    (never-append a b (and-right (not (eqb (c .1 .number) 13)) (never13 a) p) q)
-
-renames-never : (d : Disk) (names lengths : List ℕ) (time n : ℕ) → never13 (renamesConditions d names lengths time n) ≡ true
+-- a set is refused with no number that its renames don't give
+pub renames-never : (m : ℕ) → never m ((false, refusal 8) ∷ (false, refusal 8) ∷ (false, refusal 9) ∷ []) ≡ true → (d : Disk) (names lengths : List ℕ) (time n : ℕ)
+    → never m (renamesConditions d names lengths time n) ≡ true
 unfolding renamesConditions concatenated renameConditions
-renames-never d names lengths time zero = refl
-renames-never d names lengths time (suc n) = never-append (renamesConditions d names lengths time n) _ (renames-never d names lengths time n) refl
+renames-never m h d names lengths time zero = refl
+renames-never m h d names lengths time (suc n) = never-append m (renamesConditions d names lengths time n) _ (renames-never m h d names lengths time n) h
 
 record-most : (k : ℕ) → k ≤ 529 → recordCount 0 k ≤ 1081
 record-most k h = omega arith
@@ -138,7 +133,7 @@ module _ (img names lengths : List ℕ) (time room : ℕ) (ok : checkAnswer (len
         λ h. q .1 (refl, ⊎-elim (λ (l : reserveSectors img < count). absurd (omega arith)) (λ y. and-yes plans frozen (planned ∙ lt-ltb 0 count (y .0)) (frozen-on img .1 (y .1))) (h .1)),
       )
   exactly false b e f =
-      let ne : own .number ≢ 13 = not-13 (renamesConditions d names lengths time n) (renames-never d names lengths time n) in
+      let ne : own .number ≢ 13 = not-given 13 (omega arith) (renamesConditions d names lengths time n) (renames-never 13 refl d names lengths time n) in
       let q = last-13 own frozenOne short ne in
       (λ z. absurd (eqb-false (own .number) 0 e (q .0 z .0)), λ h. absurd (eqb-false (own .number) 0 e (h .0)))
 

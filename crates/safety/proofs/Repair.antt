@@ -70,7 +70,7 @@ use Rattle.safety.proofs.Bridge.{emitted-bytes}
 use Rattle.safety.proofs.Passes.{none-found, no-faults}
 use Rattle.safety.proofs.Theorem.{sound-demand3, restarted}
 use Rattle.safety.proofs.Corollaries.{sound}
-use Rattle.safety.proofs.NoRoom.{not-13, last-13, frozen-on}
+use Rattle.safety.proofs.NoRoom.{not-given, last-13, frozen-on}
 use Rattle.safety.proofs.RepairDone.{clean-by, Passes, Leaves, passes, leaves, carries, long-enough, verdict-done, unstrayed-same}
 
 module _ (img : List ℕ) (room : ℕ) (bytes : OfBytes img) (accepted : Repairs img room) where
@@ -448,7 +448,7 @@ module _ (img : List ℕ) (room : ℕ) where
 
       go : (b : Bool) → cond b (refusal (stateNumber (stateOn d))) (imageVerdict (length img) d) .number ≢ 13
       go true e = state (stateOn d) e
-      go false e = not-13 _ refl e
+      go false e = not-given 13 (omega arith) _ refl e
 
   then-is : (a b v : Verdict) → andThen a (andThen b v) ≡ andThen (andThen a b) v
   then-is a b v = go (isDone a) refl

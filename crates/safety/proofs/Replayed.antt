@@ -17,7 +17,7 @@ use Rattle.model.specs.declared.Lowest.the-variants.{At}
 use Rattle.model.specs.declared.State.the-variants.{Waiting}
 use Rattle.model.specs.Bytes.{beAt}
 use Rattle.model.specs.Search.{first, anyBelow, countBelow, concatenated, isAt, indexOf}
-use Rattle.model.specs.Geometry.{superblockAt, journalAt, dataAt, volumeSectors}
+use Rattle.model.specs.Geometry.{superblockAt, journalAt, tableSectors, dataAt, volumeSectors}
 use Rattle.model.specs.Disk.{Disk}
 use Rattle.model.specs.Superblock.{stateOn}
 use Rattle.model.specs.Journal.{sourceAt, targetAt}
@@ -32,7 +32,8 @@ use Rattle.safety.proofs.Superblock.{Volume, Recovers, recovers-by}
 use Rattle.laws.proofs.Areas.{metadata-below}
 use Rattle.safety.proofs.Plan.{metadata-no}
 use Rattle.safety.proofs.Frame.{closed-cons}
-use Rattle.laws.proofs.Count.{countBelow-none, countBelow-new, length-concatenated}
+use Rattle.laws.proofs.Count.{countBelow-none, countBelow-le, countBelow-new, length-concatenated}
+use Rattle.laws.proofs.Renames.{countBelow-parts}
 
 -- ---- lists made sector by sector
 
@@ -124,6 +125,31 @@ module _ (g : Geometry) (d : Disk) (n : ℕ) where
         (metadata-below g _ (target-metadata m l)) (target-once m l) (or-left _ _ (eq-eqb (targetAt g d m) (targetAt g d m) refl))
         (λ t ne. ap (λ (b : Bool). b || anyBelow (λ j. eqb (targetAt g d j) t) m) (ne-eqb (targetAt g d m) t (λ e. ne (sym e))))
         ∙ ap suc (count-targets m (omega arith))
+
+    -- no more than there are sectors for them: root, directory and table
+    pub entries-few : n ≤ 1 + g .files + tableSectors g
+    entries-few =
+        let p : ℕ → Bool = λ t. anyBelow (λ j. eqb (targetAt g d j) t) n in
+        let f = g .files in
+        let e : dataAt g ≡ 2 + f + 32 + tableSectors g = omega arith in
+        let sum : countBelow p (dataAt g) ≡ countBelow p (2 + f + 32 + tableSectors g) = ap (countBelow p) e in
+        let first : countBelow p 1 ≡ 0 = countBelow-none p 1 (anyBelow-no p 1 (λ k l. no-target k (metadata-no g k (λ a b. omega arith) (λ a b. omega arith)))) in
+        let gap : countBelow (λ k. p (2 + f + k)) 32 ≡ 0 =
+        countBelow-none (λ k. p (2 + f + k)) 32 (anyBelow-no (λ k. p (2 + f + k)) 32 (λ k l. no-target (2 + f + k) (metadata-no g (2 + f + k) (λ a b. omega arith) (λ a b. omega arith)))) in
+        omega (
+          arith,
+          count-targets n (omega arith),
+          countBelow-parts p (2 + f + 32) (tableSectors g),
+          countBelow-parts p (2 + f) 32,
+          countBelow-parts p 2 f,
+          countBelow-parts p 1 1,
+          countBelow-le (λ k. p (1 + k)) 1,
+          countBelow-le (λ k. p (2 + k)) f,
+          countBelow-le (λ k. p (2 + f + 32 + k)) (tableSectors g),
+        )
+      where
+        no-target : (t : ℕ) → isMetadata g t ≡ false → anyBelow (λ j. eqb (targetAt g d j) t) n ≡ false
+        no-target t h = anyBelow-no (λ j. eqb (targetAt g d j) t) n (λ j l. ne-eqb (targetAt g d j) t (λ e. true≢false (sym (target-metadata j l) ∙ ap (isMetadata g) e ∙ h)))
 
     length-replayed : length (replayed g d n) ≡ n
     unfolding replayed replayedSector

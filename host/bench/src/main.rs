@@ -8,6 +8,7 @@ mod growth;
 mod images;
 mod memory;
 mod scratch_check;
+mod stack;
 mod text;
 mod timing;
 mod write_list;
@@ -48,8 +49,12 @@ fn main() -> ExitCode {
             failed = true;
         }
     }
+    let mut above = Vec::new();
+    if wanted("stack") {
+        above = stack::print();
+    }
     comparisons.print_memory();
-    let above = comparisons.above_most_stack();
+    above.extend(comparisons.above_most_stack());
     if !above.is_empty() {
         eprintln!(
             "bench: more than {} bytes of stack on the sample: {}",

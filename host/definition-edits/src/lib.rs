@@ -27,7 +27,10 @@ pub struct Edit {
 #[derive(Clone, Debug)]
 pub enum Seen {
     /// The statement that becomes false, and the crate that proves it.
-    By { crate_name: String, statement: String },
+    By {
+        crate_name: String,
+        statement: String,
+    },
     /// What guards the definition where no theorem speaks of it.
     Guarded(String),
 }
@@ -67,7 +70,10 @@ pub fn edits() -> Vec<Edit> {
     let mut edits = Vec::new();
     for path in files {
         let text = fs::read_to_string(&path).unwrap_or_else(|e| panic!("{}: {e}", path.display()));
-        let stem = path.file_stem().and_then(|s| s.to_str()).expect("a file name in ASCII");
+        let stem = path
+            .file_stem()
+            .and_then(|s| s.to_str())
+            .expect("a file name in ASCII");
         for block in text.split("\n\n").filter(|b| !b.trim().is_empty()) {
             edits.push(parse(stem, block));
         }
@@ -81,14 +87,23 @@ fn parse(stem: &str, block: &str) -> Edit {
         let prefix = format!("{key}: ");
         let mut lines = block.lines().filter_map(|l| l.strip_prefix(&prefix));
         let value = lines.next().map(str::to_string);
-        assert!(lines.next().is_none(), "{stem}: two lines '{key}:' in\n{block}");
+        assert!(
+            lines.next().is_none(),
+            "{stem}: two lines '{key}:' in\n{block}"
+        );
         value
     };
-    let needed = |key: &str| field(key).unwrap_or_else(|| panic!("{stem}: no line '{key}:' in\n{block}"));
+    let needed =
+        |key: &str| field(key).unwrap_or_else(|| panic!("{stem}: no line '{key}:' in\n{block}"));
     let seen = match (field("false"), field("guard")) {
         (Some(text), None) => {
-            let (crate_name, statement) = text.split_once(' ').unwrap_or_else(|| panic!("{stem}: 'false: CRATE STATEMENT' in\n{block}"));
-            Seen::By { crate_name: crate_name.to_string(), statement: statement.to_string() }
+            let (crate_name, statement) = text
+                .split_once(' ')
+                .unwrap_or_else(|| panic!("{stem}: 'false: CRATE STATEMENT' in\n{block}"));
+            Seen::By {
+                crate_name: crate_name.to_string(),
+                statement: statement.to_string(),
+            }
         }
         (None, Some(text)) => Seen::Guarded(text),
         _ => panic!("{stem}: either 'false:' or 'guard:' in\n{block}"),
@@ -134,7 +149,8 @@ fn copy_definitions(to: &Path, with_proofs: bool) {
     for entry in fs::read_dir(model.join("proofs")).expect("a folder is read") {
         let entry = entry.expect("an entry is read");
         if entry.file_type().expect("an entry has a type").is_file() {
-            fs::copy(entry.path(), to.join("proofs").join(entry.file_name())).expect("a file is copied");
+            fs::copy(entry.path(), to.join("proofs").join(entry.file_name()))
+                .expect("a file is copied");
         }
     }
 }
@@ -166,7 +182,11 @@ impl Edit {
             Seen::By { crate_name, .. } => crate_name.as_str(),
             Seen::Guarded(_) => "safety",
         };
-        let folder = std::env::temp_dir().join(format!("definition-edits-{}-{}", std::process::id(), self.name));
+        let folder = std::env::temp_dir().join(format!(
+            "definition-edits-{}-{}",
+            std::process::id(),
+            self.name
+        ));
         let _ = fs::remove_dir_all(&folder);
         let crates = folder.join("crates");
         // The cases stand on the definitions alone.
@@ -176,17 +196,29 @@ impl Edit {
         if laws {
             copy_folder(&repository().join("crates/laws"), &crates.join("laws"));
         }
-        let list = if laws { format!("model:\nlaws: model\n{by}: model laws\n") } else { format!("model:\n{by}: model\n") };
+        let list = if laws {
+            format!("model:\nlaws: model\n{by}: model laws\n")
+        } else {
+            format!("model:\n{by}: model\n")
+        };
         fs::write(folder.join("crates.txt"), list).expect("crates.txt is written");
         fs::write(folder.join("crates/model").join(&self.file), text).expect("the edit is written");
 
-        let run = Command::new("rt").args(["check", by]).current_dir(&folder).env("RT_JOBS", "1").output().expect("rt runs");
-        let log = String::from_utf8_lossy(&run.stdout).into_owned() + &String::from_utf8_lossy(&run.stderr);
+        let run = Command::new("rt")
+            .args(["check", by])
+            .current_dir(&folder)
+            .env("RT_JOBS", "1")
+            .output()
+            .expect("rt runs");
+        let log = String::from_utf8_lossy(&run.stdout).into_owned()
+            + &String::from_utf8_lossy(&run.stderr);
         let _ = fs::remove_dir_all(&folder);
         if run.status.success() {
             return Outcome::Proved;
         }
-        let error = log.lines().find(|l| l.contains("error:") || l.contains("is not admitted: unsolved"));
+        let error = log
+            .lines()
+            .find(|l| l.contains("error:") || l.contains("is not admitted: unsolved"));
         match error {
             Some(line) if line.contains("/proofs/") => Outcome::Refused(place(line)),
             Some(line) => Outcome::Broken(line.chars().take(300).collect()),
@@ -207,7 +239,13 @@ impl Edit {
 /// Crate, proof file and line of an error: from `.../crates/safety/proofs/Create.antt:12:3: error: ..`.
 fn place(line: &str) -> String {
     let start = line.find("crates/").map_or(0, |at| at + "crates/".len());
-    line[start..].split(": error").next().unwrap_or(line).chars().take(60).collect()
+    line[start..]
+        .split(": error")
+        .next()
+        .unwrap_or(line)
+        .chars()
+        .take(60)
+        .collect()
 }
 
 /// Tries these edits, as many at a time as the machine has processors, and tells each as it ends. Gives how many ended as they
@@ -219,7 +257,9 @@ pub fn try_all(edits: &[Edit], tell: impl Fn(&Edit, &Outcome) + Sync) -> (usize,
     std::thread::scope(|scope| {
         for _ in 0..workers {
             scope.spawn(|| loop {
-                let Some(edit) = edits.get(next.fetch_add(1, Ordering::Relaxed)) else { return };
+                let Some(edit) = edits.get(next.fetch_add(1, Ordering::Relaxed)) else {
+                    return;
+                };
                 let outcome = edit.try_it();
                 if edit.holds(&outcome) {
                     good.fetch_add(1, Ordering::Relaxed);

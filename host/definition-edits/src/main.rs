@@ -9,18 +9,32 @@ fn main() {
         chosen.retain(|e| names.contains(&e.name));
     }
     let (good, bad) = try_all(&chosen, |edit, outcome| match &edit.seen {
-        Seen::By { statement, .. } => println!("{} | {} | false: {statement} | {outcome}", edit.file, edit.name),
+        Seen::By { statement, .. } => println!(
+            "{} | {} | false: {statement} | {outcome}",
+            edit.file, edit.name
+        ),
         Seen::Guarded(guard) => {
             let result = match outcome {
-                Outcome::Refused(place) => format!("no theorem sees it (a proof's text does, {place})"),
+                Outcome::Refused(place) => {
+                    format!("no theorem sees it (a proof's text does, {place})")
+                }
                 Outcome::Proved => "no theorem sees it".to_string(),
                 other => other.to_string(),
             };
-            println!("{} | {} | {result} | guarded by: {guard}", edit.file, edit.name);
+            println!(
+                "{} | {} | {result} | guarded by: {guard}",
+                edit.file, edit.name
+            );
         }
     });
-    let guarded = chosen.iter().filter(|e| matches!(e.seen, Seen::Guarded(_))).count();
-    println!("{} wrong definitions, {guarded} of them guarded otherwise than by a theorem", chosen.len());
+    let guarded = chosen
+        .iter()
+        .filter(|e| matches!(e.seen, Seen::Guarded(_)))
+        .count();
+    println!(
+        "{} wrong definitions, {guarded} of them guarded otherwise than by a theorem",
+        chosen.len()
+    );
     println!("{good} passed, {bad} failed");
     std::process::exit(if bad == 0 && good > 0 { 0 } else { 1 });
 }

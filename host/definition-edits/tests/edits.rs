@@ -6,7 +6,11 @@ fn main() {
     let chosen: Vec<_> = edits().into_iter().filter(|e| e.gate).collect();
     assert!(!chosen.is_empty(), "no edit is marked 'gate'");
     let (passed, failed) = try_all(&chosen, |edit, outcome| {
-        let word = if matches!(outcome, Outcome::Refused(_)) { "ok" } else { "FAILED" };
+        let word = if matches!(outcome, Outcome::Refused(_)) {
+            "ok"
+        } else {
+            "FAILED"
+        };
         println!("test {} ... {word} ({outcome})", edit.name);
     });
     let word = if failed == 0 { "ok" } else { "FAILED" };

@@ -4,8 +4,8 @@
 use crate::device::SECTOR;
 use crate::error::{Fault, Refusal};
 use crate::image::{
-    claimed, number, Edition, Entry, Image, Summary, ENTRIES_IN_TABLE_SECTOR, JOURNAL_SECTORS,
-    LONGEST_NAME, LONGEST_TRANSFER, OCCUPIED,
+    claimed, number, Edition, Entry, Image, Summary, ENTRIES_IN_TABLE_SECTOR, LONGEST_NAME,
+    OCCUPIED,
 };
 use crate::ChangeAnswer;
 
@@ -16,27 +16,35 @@ const NUMBER: usize = 8;
 const CONTENTS: usize = 16;
 const BARRIER: [u8; 8] = [255; 8];
 
-/// Journal entries that stand in a sector, and in the whole journal.
-const ENTRIES_IN_JOURNAL_SECTOR: usize = 32;
-const MOST_JOURNAL_ENTRIES: usize = JOURNAL_SECTORS as usize * ENTRIES_IN_JOURNAL_SECTOR;
-/// Sectors of the longest allocation table.
-const MOST_TABLE_SECTORS: usize = u16::MAX.div_ceil(ENTRIES_IN_TABLE_SECTOR as u16) as usize;
-/// Sectors that the longest write touches: it may begin and end within a sector.
-const MOST_DATA_SECTORS: usize = LONGEST_TRANSFER / SECTOR + 1;
-
 /// Renames that one change may have.
 pub const MOST_RENAMES: usize = 8;
 
-/// The records of a change with so many data sectors and targets: the data, a copy of each target and
-/// the journal; the start mark; the targets; the end mark; and a barrier after each of the four.
-pub const fn records(data: usize, targets: usize) -> usize {
-    let journal = targets.div_ceil(ENTRIES_IN_JOURNAL_SECTOR);
-    data + targets + journal + 1 + targets + 1 + 4
+/// The calls that give a list, by their numbers in the C interface.
+#[derive(Clone, Copy, Debug, PartialEq, Eq)]
+pub enum Listing {
+    /// `list` and `read`.
+    Access = 1,
+    Create = 2,
+    Delete = 3,
+    Rename = 4,
+    RenameSet = 5,
+    Resize = 6,
+    Write = 7,
+    Repair = 8,
+    Recover = 9,
+    /// Of any budget.
+    RecoverSlice = 10,
 }
 
-/// The records of a recovery: the targets, the end mark and two barriers.
-pub const fn recovery_records(targets: usize) -> usize {
-    targets + 1 + 2
+impl Summary {
+    /// The most bytes that the list of this call can have on a volume of this geometry: who lends so many
+    /// is never refused for a list that is too short. None where the geometry is out of bounds, as that
+    /// of no volume is.
+    pub fn longest_list(&self, call: Listing) -> Option<usize> {
+        let geometry = (self.files, self.extents, self.extent_sectors);
+        let answer = crate::longest_list(geometry.0, geometry.1, geometry.2, call as u64);
+        (answer.code == 0).then_some(answer.length as usize)
+    }
 }
 
 /// Old and new name.
@@ -184,9 +192,11 @@ impl List {
     }
 }
 
-/// The list that a call fills, at most so many records long.
-fn list_of(records: usize, call: impl FnOnce(&mut [u8]) -> ChangeAnswer) -> Result<List, Refusal> {
-    let mut bytes = vec![0; records * RECORD];
+/// The list that a call fills.
+fn filled(
+    mut bytes: Vec<u8>,
+    call: impl FnOnce(&mut [u8]) -> ChangeAnswer,
+) -> Result<List, Refusal> {
     let answer = call(&mut bytes);
     Refusal::judge(answer.code, answer.fault, answer.place)?;
     bytes.truncate(answer.length as usize);
@@ -201,48 +211,46 @@ fn joined(renames: &[Rename]) -> (Vec<u8>, Vec<u64>) {
 }
 
 impl Image {
+    /// Room for any list of this call on this volume.
+    fn room_for(&self, call: Listing) -> Vec<u8> {
+        let longest = self.summary().longest_list(call);
+        vec![0; longest.expect("an image's geometry is within the bounds")]
+    }
+
     /// The list that does this change; empty if there is nothing to do.
     pub fn list_of(&self, change: &Change) -> Result<List, Refusal> {
         let image = &self.bytes;
+        let room = |call| self.room_for(call);
         match *change {
-            // Root and entry.
             Change::Create {
                 name,
                 id,
                 mode,
                 time,
-            } => list_of(records(0, 2), |list| {
+            } => filled(room(Listing::Create), |list| {
                 crate::create(image, name, id, mode, time, list)
             }),
-            Change::Delete { name, time } => list_of(records(0, 2 + MOST_TABLE_SECTORS), |list| {
+            Change::Delete { name, time } => filled(room(Listing::Delete), |list| {
                 crate::delete(image, name, time, list)
             }),
-            // Both entries.
-            Change::Rename { old, new, time } => {
-                list_of(records(0, 3 + MOST_TABLE_SECTORS), |list| {
-                    crate::rename(image, old, new, time, list)
-                })
-            }
-            // The root, and both entries of each.
+            Change::Rename { old, new, time } => filled(room(Listing::Rename), |list| {
+                crate::rename(image, old, new, time, list)
+            }),
             Change::RenameSet { renames, time } => {
                 let (names, lengths) = joined(renames);
-                let targets = 1 + 2 * MOST_RENAMES + MOST_TABLE_SECTORS;
-                list_of(records(0, targets), |list| {
+                filled(room(Listing::RenameSet), |list| {
                     crate::rename_set(image, &names, &lengths, time, list)
                 })
             }
-            // The entry. What a growing one writes is shorter.
-            Change::Resize { name, size, time } => {
-                list_of(records(0, 1 + MOST_TABLE_SECTORS), |list| {
-                    crate::resize(image, name, size, time, list)
-                })
-            }
+            Change::Resize { name, size, time } => filled(room(Listing::Resize), |list| {
+                crate::resize(image, name, size, time, list)
+            }),
             Change::Write {
                 name,
                 offset,
                 data,
                 time,
-            } => list_of(records(MOST_DATA_SECTORS, 2), |list| {
+            } => filled(room(Listing::Write), |list| {
                 crate::write(image, name, offset, data, time, list)
             }),
             Change::Touch { name, time } => Ok(self.read_touching(name, 0, &mut [], time)?.1),
@@ -268,7 +276,7 @@ impl Image {
         output: &mut [u8],
         time: u64,
     ) -> Result<(usize, List), Refusal> {
-        let mut bytes = vec![0; records(0, 1) * RECORD];
+        let mut bytes = self.room_for(Listing::Access);
         let count = output.len() as u64;
         let answer = crate::read(&self.bytes, name, offset, count, time, output, &mut bytes);
         Refusal::judge(answer.code, answer.fault, answer.place)?;
@@ -279,7 +287,7 @@ impl Image {
     /// The file with this index, with the list that sets the root's access time; on a frozen volume it is
     /// empty.
     pub fn list_touching(&self, index: u64, time: u64) -> Result<(Entry, List), Refusal> {
-        let mut bytes = vec![0; records(0, 1) * RECORD];
+        let mut bytes = self.room_for(Listing::Access);
         let mut name = vec![0; LONGEST_NAME];
         let answer = crate::list(&self.bytes, index, time, &mut name, &mut bytes);
         Refusal::judge(answer.code, answer.fault, answer.place)?;
@@ -301,7 +309,7 @@ impl Image {
     /// What a repair does to this volume, which is clean but may have faults. It is refused with `NoRoom`
     /// where there is something to free and the volume is frozen: what would be freed doesn't count.
     pub fn repair(&self) -> Result<Repair, Refusal> {
-        let mut bytes = vec![0; records(0, MOST_TABLE_SECTORS) * RECORD];
+        let mut bytes = self.room_for(Listing::Repair);
         let answer = crate::repair(&self.bytes, &mut bytes);
         Refusal::judge(answer.code, answer.fault, answer.place)?;
         bytes.truncate(answer.length as usize);
@@ -360,7 +368,7 @@ impl Image {
 
     /// The list that finishes a change that was cut; empty if none was.
     pub fn recovery(&self) -> Result<List, Refusal> {
-        let mut bytes = vec![0; recovery_records(MOST_JOURNAL_ENTRIES) * RECORD];
+        let mut bytes = self.room_for(Listing::Recover);
         let answer = crate::recover(&self.bytes, &mut bytes);
         Refusal::judge(answer.code, 0, 0)?;
         bytes.truncate(answer.length as usize);
@@ -369,8 +377,7 @@ impl Image {
 
     /// At most `budget` sector writes of a recovery; empty if no change was cut.
     pub fn recovery_slice(&self, budget: u64) -> Result<List, Refusal> {
-        let most = recovery_records(MOST_JOURNAL_ENTRIES) as u64;
-        let mut bytes = vec![0; (budget.min(most) as usize + 2) * RECORD];
+        let mut bytes = self.room_for(Listing::RecoverSlice);
         let answer = crate::recover_slice(&self.bytes, budget, &mut bytes);
         Refusal::judge(answer.code, 0, 0)?;
         bytes.truncate(answer.length as usize);
@@ -475,18 +482,31 @@ impl Format {
 #[cfg(test)]
 mod tests {
     use super::*;
+    use crate::image::State;
 
-    /// The lengths that the rules of the volume name: an access time, a first create, the longest delete,
-    /// the longest rename, the longest set of them, and a write of 65,536 bytes into an empty file.
+    /// The lengths that the rules of the volume name, of the largest volume: an access time, a first create,
+    /// the longest delete, the longest rename, the longest set of them; and on the sample a recovery of root,
+    /// directory and table.
     #[test]
-    fn records_of_changes() {
-        assert_eq!(records(0, 1), 9);
-        assert_eq!(records(0, 2), 11);
-        assert_eq!(records(0, 2 + MOST_TABLE_SECTORS), 1_051);
-        assert_eq!(records(0, 3 + MOST_TABLE_SECTORS), 1_053);
-        assert_eq!(records(0, 1 + 2 * MOST_RENAMES + MOST_TABLE_SECTORS), 1_081);
-        assert_eq!(records(LONGEST_TRANSFER / SECTOR, 2), 139);
-        assert_eq!(MOST_JOURNAL_ENTRIES, 1_024);
+    fn longest_lists() {
+        let summary = |files, extents| Summary {
+            edition: Edition::First,
+            files,
+            extents,
+            extent_sectors: 128,
+            state: State::Clean,
+        };
+        let records = |summary: Summary, call| summary.longest_list(call).map(|n| n / RECORD);
+        let largest = summary(65_535, 65_535);
+        assert_eq!(records(largest, Listing::Access), Some(9));
+        assert_eq!(records(largest, Listing::Create), Some(11));
+        assert_eq!(records(largest, Listing::Delete), Some(1_051));
+        assert_eq!(records(largest, Listing::Rename), Some(1_053));
+        assert_eq!(records(largest, Listing::RenameSet), Some(1_081));
+        assert_eq!(records(largest, Listing::Recover), Some(1_027));
+        assert_eq!(records(summary(255, 4), Listing::Delete), Some(13));
+        assert_eq!(records(summary(255, 4), Listing::Recover), Some(260));
+        assert_eq!(records(summary(254, 4), Listing::Recover), None);
     }
 
     #[test]

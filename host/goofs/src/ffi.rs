@@ -51,6 +51,9 @@ results! {
 
     /// `length` bytes of the output are filled, a whole record.
     FormatRecordAnswer { code, length }
+
+    /// The most bytes that a list can have.
+    LongestAnswer { code, length }
 }
 
 /// Declares a call and puts a safe function around it. In C a slice is a pointer and a length, which
@@ -191,6 +194,11 @@ calls! {
         sectors: u64, files: u64, edition: u64, id: u64, mode: u32, time: u64, position: u64,
         output: buffer
     ) -> FormatRecordAnswer;
+
+    /// The most bytes of the list of a call, a number of `goofs_call` in goofs.h, on a volume of this geometry.
+    longest_list is goofs_longest_list(
+        files: u64, extents: u64, extent_sectors: u64, call: u64
+    ) -> LongestAnswer;
 
     /// Does all the writes of a list in their order, or none: 1 for the image, 8 for the list.
     carry_out is goofs_carry_out(image: buffer, list: bytes) -> u64;

@@ -46,10 +46,10 @@ pub mod system;
 pub mod volume;
 
 pub use ffi::{
-    carry_out, check, check_with, create, delete, find, format_record, list, read, recover,
-    recover_slice, rename, rename_set, repair, resize, summary, write,
+    carry_out, check, check_with, create, delete, find, format_record, list, longest_list, read,
+    recover, recover_slice, rename, rename_set, repair, resize, summary, write,
 };
 pub use ffi::{
-    ChangeAnswer, CheckAnswer, FindAnswer, FormatRecordAnswer, ListAnswer, ReadAnswer,
-    RecoverAnswer, RepairAnswer, SliceAnswer, SummaryAnswer,
+    ChangeAnswer, CheckAnswer, FindAnswer, FormatRecordAnswer, ListAnswer, LongestAnswer,
+    ReadAnswer, RecoverAnswer, RepairAnswer, SliceAnswer, SummaryAnswer,
 };

@@ -11,8 +11,14 @@ struct Superblock {
     journal_length: u16,
 }
 
-const SAMPLE: Superblock =
-    Superblock { files: 255, extents: 4, extent_sectors: 128, magic: *b"/Goo/FS/", version: 1, journal_length: 0 };
+const SAMPLE: Superblock = Superblock {
+    files: 255,
+    extents: 4,
+    extent_sectors: 128,
+    magic: *b"/Goo/FS/",
+    version: 1,
+    journal_length: 0,
+};
 
 /// The versions of the two editions.
 const EDITIONS: [u16; 2] = [1, 2];
@@ -36,7 +42,11 @@ impl Superblock {
 
     /// The nine lines, by the layout's table.
     fn expected(&self, state: &str) -> String {
-        let (f, n, s) = (self.files as u64, self.extents as u64, self.extent_sectors as u64);
+        let (f, n, s) = (
+            self.files as u64,
+            self.extents as u64,
+            self.extent_sectors as u64,
+        );
         let t = n.div_ceil(128);
         let k = (t + 3).div_ceil(s);
         format!(
@@ -63,7 +73,13 @@ fn geometries_at_their_bounds() {
         for extents in [2, 127, 128, 129, 65535] {
             for extent_sectors in sizes {
                 for version in EDITIONS {
-                    let s = Superblock { files, extents, extent_sectors, version, ..SAMPLE };
+                    let s = Superblock {
+                        files,
+                        extents,
+                        extent_sectors,
+                        version,
+                        ..SAMPLE
+                    };
                     assert_eq!(s.printed(), s.expected("clean"));
                 }
             }
@@ -74,7 +90,11 @@ fn geometries_at_their_bounds() {
 #[test]
 fn states() {
     for version in EDITIONS {
-        let with = |journal_length| Superblock { journal_length, version, ..SAMPLE };
+        let with = |journal_length| Superblock {
+            journal_length,
+            version,
+            ..SAMPLE
+        };
         for n in [1, 2, 513, 1023, 1024] {
             assert_eq!(with(n).printed(), SAMPLE.expected(&format!("waiting {n}")));
         }
@@ -114,14 +134,27 @@ fn refused_3_for_the_bounds() {
     }
     for extent_sectors in [0, 1, 127] {
         for version in EDITIONS {
-            assert_eq!(Superblock { extent_sectors, version, ..SAMPLE }.printed(), "refused 3\n");
+            assert_eq!(
+                Superblock {
+                    extent_sectors,
+                    version,
+                    ..SAMPLE
+                }
+                .printed(),
+                "refused 3\n"
+            );
         }
     }
 }
 
 #[test]
 fn the_lowest_refusal_is_given() {
-    let s = Superblock { files: 0, magic: *b"/Goo/FS.", journal_length: 65535, ..SAMPLE };
+    let s = Superblock {
+        files: 0,
+        magic: *b"/Goo/FS.",
+        journal_length: 65535,
+        ..SAMPLE
+    };
     assert_eq!(s.printed(), "refused 2\n");
     assert_eq!(run("superblock", &s.bytes()[..511]), "refused 1\n");
 }

@@ -20,6 +20,7 @@ mod foreign;
 mod formats;
 mod full_volume;
 mod geometries;
+mod lengths;
 mod longest_lists;
 mod older_names;
 mod older_volumes;

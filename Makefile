@@ -1,9 +1,9 @@
 # make demo   a card formatted, a calibration set saved, the power cut at each point of a save, and what the box would load
 # make test   proves every crate from nothing, tries the must-fail edits, runs the programs and the tests of the host side
 # make bench  each call beside plain Rust in one run
-# make soak [MINUTES=60]   fresh random cases for the proved library and the second program: runs of calls, cuts, damage, edges; prints the
-#             sums, and at the first difference a line that replays it (REPLAY=KIND:SEED). SEED=S CASES=N makes the same cases again,
-#             THREADS=T takes so many cores instead of all
+# make soak [MINUTES=60]   fresh random cases for the proved library and the second program: runs of calls, cuts, damage, edges, lent
+#             forms; prints the sums, and at the first difference a line that replays it (REPLAY=KIND:SEED). SEED=S CASES=N makes the
+#             same cases again, THREADS=T takes so many cores instead of all
 # make mutants   every wrong definition of host/definition-edits, with the statement that it makes false (84 of them took 12 minutes)
 # make vectors   the folder vectors/: small volumes of every kind as text, and what stands on each, for the tests of other readers
 # make install PREFIX=DIR [DESTDIR=DIR]   installs the command, its manual and completion, the header, the library and a pkg-config

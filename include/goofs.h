@@ -8,19 +8,20 @@
  *     files up to                          1,024    1,024    1,024    65,535
  *     extents up to                        1,024    4,096   65,535    65,535
  *
- *     check                                6,800    6,800   68,336   263,088
- *     find, list, read, create, write      8,144    8,144   69,680   264,432
- *     resize, delete, rename              15,808   15,808   77,344   272,096
- *     rename_set                          14,080   14,080   75,616   270,368
- *     repair                              15,800   51,768  338,616   338,616
- *     recover                                304      304      304       304
- *     the same of another writer's journal 4,792    4,792    4,792   133,160
- *     recover_slice                          320      320      320       320
- *     check_with                             384      384      384       384
+ *     check                                6,784    6,784   68,320   263,072
+ *     find, list, read, create, write      7,024    7,024   68,560   263,312
+ *     resize, delete, rename              12,504   12,504   68,464   263,216
+ *     rename_set                           9,528    9,528   68,464   263,216
+ *     repair                              15,928   51,896  338,744   338,744
+ *     recover                                888      888      888       888
+ *     the same of another writer's journal 5,400    5,400    5,400   133,768
+ *     recover_slice                          904      904      904       904
+ *     check_with                             448      448      448       448
  *     format_record                          632      632      632       632
- *     summary, carry_out, longest_list       184      184      184       184
+ *     summary, carry_out, longest_list       168      168      168       168
  *
- * Another writer's journal is one whose targets don't rise; no change of these calls leaves one.
+ * Another writer's journal is one whose targets don't rise; no change of these calls leaves one. A form on lent sectors, with its
+ * steps, took at most 432 bytes more than its call.
  *
  * `code` is a number of `enum goofs_code`; the lowest whose condition holds is given (but see goofs_rename_set). With any code but 0 all
  * other result numbers are 0 (except fault and place with 7, and place with 8 and 9 of goofs_rename_set) and no byte of a buffer has
@@ -75,7 +76,10 @@
  * where the list is not carried out. The format chooses the edition, and no call turns one into the other. A build of before edition 2
  * refuses such a volume with 2.
  *
- * A name is its bytes, without a 0 at the end. examples/detector.c is a whole program.
+ * For a card that does not fit in memory, the calls whose names end in _lent, at the end of this file, are lent only the sectors before
+ * the data area.
+ *
+ * A name is its bytes, without a 0 at the end. examples/detector.c is a whole program, examples/logger.c one for such a card.
  */
 #ifndef GOOFS_H
 #define GOOFS_H
@@ -111,6 +115,9 @@ extern "C" {
  * of so many sectors. */
 #define GOOFS_TABLE_SECTORS(extents) (((extents) + 127) / 128)
 #define GOOFS_RESERVE(extents, extent_sectors) ((GOOFS_TABLE_SECTORS(extents) + 3 + (extent_sectors) - 1) / (extent_sectors))
+
+/* The sectors before the data area: superblock, root, directory, journal, allocation table. */
+#define GOOFS_FRONT_SECTORS(files, extents) (34 + (files) + GOOFS_TABLE_SECTORS(extents))
 
 /* The longest list that each call can give, in bytes, by the volume's geometry, for buffers of a fixed length; goofs_longest_list gives the
  * same numbers while the program runs. Targets are the root, the entry, that of a file which a rename replaces, and sectors of the
@@ -366,6 +373,127 @@ uint64_t goofs_carry_out(uint8_t *image, size_t image_length, const uint8_t *lis
  * and whatever the arguments are. A call that is lent a list so long never gives 14 for it. The numbers are those of goofs_summary, or of
  * a volume that is to be made. Gives 0, 3 (files, extents or sectors per extent out of bounds) and 8 (no such call). */
 goofs_length_result goofs_longest_list(uint64_t files, uint64_t extents, uint64_t extent_sectors, uint64_t call);
+
+/* -------------------- on lent sectors, of a card that doesn't fit in memory
+ *
+ * Such a form is lent `front`, the first sectors of the volume, at least those before the data area (GOOFS_FRONT_SECTORS), and is told
+ * how many `sectors` the card has, which count as the image's: a volume longer than that is refused 3, and so is a front that ends
+ * before the data area, whatever the count. 1 is for a front that is empty or not whole sectors. Else it gives what the call of its
+ * name gives on the whole image: the same answer, list and bytes. Summary, check, find, list, create, delete, the renames and repair
+ * need no more. A read, a write, a resize that grows and a recovery ask besides for data sectors, one at a time. The state that comes
+ * back names the sector in `wanted`; goofs_read_step, goofs_write_step or goofs_recover_step is given that state and the sector's 512
+ * bytes, and gives the next state, until `wanted` is 0:
+ *
+ *     r = goofs_read_lent(front, front_length, sectors, name, name_length, offset, count, time, sizeof out, list, sizeof list);
+ *     while (r.code == GOOFS_DONE && r.wanted != 0) {
+ *         read_sector(r.wanted, window);
+ *         r = goofs_read_step(r, window, GOOFS_SECTOR, out, sizeof out);
+ *     }
+ *
+ * Then code, fault, place, count and length are the call's. All that front and arguments refuse is refused by the first call, 13 and
+ * 14 too; it wants a sector only with code 0. A step that is supplied with other than 512 bytes gives 8 and changes nothing, neither a
+ * byte nor another number of the state: the same sector can be supplied again. The list of a write, of a resize and of a recovery is
+ * whole, and its `length` no longer 0, when nothing is wanted any more; until then it is not to be carried out. That of a read is
+ * whole from the first call on. A state that is dropped is a call that was not made.
+ *
+ * Steps don't judge the volume again, and can't tell whether the bytes are those of the sector: no list may land between the first
+ * call and the last step, and output, list and, of a recovery, front stay the same ones. Who carries a list out copies the records of
+ * the front's sectors to the front, too: it is what the next call is lent. goofs_carry_out can't, as it takes whole images.
+ * goofs_recover_slice has no such form, so a card that doesn't fit in memory has no recovery in slices. Nor have goofs_format_record
+ * and goofs_longest_list, which need no image. */
+
+typedef struct {
+    uint64_t code, fault, place;
+    uint64_t count;                  /* bytes of the output, when nothing is wanted any more */
+    uint64_t length;                 /* bytes of the write list */
+    uint64_t wanted;                 /* a data sector, or 0 */
+    uint64_t skip, done, edge, next; /* the library's */
+} goofs_reading;
+
+typedef struct {
+    uint64_t sector;             /* a data sector, or 0 */
+    uint64_t from, to, position; /* the library's */
+} goofs_part;
+
+typedef struct {
+    uint64_t code, fault, place;
+    uint64_t length;   /* bytes of the write list; 0 as long as a sector is wanted */
+    goofs_part wanted; /* its sector is the one that is wanted */
+    goofs_part last;   /* the library's, */
+    uint64_t full;     /* and this */
+} goofs_writing;
+
+typedef struct {
+    uint64_t code;
+    uint64_t length;      /* bytes of the write list; 0 as long as a sector is wanted */
+    uint64_t wanted;      /* a data sector, or 0 */
+    uint64_t entry, full; /* the library's */
+} goofs_recovering;
+
+/* As goofs_summary. */
+goofs_summary_result goofs_summary_lent(const uint8_t *front, size_t front_length, uint64_t sectors);
+
+/* As goofs_check. */
+goofs_check_result goofs_check_lent(const uint8_t *front, size_t front_length, uint64_t sectors);
+
+/* As goofs_check_with. */
+goofs_check_result goofs_check_with_lent(const uint8_t *front, size_t front_length, uint64_t sectors, uint32_t *scratch, size_t numbers);
+
+/* As goofs_find. */
+goofs_find_result goofs_find_lent(const uint8_t *front, size_t front_length, uint64_t sectors, const uint8_t *name, size_t name_length);
+
+/* As goofs_list. */
+goofs_list_result goofs_list_lent(const uint8_t *front, size_t front_length, uint64_t sectors, uint64_t index, uint64_t time, uint8_t *out,
+                                  size_t out_length, uint8_t *list, size_t list_length);
+
+/* Begins what goofs_read does, into an output of `room` bytes, which the steps are lent. It asks for each sector with bytes of the span,
+ * in file order. */
+goofs_reading goofs_read_lent(const uint8_t *front, size_t front_length, uint64_t sectors, const uint8_t *name, size_t name_length,
+                              uint64_t offset, uint64_t count, uint64_t time, uint64_t room, uint8_t *list, size_t list_length);
+
+/* Puts the bytes of the wanted sector that are asked for into `out`, behind those of the steps before. */
+goofs_reading goofs_read_step(goofs_reading reading, const uint8_t *bytes, size_t length, uint8_t *out, size_t out_length);
+
+/* As goofs_create. */
+goofs_change_result goofs_create_lent(const uint8_t *front, size_t front_length, uint64_t sectors, const uint8_t *name, size_t name_length,
+                                      uint64_t id, uint32_t mode, uint64_t time, uint8_t *list, size_t list_length);
+
+/* As goofs_delete. */
+goofs_change_result goofs_delete_lent(const uint8_t *front, size_t front_length, uint64_t sectors, const uint8_t *name, size_t name_length,
+                                      uint64_t time, uint8_t *list, size_t list_length);
+
+/* As goofs_rename. */
+goofs_change_result goofs_rename_lent(const uint8_t *front, size_t front_length, uint64_t sectors, const uint8_t *old_name,
+                                      size_t old_length, const uint8_t *new_name, size_t new_length, uint64_t time, uint8_t *list,
+                                      size_t list_length);
+
+/* As goofs_rename_set. */
+goofs_change_result goofs_rename_set_lent(const uint8_t *front, size_t front_length, uint64_t sectors, const uint8_t *names,
+                                          size_t names_length, const uint64_t *lengths, size_t count, uint64_t time, uint8_t *list,
+                                          size_t list_length);
+
+/* Begins what goofs_resize does. One that grows asks as a write of zeros at the end would; one that shrinks asks for nothing. */
+goofs_writing goofs_resize_lent(const uint8_t *front, size_t front_length, uint64_t sectors, const uint8_t *name, size_t name_length,
+                                uint64_t size, uint64_t time, uint8_t *list, size_t list_length);
+
+/* Begins what goofs_write does. It asks for the first and the last sector of the span, where they are not covered whole: for two at most,
+ * for one if they are the same, also in an extent that the write itself takes. */
+goofs_writing goofs_write_lent(const uint8_t *front, size_t front_length, uint64_t sectors, const uint8_t *name, size_t name_length,
+                               uint64_t offset, const uint8_t *data, size_t data_length, uint64_t time, uint8_t *list, size_t list_length);
+
+/* Puts the bytes of the wanted sector that stay into the list of a write or resize. */
+goofs_writing goofs_write_step(goofs_writing writing, const uint8_t *bytes, size_t length, uint8_t *list, size_t list_length);
+
+/* As goofs_repair. */
+goofs_repair_result goofs_repair_lent(const uint8_t *front, size_t front_length, uint64_t sectors, uint8_t *list, size_t list_length);
+
+/* Begins what goofs_recover does. It asks for the copy of each target, in the journal's order. */
+goofs_recovering goofs_recover_lent(const uint8_t *front, size_t front_length, uint64_t sectors, uint8_t *list, size_t list_length);
+
+/* Puts the wanted copy into the list of a recovery. `front` holds the same sectors as in the first call; another journal, or a front that
+ * ends before the data area, gets 8. */
+goofs_recovering goofs_recover_step(goofs_recovering recovering, const uint8_t *front, size_t front_length, const uint8_t *bytes,
+                                    size_t length, uint8_t *list, size_t list_length);
 
 #ifdef __cplusplus
 }

@@ -1,6 +1,7 @@
 /* Tests of the C interface through include/goofs.h: all eighteen calls on volumes of both editions, every result number, every byte of
- * every buffer. What is expected is worked out from document 01 and stands here as plain numbers. The last line is 'N passed, M failed',
- * where a test is one function of the tables at the end, on one edition.
+ * every buffer. What is expected is worked out from document 01 and stands here as plain numbers. Each call on an image is made on lent
+ * sectors too, and must come to the same. The last line is 'N passed, M failed', where a test is one function of the tables at the end, on
+ * one edition.
  *
  * The sample volume, F = 255 on 1,313 sectors, has N = 4 extents of S = 128 sectors (65,536 bytes) and T = 1, K = 1:
  *
@@ -312,8 +313,140 @@ struct change {
     uint64_t place; /* of a set that is refused */
 };
 
+/* -------------------- the same on lent sectors */
+
+/* The bytes before the data area of an image that has one; of others as many as the sample's, or all, so that refusal 1 stays. */
+static size_t front_of(const uint8_t *image, size_t length)
+{
+    goofs_summary_result s = goofs_summary(image, length);
+    size_t front = s.code == 0 ? GOOFS_FRONT_SECTORS(s.files, s.extents) * 512 : 290 * 512;
+
+    return front < length && length % 512 == 0 ? front : length;
+}
+
+/* The image that is lent, and so the sectors that are supplied. */
+static const uint8_t *lender = medium.bytes;
+static size_t lender_length = IMAGE;
+
+#define FRONT lender, front_of(lender, lender_length), lender_length / 512
+
+/* The wanted sector at the end of 513 bytes, so that one byte too many can be supplied. */
+static const uint8_t *supplied(uint64_t sector)
+{
+    static uint8_t bytes[513];
+
+    if (sector >= lender_length / 512)
+        abort();
+    memset(bytes, LENT, sizeof bytes);
+    memcpy(bytes, lender + sector * 512, 512);
+    return bytes;
+}
+
+/* The buffer of a step, to see that nothing in it changes. */
+static uint8_t kept[LONGEST + 512];
+
+/* Counts of bytes that a step refuses. */
+static const size_t wrong_counts[] = {0, 511, 513, 1};
+
+/* The steps of a read to its end. Each sector is first supplied with a wrong count of bytes, and with an output that is too short. */
+static goofs_read_result read_to_the_end(goofs_reading r, uint8_t *out, size_t room)
+{
+    while (r.code == 0 && r.wanted != 0) {
+        const uint8_t *sector = supplied(r.wanted);
+        goofs_reading same = r;
+        size_t k;
+
+        same.code = 8;
+        memcpy(kept, out, room);
+        for (k = 0; k < sizeof wrong_counts / sizeof *wrong_counts; k++) {
+            goofs_reading got = goofs_read_step(r, k ? sector : NULL, wrong_counts[k], out, room);
+
+            result(__LINE__, "a step with a wrong count", &got, &same, sizeof got);
+        }
+        IS(goofs_reading, goofs_read_step(r, sector, 512, out, (size_t)r.count - 1), .code = 8, .count = r.count, .length = r.length,
+           .wanted = r.wanted, .skip = r.skip, .done = r.done, .edge = r.edge, .next = r.next);
+        bytes(__LINE__, "the output of a refused step", out, kept, room);
+        same.code = 0;
+        r = goofs_read_step(same, sector, 512, out, room); /* after a refusal as before it */
+    }
+    if (r.code == 0 && r.count != 0) { /* no more is taken */
+        goofs_reading same = r, got;
+
+        same.code = 8;
+        memcpy(kept, out, room);
+        got = goofs_read_step(r, medium.bytes, 512, out, room);
+        result(__LINE__, "a step behind the last", &got, &same, sizeof got);
+        bytes(__LINE__, "the output of a step behind the last", out, kept, room);
+    }
+    return (goofs_read_result){r.code, r.fault, r.place, r.count, r.length};
+}
+
+static goofs_change_result write_to_the_end(goofs_writing w, uint8_t *list, size_t room)
+{
+    size_t steps = 0;
+
+    while (w.code == 0 && w.wanted.sector != 0) {
+        const uint8_t *sector = supplied(w.wanted.sector);
+        goofs_writing same = w;
+        size_t k;
+
+        NUMBER(w.length, 0);
+        same.code = 8;
+        memcpy(kept, list, room);
+        for (k = 0; k < sizeof wrong_counts / sizeof *wrong_counts; k++) {
+            goofs_writing got = goofs_write_step(w, k ? sector : NULL, wrong_counts[k], list, room);
+
+            result(__LINE__, "a step with a wrong count", &got, &same, sizeof got);
+        }
+        bytes(__LINE__, "the list of a refused step", list, kept, room);
+        w = goofs_write_step(w, sector, 512, list, room);
+        steps++;
+    }
+    if (steps > 2)
+        differs(__LINE__, "more than two sectors were asked for");
+    if (steps > 0) {
+        goofs_writing same = w, got;
+
+        same.code = 8;
+        memcpy(kept, list, room);
+        got = goofs_write_step(w, medium.bytes, 512, list, room);
+        result(__LINE__, "a step behind the last", &got, &same, sizeof got);
+        bytes(__LINE__, "the list of a step behind the last", list, kept, room);
+    }
+    return (goofs_change_result){w.code, w.fault, w.place, w.length};
+}
+
+static goofs_length_result recover_lent(uint8_t *list, size_t room)
+{
+    goofs_recovering v = goofs_recover_lent(FRONT, list, room);
+    const size_t front = front_of(lender, lender_length);
+
+    while (v.code == 0 && v.wanted != 0) {
+        const uint8_t *sector = supplied(v.wanted);
+        goofs_recovering same = v, got;
+        size_t k;
+
+        NUMBER(v.length, 0);
+        same.code = 8;
+        memcpy(kept, list, room);
+        for (k = 0; k < sizeof wrong_counts / sizeof *wrong_counts; k++) {
+            got = goofs_recover_step(v, lender, front, k ? sector : NULL, wrong_counts[k], list, room);
+            result(__LINE__, "a step with a wrong count", &got, &same, sizeof got);
+        }
+        got = goofs_recover_step(v, lender, front - 512, sector, 512, list, room);
+        result(__LINE__, "a step with a front that is too short", &got, &same, sizeof got);
+        got = goofs_recover_step(v, lender, front, sector, 512, list, 4 * 528 - 1);
+        result(__LINE__, "a step with a list that is too short", &got, &same, sizeof got);
+        bytes(__LINE__, "the list of a refused step", list, kept, room);
+        v = goofs_recover_step(v, lender, front, sector, 512, list, room);
+    }
+    return (goofs_length_result){v.code, v.length};
+}
+
+/* -------------------- changes, on the image and on lent sectors */
+
 /* The names joined, and their lengths. */
-static goofs_change_result call_set(const char *words, uint64_t time, uint8_t *list, size_t room)
+static goofs_change_result call_set(const char *words, uint64_t time, uint8_t *list, size_t room, int is_lent)
 {
     static uint8_t names[512];
     uint64_t lengths[24] = {0};
@@ -327,7 +460,33 @@ static goofs_change_result call_set(const char *words, uint64_t time, uint8_t *l
             lengths[count - 1]++;
         }
     }
+    if (is_lent)
+        return goofs_rename_set_lent(FRONT, names, length, lengths, count, time, list, room);
     return goofs_rename_set(medium.bytes, IMAGE, names, length, lengths, count, time, list, room);
+}
+
+static goofs_change_result call_lent(const struct change *c, uint8_t *list, size_t room)
+{
+    static uint8_t new_name[512];
+    const uint8_t *name = (const uint8_t *)c->name;
+    size_t length = strlen(c->name), new_length = c->new_name ? strlen(c->new_name) : 0;
+    uint64_t time = late(c->time);
+
+    memcpy(new_name, c->new_name ? c->new_name : "", new_length);
+    switch (c->kind) {
+    case CREATE:
+        return goofs_create_lent(FRONT, name, length, c->id, c->mode, time, list, room);
+    case DELETE:
+        return goofs_delete_lent(FRONT, name, length, time, list, room);
+    case RENAME:
+        return goofs_rename_lent(FRONT, name, length, new_name, new_length, time, list, room);
+    case RENAME_SET:
+        return call_set(c->name, time, list, room, 1);
+    case RESIZE:
+        return write_to_the_end(goofs_resize_lent(FRONT, name, length, c->at, time, list, room), list, room);
+    default:
+        return write_to_the_end(goofs_write_lent(FRONT, name, length, c->at, c->data, c->data_length, time, list, room), list, room);
+    }
 }
 
 static goofs_change_result call(const struct change *c, uint8_t *list, size_t room)
@@ -346,7 +505,7 @@ static goofs_change_result call(const struct change *c, uint8_t *list, size_t ro
     case RENAME:
         return goofs_rename(medium.bytes, IMAGE, name, length, new_name, new_length, time, list, room);
     case RENAME_SET:
-        return call_set(c->name, time, list, room);
+        return call_set(c->name, time, list, room, 0);
     case RESIZE:
         return goofs_resize(medium.bytes, IMAGE, name, length, c->at, time, list, room);
     default:
@@ -372,29 +531,37 @@ static size_t longest(enum kind kind)
     }
 }
 
+typedef goofs_change_result caller(const struct change *c, uint8_t *list, size_t room);
+static caller *const ways[] = {call, call_lent};
+enum { WAYS = 2 };
+
 /* Check with scratch says what check says, with scratch exactly long enough and longer; one number less and none get 14 where check
- * judges soundness. Only 0 and 7 may change it, and nothing behind it. */
+ * judges soundness. Only 0 and 7 may change it, and nothing behind it. The same on lent sectors. */
 static void checked_with(const uint8_t *image, size_t length, uint64_t code, uint64_t fault, uint64_t place)
 {
     static uint32_t scratch[GOOFS_SCRATCH(65535, 65535) + 8];
     goofs_summary_result s = goofs_summary(image, length);
     size_t needed = s.code ? 0 : GOOFS_SCRATCH(s.files, s.extents), i, k;
-    const size_t numbers[] = {needed, needed + 7, needed ? needed - 1 : 0, 0};
+    const size_t numbers[] = {needed, needed + 7, needed ? needed - 1 : 0, 0}, front = front_of(image, length);
+    int is_lent;
 
-    for (k = 0; k < sizeof numbers / sizeof *numbers; k++) {
-        int judged = code == 0 || code == 7, enough = numbers[k] >= needed;
-        uint32_t changed = 0;
+    for (is_lent = 0; is_lent < 2; is_lent++) {
+        for (k = 0; k < sizeof numbers / sizeof *numbers; k++) {
+            int judged = code == 0 || code == 7, enough = numbers[k] >= needed;
+            goofs_check_result got, expected = {code, fault, place}, too_short = {.code = 14};
+            uint32_t changed = 0;
 
-        for (i = 0; i < needed + 8; i++)
-            scratch[i] = 0xa5a55a5au + (uint32_t)i;
-        if (judged && !enough)
-            IS(goofs_check_result, goofs_check_with(image, length, scratch, numbers[k]), .code = 14);
-        else
-            IS(goofs_check_result, goofs_check_with(image, length, scratch, numbers[k]), .code = code, .fault = fault, .place = place);
-        for (i = judged && enough ? numbers[k] : 0; i < needed + 8; i++)
-            changed |= scratch[i] ^ (0xa5a55a5au + (uint32_t)i);
-        NUMBER(changed, 0);
+            for (i = 0; i < needed + 8; i++)
+                scratch[i] = 0xa5a55a5au + (uint32_t)i;
+            got = is_lent ? goofs_check_with_lent(image, front, length / 512, scratch, numbers[k])
+                          : goofs_check_with(image, length, scratch, numbers[k]);
+            result(__LINE__, is_lent ? "check_with_lent" : "check_with", &got, judged && !enough ? &too_short : &expected, sizeof got);
+            for (i = judged && enough ? numbers[k] : 0; i < needed + 8; i++)
+                changed |= scratch[i] ^ (0xa5a55a5au + (uint32_t)i);
+            NUMBER(changed, 0);
+        }
     }
+    IS(goofs_check_result, goofs_check_lent(image, front, length / 512), .code = code, .fault = fault, .place = place);
 }
 
 /* The change gives the wanted list, into a list that has just its length, and into one as long as the header's macro; one byte
@@ -402,23 +569,25 @@ static void checked_with(const uint8_t *image, size_t length, uint64_t code, uin
 static void gives(struct change c)
 {
     size_t room[2];
-    int i;
+    int i, w;
 
     hold();
     room[0] = wanted.length;
     room[1] = longest(c.kind);
-    if (wanted.length > 0) {
-        lend();
-        IS(goofs_change_result, call(&c, lent.bytes, wanted.length - 1), .code = 14);
-        lent_is(__LINE__, NULL, 0);
-        IS(goofs_change_result, call(&c, NULL, 0), .code = 14);
-    } else {
-        IS(goofs_change_result, call(&c, NULL, 0), .code = 0, .length = 0);
-    }
-    for (i = 0; i < 2; i++) {
-        lend();
-        IS(goofs_change_result, call(&c, lent.bytes, room[i]), .code = 0, .length = wanted.length);
-        lent_is(__LINE__, wanted.bytes, wanted.length);
+    for (w = 0; w < WAYS; w++) {
+        if (wanted.length > 0) {
+            lend();
+            IS(goofs_change_result, ways[w](&c, lent.bytes, wanted.length - 1), .code = 14);
+            lent_is(__LINE__, NULL, 0);
+            IS(goofs_change_result, ways[w](&c, NULL, 0), .code = 14);
+        } else {
+            IS(goofs_change_result, ways[w](&c, NULL, 0), .code = 0, .length = 0);
+        }
+        for (i = 0; i < 2; i++) {
+            lend();
+            IS(goofs_change_result, ways[w](&c, lent.bytes, room[i]), .code = 0, .length = wanted.length);
+            lent_is(__LINE__, wanted.bytes, wanted.length);
+        }
     }
     held_is(__LINE__);
     NUMBER(goofs_carry_out(medium.bytes, IMAGE, lent.bytes, wanted.length), 0);
@@ -431,10 +600,14 @@ static void gives(struct change c)
 /* The change is refused, with any list: 14 is the highest number and the lowest that holds is given. No byte changes. */
 static void refused(uint64_t code, struct change c)
 {
+    int w;
+
     hold();
     lend();
-    IS(goofs_change_result, call(&c, lent.bytes, sizeof lent.bytes), .code = code, .place = c.place);
-    IS(goofs_change_result, call(&c, NULL, 0), .code = code, .place = c.place);
+    for (w = 0; w < WAYS; w++) {
+        IS(goofs_change_result, ways[w](&c, lent.bytes, sizeof lent.bytes), .code = code, .place = c.place);
+        IS(goofs_change_result, ways[w](&c, NULL, 0), .code = code, .place = c.place);
+    }
     lent_is(__LINE__, NULL, 0);
     held_is(__LINE__);
 }
@@ -492,6 +665,24 @@ static goofs_read_result read_call(const char *name, uint64_t offset, uint64_t c
                       l.out ? lent.bytes : NULL, l.out, l.list ? lent_list.bytes : NULL, l.list);
 }
 
+static goofs_list_result list_lent(uint64_t index, struct lending l)
+{
+    return goofs_list_lent(FRONT, index, late(ACCESS_TIME), l.out ? lent.bytes : NULL, l.out, l.list ? lent_list.bytes : NULL, l.list);
+}
+
+static goofs_read_result read_lent(const char *name, uint64_t offset, uint64_t count, struct lending l)
+{
+    goofs_reading r = goofs_read_lent(FRONT, (const uint8_t *)name, strlen(name), offset, count, late(ACCESS_TIME), l.out,
+                                      l.list ? lent_list.bytes : NULL, l.list);
+
+    return read_to_the_end(r, lent.bytes, l.out);
+}
+
+typedef goofs_list_result lister(uint64_t index, struct lending l);
+typedef goofs_read_result reader(const char *name, uint64_t offset, uint64_t count, struct lending l);
+static lister *const list_ways[] = {list_call, list_lent};
+static reader *const read_ways[] = {read_call, read_lent};
+
 static const struct lending much = {sizeof lent.bytes, sizeof lent_list.bytes}, nothing = {0, 0};
 
 /* Find and list give the entry; its name is copied to an output that has just its length, and to a longer one. The list sets the
@@ -500,26 +691,31 @@ static void entry_is(uint64_t index, struct entry e)
 {
     const uint8_t *name = (const uint8_t *)e.name, *list;
     size_t length = strlen(e.name), more;
+    int w;
 
     hold();
     IS(goofs_find_result, goofs_find(medium.bytes, IMAGE, name, length), .code = 0, .index = index, .size = e.size,
        .version = e.version, .id = e.id, .mode = e.mode, .access_time = late(e.access_time), .change_time = late(e.change_time),
        .name_length = length);
-    lend();
-    IS(goofs_list_result, list_call(index, (struct lending){length - 1, ACCESS_LIST}), .code = 14);
-    IS(goofs_list_result, list_call(index, (struct lending){length, ACCESS_LIST - 1}), .code = 14);
-    IS(goofs_list_result, list_call(index, (struct lending){length, 0}), .code = 14);
-    IS(goofs_list_result, list_call(index, nothing), .code = 14);
-    lent_is(__LINE__, NULL, 0);
-    list_is(__LINE__, NULL, 0);
+    IS(goofs_find_result, goofs_find_lent(FRONT, name, length), .code = 0, .index = index, .size = e.size, .version = e.version,
+       .id = e.id, .mode = e.mode, .access_time = late(e.access_time), .change_time = late(e.change_time), .name_length = length);
     list = access_list(1, 16);
-    for (more = 0; more <= 1; more++) {
+    for (w = 0; w < WAYS; w++) {
         lend();
-        IS(goofs_list_result, list_call(index, (struct lending){length + more, ACCESS_LIST + more}), .code = 0, .size = e.size,
-           .version = e.version, .id = e.id, .mode = e.mode, .access_time = late(e.access_time), .change_time = late(e.change_time),
-           .name_length = length, .length = ACCESS_LIST);
-        lent_is(__LINE__, name, length);
-        list_is(__LINE__, list, ACCESS_LIST);
+        IS(goofs_list_result, list_ways[w](index, (struct lending){length - 1, ACCESS_LIST}), .code = 14);
+        IS(goofs_list_result, list_ways[w](index, (struct lending){length, ACCESS_LIST - 1}), .code = 14);
+        IS(goofs_list_result, list_ways[w](index, (struct lending){length, 0}), .code = 14);
+        IS(goofs_list_result, list_ways[w](index, nothing), .code = 14);
+        lent_is(__LINE__, NULL, 0);
+        list_is(__LINE__, NULL, 0);
+        for (more = 0; more <= 1; more++) {
+            lend();
+            IS(goofs_list_result, list_ways[w](index, (struct lending){length + more, ACCESS_LIST + more}), .code = 0, .size = e.size,
+               .version = e.version, .id = e.id, .mode = e.mode, .access_time = late(e.access_time),
+               .change_time = late(e.change_time), .name_length = length, .length = ACCESS_LIST);
+            lent_is(__LINE__, name, length);
+            list_is(__LINE__, list, ACCESS_LIST);
+        }
     }
     held_is(__LINE__);
 }
@@ -533,23 +729,26 @@ static void reads(const char *name, uint64_t offset, uint64_t count, const uint8
     uint64_t index = goofs_find(medium.bytes, IMAGE, (const uint8_t *)name, strlen(name)).index;
     const uint8_t *list;
     size_t more;
+    int w;
 
     hold();
-    lend();
-    if (length > 0)
-        IS(goofs_read_result, read_call(name, offset, count, (struct lending){length - 1, ACCESS_LIST}), .code = 14);
-    IS(goofs_read_result, read_call(name, offset, count, (struct lending){length, ACCESS_LIST - 1}), .code = 14);
-    IS(goofs_read_result, read_call(name, offset, count, (struct lending){length, 0}), .code = 14);
-    IS(goofs_read_result, read_call(name, offset, count, nothing), .code = 14);
-    lent_is(__LINE__, NULL, 0);
-    list_is(__LINE__, NULL, 0);
     list = access_list(2 + index, 26);
-    for (more = 0; more <= 1; more++) {
+    for (w = 0; w < WAYS; w++) {
         lend();
-        IS(goofs_read_result, read_call(name, offset, count, (struct lending){length + more, ACCESS_LIST + more}), .code = 0,
-           .count = length, .length = ACCESS_LIST);
-        lent_is(__LINE__, expected, length);
-        list_is(__LINE__, list, ACCESS_LIST);
+        if (length > 0)
+            IS(goofs_read_result, read_ways[w](name, offset, count, (struct lending){length - 1, ACCESS_LIST}), .code = 14);
+        IS(goofs_read_result, read_ways[w](name, offset, count, (struct lending){length, ACCESS_LIST - 1}), .code = 14);
+        IS(goofs_read_result, read_ways[w](name, offset, count, (struct lending){length, 0}), .code = 14);
+        IS(goofs_read_result, read_ways[w](name, offset, count, nothing), .code = 14);
+        lent_is(__LINE__, NULL, 0);
+        list_is(__LINE__, NULL, 0);
+        for (more = 0; more <= 1; more++) {
+            lend();
+            IS(goofs_read_result, read_ways[w](name, offset, count, (struct lending){length + more, ACCESS_LIST + more}), .code = 0,
+               .count = length, .length = ACCESS_LIST);
+            lent_is(__LINE__, expected, length);
+            list_is(__LINE__, list, ACCESS_LIST);
+        }
     }
     held_is(__LINE__);
 }
@@ -558,10 +757,14 @@ static void reads(const char *name, uint64_t offset, uint64_t count, const uint8
 
 static void read_refused(uint64_t code, const char *name, uint64_t offset, uint64_t count)
 {
+    int w;
+
     hold();
     lend();
-    IS(goofs_read_result, read_call(name, offset, count, much), .code = code);
-    IS(goofs_read_result, read_call(name, offset, count, nothing), .code = code);
+    for (w = 0; w < WAYS; w++) {
+        IS(goofs_read_result, read_ways[w](name, offset, count, much), .code = code);
+        IS(goofs_read_result, read_ways[w](name, offset, count, nothing), .code = code);
+    }
     lent_is(__LINE__, NULL, 0);
     list_is(__LINE__, NULL, 0);
     held_is(__LINE__);
@@ -570,6 +773,50 @@ static void read_refused(uint64_t code, const char *name, uint64_t offset, uint6
 #define READ_REFUSED (from = __LINE__, read_refused)
 
 enum { NOT_THESE = 0, SUMMARY = 1, RECOVER = 2 };
+
+/* The forms on lent sectors refuse them, as the calls below do. */
+static void all_lent_refuse(int besides, const uint8_t *front, size_t length, uint64_t sectors, uint64_t code, uint64_t fault,
+                            uint64_t place)
+{
+    static const uint8_t beam[] = "beam", created[] = "new", one[] = "1", both[] = "beamnew";
+    static const uint64_t lengths[] = {4, 3};
+    int bad;
+
+    if (besides & SUMMARY)
+        IS(goofs_summary_result, goofs_summary_lent(front, length, sectors), .code = code);
+    IS(goofs_check_result, goofs_check_lent(front, length, sectors), .code = code, .fault = fault, .place = place);
+    for (bad = 0; bad < 2; bad++) {
+        const uint8_t *name = bad ? NULL : beam, *new_name = bad ? NULL : created, *data = bad ? NULL : one;
+        size_t name_length = bad ? 0 : 4, new_length = bad ? 0 : 3, data_length = bad ? 0 : 1, room = bad ? 0 : sizeof lent.bytes;
+        uint64_t number = bad ? UINT64_MAX : 0, time = number;
+        uint8_t *out = bad ? NULL : lent.bytes, *list = bad ? NULL : lent_list.bytes;
+
+        IS(goofs_find_result, goofs_find_lent(front, length, sectors, name, name_length), .code = code, .fault = fault, .place = place);
+        IS(goofs_list_result, goofs_list_lent(front, length, sectors, number, time, out, room, list, room), .code = code,
+           .fault = fault, .place = place);
+        IS(goofs_reading, goofs_read_lent(front, length, sectors, name, name_length, number, number, time, room, list, room),
+           .code = code, .fault = fault, .place = place);
+        IS(goofs_change_result, goofs_create_lent(front, length, sectors, new_name, new_length, bad ? 0 : 99, 0, time, out, room),
+           .code = code, .fault = fault, .place = place);
+        IS(goofs_change_result, goofs_delete_lent(front, length, sectors, name, name_length, time, out, room), .code = code,
+           .fault = fault, .place = place);
+        IS(goofs_change_result,
+           goofs_rename_lent(front, length, sectors, name, name_length, new_name, new_length, time, out, room), .code = code,
+           .fault = fault, .place = place);
+        IS(goofs_change_result,
+           goofs_rename_set_lent(front, length, sectors, bad ? NULL : both, bad ? 0 : 7, bad ? NULL : lengths, bad ? 0 : 2, time, out,
+                                 room),
+           .code = code, .fault = fault, .place = place);
+        IS(goofs_writing, goofs_resize_lent(front, length, sectors, name, name_length, number, time, out, room), .code = code,
+           .fault = fault, .place = place);
+        IS(goofs_writing, goofs_write_lent(front, length, sectors, name, name_length, number, data, data_length, time, out, room),
+           .code = code, .fault = fault, .place = place);
+        if (code != 7)
+            IS(goofs_repair_result, goofs_repair_lent(front, length, sectors, out, room), .code = code);
+        if (besides & RECOVER)
+            IS(goofs_recovering, goofs_recover_lent(front, length, sectors, out, room), .code = code);
+    }
+}
 
 /* check, find, list, read, create, delete, rename, a set of renames, resize and write, and those that are named besides, refuse the
  * image. Arguments that are bad in every other way change nothing, as the lowest number is given. */
@@ -616,6 +863,8 @@ static void all_refuse(int besides, const uint8_t *image, size_t length, uint64_
         if (besides & RECOVER)
             IS(goofs_slice_result, goofs_recover_slice(image, length, number, out, room), .code = code);
     }
+    all_lent_refuse(besides, image, length, length / 512, code, fault, place);
+    all_lent_refuse(besides, image, front_of(image, length), length / 512, code, fault, place);
     lent_is(__LINE__, NULL, 0);
     list_is(__LINE__, NULL, 0);
     held_is(__LINE__);
@@ -625,8 +874,12 @@ static void all_refuse(int besides, const uint8_t *image, size_t length, uint64_
 
 /* The sample's summary, with this state. */
 #define SAMPLE_IS(...) \
-    IS(goofs_summary_result, goofs_summary(medium.bytes, IMAGE), .files = 255, .extents = 4, .extent_sectors = 128, \
-       .edition = volume.edition, __VA_ARGS__)
+    do { \
+        IS(goofs_summary_result, goofs_summary(medium.bytes, IMAGE), .files = 255, .extents = 4, .extent_sectors = 128, \
+           .edition = volume.edition, __VA_ARGS__); \
+        IS(goofs_summary_result, goofs_summary_lent(FRONT), .files = 255, .extents = 4, .extent_sectors = 128, \
+           .edition = volume.edition, __VA_ARGS__); \
+    } while (0)
 
 /* -------------------- the volume to begin with */
 
@@ -710,6 +963,10 @@ static void sizes_of_results(void)
     NUMBER(sizeof(goofs_repair_result), 40);  /* 5 */
     NUMBER(sizeof(goofs_length_result), 16);  /* 2 */
     NUMBER(sizeof(goofs_slice_result), 24);   /* 3 */
+    NUMBER(sizeof(goofs_reading), 80);        /* 10 */
+    NUMBER(sizeof(goofs_part), 32);           /* 4 */
+    NUMBER(sizeof(goofs_writing), 104);       /* 5 and two parts */
+    NUMBER(sizeof(goofs_recovering), 40);     /* 5 */
 }
 
 static void macros(void)
@@ -1414,7 +1671,7 @@ static void rename_sets_refused(void)
     REFUSED(9, RENAME_SET, "beam t t gain gain beam t x", .place = 3);
     REFUSED(9, RENAME_SET, "beam beam none none", .place = 1);
     REFUSED(9, RENAME_SET, "beam t t beam beam t t beam beam t t beam beam t none beam", .place = 7);
-    IS(goofs_change_result, call_set("beam t t gain", late(7), NULL, 0), .code = 14);
+    IS(goofs_change_result, call_set("beam t t gain", late(7), NULL, 0, 0), .code = 14);
 }
 
 /* A swap of which any number of records landed in order: with the start mark, which is the sixth, both names are changed over after a
@@ -1426,7 +1683,7 @@ static void rename_sets_cut(void)
     goofs_length_result recovery;
 
     two_files();
-    IS(goofs_change_result, call_set("beam t gain beam t gain", late(1004), list, sizeof list), .length = 6864);
+    IS(goofs_change_result, call_set("beam t gain beam t gain", late(1004), list, sizeof list, 0), .length = 6864);
     for (landed = 0; landed <= 13; landed++) {
         two_files();
         from = (int)landed;
@@ -1465,6 +1722,8 @@ static void cut_before_the_start_mark(void)
     lend();
     IS(goofs_length_result, goofs_recover(medium.bytes, IMAGE, NULL, 0), .code = 0, .length = 0);
     IS(goofs_length_result, goofs_recover(medium.bytes, IMAGE, lent.bytes, sizeof lent.bytes), .code = 0, .length = 0);
+    IS(goofs_recovering, goofs_recover_lent(FRONT, NULL, 0), .code = 0, .length = 0);
+    IS(goofs_recovering, goofs_recover_lent(FRONT, lent.bytes, sizeof lent.bytes), .code = 0, .length = 0);
     lent_is(__LINE__, NULL, 0);
     IS(goofs_find_result, goofs_find(medium.bytes, IMAGE, (const uint8_t *)"new", 3), .code = 9);
     GIVES(CREATE, "new", .id = 77, .time = 1004); /* the same list once more, now whole */
@@ -1507,6 +1766,14 @@ static void cut_after_the_start_mark(void)
         lent_is(__LINE__, tail, 3168);
         lend();
         IS(goofs_length_result, goofs_recover(medium.bytes, IMAGE, lent.bytes, GOOFS_RECOVER_LIST), .code = 0, .length = 3168);
+        lent_is(__LINE__, tail, 3168);
+        lend();
+        IS(goofs_length_result, recover_lent(lent.bytes, 3167), .code = 14);
+        lent_is(__LINE__, NULL, 0);
+        IS(goofs_length_result, recover_lent(lent.bytes, 3168), .code = 0, .length = 3168);
+        lent_is(__LINE__, tail, 3168);
+        lend();
+        IS(goofs_length_result, recover_lent(lent.bytes, GOOFS_RECOVER_LIST), .code = 0, .length = 3168);
         lent_is(__LINE__, tail, 3168);
         lend();
         IS(goofs_slice_result, goofs_recover_slice(medium.bytes, IMAGE, 0, lent.bytes, sizeof lent.bytes), .code = 8);
@@ -1576,6 +1843,8 @@ static void bad_journals(void)
         lend();
         IS(goofs_length_result, goofs_recover(medium.bytes, IMAGE, lent.bytes, sizeof lent.bytes), .code = 6);
         IS(goofs_length_result, goofs_recover(medium.bytes, IMAGE, NULL, 0), .code = 6);
+        IS(goofs_recovering, goofs_recover_lent(FRONT, lent.bytes, sizeof lent.bytes), .code = 6);
+        IS(goofs_recovering, goofs_recover_lent(FRONT, NULL, 0), .code = 6);
         IS(goofs_slice_result, goofs_recover_slice(medium.bytes, IMAGE, 0, lent.bytes, sizeof lent.bytes), .code = 6);
         lent_is(__LINE__, NULL, 0);
         held_is(__LINE__);
@@ -1685,7 +1954,15 @@ static void repairs(uint64_t freed, uint64_t fault, uint64_t place)
         IS(goofs_repair_result, goofs_repair(medium.bytes, IMAGE, NULL, 0), .code = 14);
         lent_is(__LINE__, NULL, 0);
     }
+    if (wanted.length > 0) {
+        IS(goofs_repair_result, goofs_repair_lent(FRONT, lent.bytes, wanted.length - 1), .code = 14);
+        lent_is(__LINE__, NULL, 0);
+    }
     for (i = 0; i < 2; i++) {
+        lend();
+        IS(goofs_repair_result, goofs_repair_lent(FRONT, lent.bytes, room[i]), .code = 0, .fault = fault, .place = place,
+           .length = wanted.length, .freed = freed);
+        lent_is(__LINE__, wanted.bytes, wanted.length);
         lend();
         IS(goofs_repair_result, goofs_repair(medium.bytes, IMAGE, lent.bytes, room[i]), .code = 0, .fault = fault, .place = place,
            .length = wanted.length, .freed = freed);
@@ -1981,9 +2258,9 @@ static void times_of_calls(void)
         NUMBER(goofs_write(medium.bytes, IMAGE, beam, 4, 3001, data, 9, t, lent.bytes, LONGEST).code, bad ? 8 : 12);
         NUMBER(goofs_rename(medium.bytes, IMAGE, beam, 4, gain, 4, t, lent.bytes, LONGEST).code, bad ? 8 : 0);
         NUMBER(goofs_rename(medium.bytes, IMAGE, none, 4, gain, 4, t, lent.bytes, LONGEST).code, bad ? 8 : 9);
-        IS(goofs_change_result, call_set("none gain", t, lent.bytes, LONGEST), .code = bad ? 8 : 9);
-        IS(goofs_change_result, call_set("beam t none gain", t, lent.bytes, LONGEST), .code = bad ? 8 : 9, .place = bad ? 0 : 1);
-        IS(goofs_change_result, call_set("beam beam", t, NULL, 0), .code = bad ? 8 : 0);
+        IS(goofs_change_result, call_set("none gain", t, lent.bytes, LONGEST, 0), .code = bad ? 8 : 9);
+        IS(goofs_change_result, call_set("beam t none gain", t, lent.bytes, LONGEST, 0), .code = bad ? 8 : 9, .place = bad ? 0 : 1);
+        IS(goofs_change_result, call_set("beam beam", t, NULL, 0, 0), .code = bad ? 8 : 0);
         NUMBER(goofs_read(medium.bytes, IMAGE, beam, 4, 0, 9, t, lent.bytes, LONGEST, lent_list.bytes, LONGEST).code, bad ? 8 : 0);
         NUMBER(goofs_read(medium.bytes, IMAGE, none, 4, 0, 9, t, lent.bytes, LONGEST, lent_list.bytes, LONGEST).code, bad ? 8 : 9);
         NUMBER(goofs_read(medium.bytes, IMAGE, beam, 4, 3001, 0, t, NULL, 0, lent_list.bytes, LONGEST).code, bad ? 8 : 12);
@@ -2133,6 +2410,16 @@ static void longest_recovery(void)
         lent_is(__LINE__, NULL, 0);
         IS(goofs_length_result, goofs_recover(image, sizeof image, lent.bytes, GOOFS_RECOVER_LIST), .code = 0, .length = 542256);
         lent_is(__LINE__, wanted.bytes, 542256);
+        /* Asked for in the journal's order, a shared source again, the list is the same, in rising order. */
+        lender = image;
+        lender_length = sizeof image;
+        lend();
+        IS(goofs_recovering, goofs_recover_lent(FRONT, lent.bytes, GOOFS_RECOVER_LIST - 1), .code = 14);
+        lent_is(__LINE__, NULL, 0);
+        IS(goofs_length_result, recover_lent(lent.bytes, GOOFS_RECOVER_LIST), .code = 0, .length = 542256);
+        lent_is(__LINE__, wanted.bytes, 542256);
+        lender = medium.bytes;
+        lender_length = IMAGE;
         /* After the list has landed the volume is clean. The entries 0 to 3 are full of 255, so they have the mark of an occupied
          * one; entry 4 is full of 254, and that is no mark. */
         NUMBER(goofs_carry_out(image, sizeof image, lent.bytes, 542256), 0);
@@ -2383,6 +2670,253 @@ static int older_volume(void)
     return 1;
 }
 
+/* The sectors that are asked for, by their numbers: 0 ends them. */
+static void asks_read(const char *name, uint64_t offset, uint64_t count, const uint64_t *expected)
+{
+    goofs_reading r = goofs_read_lent(FRONT, (const uint8_t *)name, strlen(name), offset, count, late(ACCESS_TIME), sizeof lent.bytes,
+                                      lent_list.bytes, sizeof lent_list.bytes);
+
+    for (; *expected != 0; expected++) {
+        NUMBER(r.code, 0);
+        NUMBER(r.wanted, *expected);
+        r = goofs_read_step(r, supplied(r.wanted), 512, lent.bytes, sizeof lent.bytes);
+    }
+    NUMBER(r.code, 0);
+    NUMBER(r.wanted, 0);
+}
+
+static void asks_write(goofs_writing w, uint64_t first, uint64_t second, uint64_t length)
+{
+    NUMBER(w.code, 0);
+    NUMBER(w.wanted.sector, first);
+    if (first != 0) {
+        NUMBER(w.length, 0);
+        w = goofs_write_step(w, supplied(w.wanted.sector), 512, lent.bytes, sizeof lent.bytes);
+        NUMBER(w.code, 0);
+        NUMBER(w.wanted.sector, second);
+    }
+    if (second != 0) {
+        NUMBER(w.length, 0);
+        w = goofs_write_step(w, supplied(w.wanted.sector), 512, lent.bytes, sizeof lent.bytes);
+        NUMBER(w.code, 0);
+        NUMBER(w.wanted.sector, 0);
+    }
+    NUMBER(w.length, length);
+}
+
+#define ASKS_READ (from = __LINE__, asks_read)
+#define ASKS_WRITE (from = __LINE__, asks_write)
+#define WRITE_LENT(name, offset, from_, count) \
+    goofs_write_lent(FRONT, (const uint8_t *)(name), strlen(name), (offset), (from_), (count), late(1005), lent.bytes, \
+                     sizeof lent.bytes)
+#define RESIZE_LENT(name, size) \
+    goofs_resize_lent(FRONT, (const uint8_t *)(name), strlen(name), (size), late(1005), lent.bytes, sizeof lent.bytes)
+
+/* "beam" grows to 66,000 bytes, over extent 0 at sector 290 and, as "gain" takes extent 1 before, extent 2 at sector 546. The bytes of the
+ * first one that no write has touched are MEDIUM. */
+static void asked_sectors(void)
+{
+    static uint8_t whole[66000];
+    uint64_t i;
+
+    two_files();
+    ASKS_READ("beam", 0, 0, (const uint64_t[]){0});
+    ASKS_READ("beam", 3000, 5, (const uint64_t[]){0});
+    ASKS_READ("gain", 0, 512, (const uint64_t[]){0});
+    ASKS_READ("beam", 0, 512, (const uint64_t[]){290, 0});
+    ASKS_READ("beam", 511, 2, (const uint64_t[]){290, 291, 0});
+    ASKS_READ("beam", 2559, 65536, (const uint64_t[]){294, 295, 0}); /* to the end, 3,000 */
+
+    /* Records behind the data: an entry's change has 9, an extent just taken 11. */
+    ASKS_WRITE(WRITE_LENT("beam", 0, data, 512), 0, 0, 10 * 528);
+    ASKS_WRITE(WRITE_LENT("beam", 0, data, 1), 290, 0, 10 * 528);      /* the start of one sector, */
+    ASKS_WRITE(WRITE_LENT("beam", 511, data, 1), 290, 0, 10 * 528);    /* its end, */
+    ASKS_WRITE(WRITE_LENT("beam", 100, data, 200), 290, 0, 10 * 528);  /* its middle; */
+    ASKS_WRITE(WRITE_LENT("beam", 511, data, 2), 290, 291, 11 * 528);  /* a byte of each of two; */
+    ASKS_WRITE(WRITE_LENT("beam", 512, data, 600), 292, 0, 11 * 528);  /* one whole and a part behind it, */
+    ASKS_WRITE(WRITE_LENT("beam", 500, data, 524), 290, 0, 11 * 528);  /* or before it; */
+    ASKS_WRITE(WRITE_LENT("beam", 3000, data, 10), 295, 0, 10 * 528);  /* behind the end */
+    ASKS_WRITE(WRITE_LENT("beam", 0, data, 0), 0, 0, 0);
+    ASKS_WRITE(WRITE_LENT("gain", 0, data, 1), 418, 0, 12 * 528); /* into an extent that is just taken: its old bytes stay */
+    ASKS_WRITE(RESIZE_LENT("beam", 3000), 0, 0, 0);
+    ASKS_WRITE(RESIZE_LENT("beam", 2999), 0, 0, 9 * 528);
+    ASKS_WRITE(RESIZE_LENT("beam", 3001), 295, 0, 10 * 528);
+    ASKS_WRITE(RESIZE_LENT("beam", 4000), 295, 297, 12 * 528);
+    ASKS_WRITE(RESIZE_LENT("beam", 4096), 295, 0, 12 * 528);
+    ASKS_WRITE(RESIZE_LENT("gain", 1024), 0, 0, 13 * 528);
+
+    MADE(WRITE, "gain", .at = 0, .data = data, .data_length = 1, .time = 1004);
+    ASKS_WRITE(WRITE_LENT("beam", 3000, data, 63000), 295, 546, 135 * 528); /* 123 sectors to the edge and one in extent 2 */
+    MADE(WRITE, "beam", .at = 3000, .data = data, .data_length = 63000, .time = 1005);
+    memcpy(whole, data, 3000);
+    memcpy(whole + 3000, data, 63000);
+    READS("beam", 0, 65536, whole, 65536);
+    READS("beam", 1000, 65000, whole + 1000, 65000);
+    READS("beam", 65535, 2, whole + 65535, 2);
+    ASKS_READ("beam", 65000, 1000, (const uint64_t[]){416, 417, 546, 0}); /* over the edge of the first extent */
+    ASKS_READ("beam", 65536, 1, (const uint64_t[]){546, 0});
+    ASKS_WRITE(WRITE_LENT("beam", 65535, data, 2), 417, 546, 11 * 528);
+    for (i = 0; i < 3; i++) { /* each by both ways, and byte for byte */
+        const uint64_t spans[3][2] = {{100, 200}, {400, 300}, {65500, 100}};
+        goofs_change_result of_image, of_lent;
+        const struct change c = {WRITE, "beam", .at = spans[i][0], .data = data + 7, .data_length = (size_t)spans[i][1], .time = 1006};
+
+        lend();
+        of_image = call(&c, lent.bytes, sizeof lent.bytes);
+        of_lent = call_lent(&c, lent_list.bytes, sizeof lent_list.bytes);
+        result(__LINE__, "a write's answers", &of_lent, &of_image, sizeof of_image);
+        NUMBER(of_image.code, 0);
+        bytes(__LINE__, "a write's lists", lent_list.bytes, lent.bytes, sizeof lent.bytes);
+    }
+}
+
+/* Which sectors are lent, and how many the card is said to have. */
+static void lent_and_counted(void)
+{
+    static const uint64_t enough[] = {802, 803, 1313, UINT64_C(1) << 55, UINT64_MAX}; /* in bytes, two of them have more than 64 bits */
+    const size_t front = 290 * 512;
+    const uint8_t *image = medium.bytes;
+    size_t k, more;
+
+    two_files();
+    NUMBER(GOOFS_FRONT_SECTORS(255, 4), 290);
+    for (k = 0; k < sizeof enough / sizeof *enough; k++) {
+        for (more = 0; more <= 1024; more += 512) {
+            IS(goofs_check_result, goofs_check_lent(image, front + more, enough[k]), .code = 0);
+            IS(goofs_summary_result, goofs_summary_lent(image, front + more, enough[k]), .files = 255, .extents = 4,
+               .extent_sectors = 128, .edition = volume.edition);
+        }
+    }
+    hold();
+    lend();
+    all_lent_refuse(SUMMARY | RECOVER, NULL, 0, 802, 1, 0, 0);
+    all_lent_refuse(SUMMARY | RECOVER, image, front - 1, 802, 1, 0, 0);
+    all_lent_refuse(SUMMARY | RECOVER, image, front + 511, 802, 1, 0, 0);
+    all_lent_refuse(SUMMARY | RECOVER, image, front, 801, 3, 0, 0); /* the volume has 802 sectors */
+    all_lent_refuse(SUMMARY | RECOVER, image, front, 290, 3, 0, 0);
+    all_lent_refuse(SUMMARY | RECOVER, image, front, 0, 3, 0, 0);
+    all_lent_refuse(SUMMARY | RECOVER, image, IMAGE, 801, 3, 0, 0); /* the count goes, though all sectors are lent */
+    all_lent_refuse(SUMMARY | RECOVER, image, front - 512, 802, 3, 0, 0);
+    all_lent_refuse(SUMMARY | RECOVER, image, front - 512, UINT64_MAX, 3, 0, 0);
+    all_lent_refuse(SUMMARY | RECOVER, image, 512, 802, 3, 0, 0);
+    lent_is(__LINE__, NULL, 0);
+    list_is(__LINE__, NULL, 0);
+    held_is(__LINE__);
+}
+
+/* States that no first call gave, and fronts of another volume: the step is refused and changes nothing, or it is a step of that state; the
+ * volume is not looked at. */
+static void states_of_steps(void)
+{
+    static const uint64_t no_sectors[] = {0, UINT64_MAX};
+    static uint8_t front[290 * 512];
+    const uint8_t *name = (const uint8_t *)"beam";
+    goofs_reading r, past_the_end;
+    goofs_writing w;
+    goofs_recovering v;
+    size_t k;
+
+    two_files();
+    lend();
+    r = goofs_read_lent(FRONT, name, 4, 100, 1000, late(1), 1000, lent_list.bytes, sizeof lent_list.bytes);
+    NUMBER(r.wanted, 290);
+    w = goofs_write_lent(FRONT, name, 4, 100, data, 1000, late(1), lent_list.bytes, sizeof lent_list.bytes);
+    NUMBER(w.wanted.sector, 290);
+    for (k = 0; k < 2; k++) {
+        goofs_reading bad = r, got, same;
+        goofs_writing bad_write = w, got_write, same_write;
+
+        bad.wanted = no_sectors[k];
+        same = bad;
+        same.code = 8;
+        got = goofs_read_step(bad, data, 512, lent.bytes, 1000);
+        result(__LINE__, "a read of no sector", &got, &same, sizeof got);
+        bad_write.wanted.sector = no_sectors[k];
+        same_write = bad_write;
+        same_write.code = 8;
+        got_write = goofs_write_step(bad_write, data, 512, lent.bytes, sizeof lent.bytes);
+        result(__LINE__, "a write of no sector", &got_write, &same_write, sizeof got_write);
+    }
+    lent_is(__LINE__, NULL, 0);
+    past_the_end = r;
+    past_the_end.wanted = 802; /* a step doesn't know the volume's length */
+    r = goofs_read_step(past_the_end, data, 512, lent.bytes, 1000);
+    NUMBER(r.code, 0);
+    NUMBER(r.wanted, 803);
+    lent_is(__LINE__, data + 100, 412);
+    past_the_end.done = 1001;
+    IS(goofs_reading, goofs_read_step(past_the_end, data, 512, lent.bytes, 1000), .code = 8, .count = 1000, .length = 4752,
+       .wanted = 802, .skip = 100, .done = 1001, .edge = 65436, .next = past_the_end.next);
+    lent_is(__LINE__, data + 100, 412);
+
+    /* A volume that waits, cut after the start mark of the delete of "beam": 3 entries. */
+    memcpy(front, medium.bytes, sizeof front);
+    MADE(DELETE, "beam", .time = 1004);
+    lend();
+    NUMBER(goofs_delete(front, sizeof front, name, 4, late(1004), lent.bytes, 6864).code, 3);
+    two_files();
+    NUMBER(goofs_delete(medium.bytes, IMAGE, name, 4, late(1004), lent.bytes, sizeof lent.bytes).length, 6864);
+    NUMBER(goofs_carry_out(medium.bytes, IMAGE, lent.bytes, 7 * 528), 0);
+    lend();
+    v = goofs_recover_lent(FRONT, lent.bytes, 3168);
+    NUMBER(v.code, 0);
+    for (k = 0; k < 3; k++) { /* the copies, in the journal's order */
+        goofs_recovering bad = v;
+
+        NUMBER(v.wanted, 674 + k);
+        NUMBER(v.length, 0);
+        IS(goofs_recovering, goofs_recover_step(v, front, sizeof front, data, 512, lent_list.bytes, 3168), .code = 8,
+           .wanted = 674 + k, .entry = v.entry, .full = v.full); /* a front without a journal */
+        bad.wanted = 802;
+        IS(goofs_recovering, goofs_recover_step(bad, medium.bytes, sizeof front, data, 512, lent_list.bytes, 3168), .code = 8,
+           .wanted = 802, .entry = v.entry, .full = v.full);
+        IS(goofs_recovering, goofs_recover_step(v, medium.bytes, sizeof front, data, 512, lent_list.bytes, 3167), .code = 8,
+           .wanted = 674 + k, .entry = v.entry, .full = v.full);
+        list_is(__LINE__, NULL, 0);
+        v = goofs_recover_step(v, medium.bytes, sizeof front, supplied(v.wanted), 512, lent.bytes, 3168);
+        NUMBER(v.code, 0);
+    }
+    NUMBER(v.wanted, 0);
+    NUMBER(v.length, 3168);
+    NUMBER(goofs_carry_out(medium.bytes, IMAGE, lent.bytes, 3168), 0);
+    IS(goofs_check_result, goofs_check(medium.bytes, IMAGE), .code = 0);
+    IS(goofs_find_result, goofs_find_lent(FRONT, name, 4), .code = 9);
+}
+
+/* A volume of which a change was cut anywhere behind its start mark: recovered on lent sectors as on the image. */
+static void lent_recovery_after_cuts(void)
+{
+    static uint8_t whole[IMAGE];
+    static struct buffer change;
+    size_t records, landed;
+    goofs_change_result answer;
+
+    two_files();
+    answer = goofs_rename(medium.bytes, IMAGE, (const uint8_t *)"gain", 4, (const uint8_t *)"beam", 4, late(1004), change.bytes,
+                          sizeof change.bytes);
+    records = (size_t)answer.length / 528; /* 4 targets: 9 records up to the start mark and its barrier */
+    NUMBER(records, 15);
+    memcpy(whole, medium.bytes, IMAGE);
+    NUMBER(goofs_carry_out(whole, IMAGE, change.bytes, (size_t)answer.length), 0);
+    for (landed = 0; landed <= records; landed++) {
+        goofs_length_result of_image, of_lent;
+
+        two_files();
+        NUMBER(goofs_carry_out(medium.bytes, IMAGE, change.bytes, landed * 528), 0);
+        lend();
+        of_image = goofs_recover(medium.bytes, IMAGE, lent.bytes, sizeof lent.bytes);
+        of_lent = recover_lent(lent_list.bytes, sizeof lent_list.bytes);
+        result(__LINE__, "a recovery's answers", &of_lent, &of_image, sizeof of_image);
+        bytes(__LINE__, "a recovery's lists", lent_list.bytes, lent.bytes, sizeof lent.bytes);
+        NUMBER(of_image.code, 0);
+        NUMBER(of_image.length, landed >= 7 && landed < 14 ? 7 * 528 : 0);
+        if (landed < 7)
+            continue;
+        NUMBER(goofs_carry_out(medium.bytes, IMAGE, lent_list.bytes, (size_t)of_lent.length), 0);
+        bytes(__LINE__, "the image after recovery", medium.bytes, whole, IMAGE);
+    }
+}
+
 struct test {
     const char *name;
     void (*run)(void);
@@ -2418,6 +2952,10 @@ static const struct test tests[] = {
     {"times of calls", times_of_calls},
     {"full directory", full_directory},
     {"longest recovery", longest_recovery},
+    {"asked sectors", asked_sectors},
+    {"lent and counted", lent_and_counted},
+    {"states of steps", states_of_steps},
+    {"lent recovery after cuts", lent_recovery_after_cuts},
 };
 
 /* These know no edition. */

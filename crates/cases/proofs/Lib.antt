@@ -9,3 +9,4 @@ pub mod ReservesComputed
 pub mod RenameSetsComputed
 pub mod ExchangesComputed
 pub mod LengthsComputed
+pub mod LinesComputed

@@ -24,6 +24,7 @@ use Rattle.model.specs.Catalogue.{Catalogue, catalogueOf, isFree, fileNamed, fr
 use Rattle.model.specs.Refusals.{Conditions, verdictOf, refusal, done, judged}
 use Rattle.model.specs.WriteList.{Plan, recordSize, Emitted, groupsFor, closed, listLength}
 use Rattle.model.specs.Create.{createConditions, createPlan, createCount, createDecision, createAnswer, createList}
+use Rattle.model.specs.Opened.{volumeLength}
 use Rattle.laws.proofs.Booleans.{or-none}
 use Rattle.laws.proofs.Search.{Hit, scan-hit}
 use Rattle.laws.proofs.Entry.{new-name-good}
@@ -92,9 +93,9 @@ create-needs d name id mode time = plan-needs d (createPlan (catalogueOf d) d na
 -- the two clauses of its promise
 abbrev pub Comes : List ℕ → List ℕ → List ℕ → ℕ → ℕ → ℕ → Changed → List ℕ → Type 0
 Comes img list name id mode time answer after =
-    (answer ≡ createAnswer (length img) (view img) name id mode time (length list)) × (after ≡ createList (length img) (view img) name id mode time list)
+    (answer ≡ createAnswer (volumeLength (view img)) (view img) name id mode time (length list)) × (after ≡ createList (volumeLength (view img)) (view img) name id mode time list)
 
-module _ (img list name : List ℕ) (id mode time : ℕ) (ok : judged (length img) (view img) .number ≡ 0)
+module _ (img list name : List ℕ) (id mode time : ℕ) (ok : judged (volumeLength (view img)) (view img) .number ≡ 0)
     (v : Verdict) (own : v ≡ verdictOf (createConditions (catalogueOf (view img)) name id time)) where
   abbrev cs : Conditions
   cs = createConditions (catalogueOf (view img)) name id time
@@ -104,20 +105,20 @@ module _ (img list name : List ℕ) (id mode time : ℕ) (ok : judged (length im
 
   pub create-refused : (v .number ≡ 0 → ⊥) → Comes img list name id mode time (record { verdict = v; length = 0 }) list
   unfolding createAnswer createList createDecision
-  create-refused h = refused-by-own (length img) (view img) cs (some plan) list ok v own h
+  create-refused h = refused-by-own (volumeLength (view img)) (view img) cs (some plan) list ok v own h
 
   pub create-full : v .number ≡ 0 → lacksReserve (catalogueOf (view img)) ≡ true → Comes img list name id mode time (record { verdict = refusal 13; length = 0 }) list
   unfolding createAnswer createList createDecision
-  create-full z f = refused-as-full (length img) (view img) cs (some plan) list ok v own z f
+  create-full z f = refused-as-full (volumeLength (view img)) (view img) cs (some plan) list ok v own z f
 
   pub create-short : v .number ≡ 0 → lacksReserve (catalogueOf (view img)) ≡ false → length list < createCount * recordSize
       → Comes img list name id mode time (record { verdict = refusal 14; length = 0 }) list
   unfolding createAnswer createList createDecision
-  create-short z f h = refused-as-short (length img) (view img) cs (some plan) list ok v own f z (omega (arith, create-needs (view img) name id mode time))
+  create-short z f h = refused-as-short (volumeLength (view img)) (view img) cs (some plan) list ok v own f z (omega (arith, create-needs (view img) name id mode time))
 
   pub create-done : {m : List ℕ} {j : ℕ} → v .number ≡ 0 → lacksReserve (catalogueOf (view img)) ≡ false → createCount * recordSize ≤ length list
       → Emitted list 0 (closed (groupsFor (view img) (some plan))) m j → Comes img list name id mode time (record { verdict = done; length = createCount * recordSize }) m
   unfolding createAnswer createList createDecision
   create-done z f h e =
       let n = create-needs (view img) name id mode time in
-      rw (← n) (done-as-planned (length img) (view img) cs (some plan) list ok v own f z (omega arith) e)
+      rw (← n) (done-as-planned (volumeLength (view img)) (view img) cs (some plan) list ok v own f z (omega arith) e)

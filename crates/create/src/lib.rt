@@ -17,10 +17,10 @@ ghost use Rattle.model.specs.Disk.{view};
 ghost use Rattle.model.specs.Edition.{layoutOf, badTime};
 ghost use Rattle.model.specs.Entry.{badNewName};
 ghost use Rattle.model.specs.Catalogue.{catalogueOf, fileNamed, hasId};
-ghost use Rattle.model.specs.Refusals.{verdictOf, judged};
+ghost use Rattle.model.specs.Refusals.{verdictOf};
 ghost use Rattle.model.specs.WriteList.{sectorWrite, recordSize, closed, groupsFor, Emitted};
 ghost use Rattle.model.specs.Create.{createConditions, createPlan, createCount, createAnswer, createList};
-ghost use Rattle.model.specs.Opened.{Opened};
+ghost use Rattle.model.specs.Opened.{Opened, inVolume, Accepted};
 ghost use Rattle.commit.specs.Commit.{StagesOf};
 
 // A create's list has 11 records.
@@ -141,9 +141,9 @@ fn put_create(
 // ---- the call
 
 pub fn create_in(img: &[u8], list: &mut [u8], name: &[u8], id: u64, mode: u32, time: u64) -> Changed
-    requires { ⌜ judged (length (now img)) (view (now img)) .number ≡ 0 ⌝ }
-    ensures { λ r. ⌜ r ≡ createAnswer (length (now (img .entry))) (view (now (img .entry))) (now (name .entry)) id mode time (length (now (list .entry))) ⌝ }
-    ensures { λ _. ⌜ now (list .exit) ≡ createList (length (now (img .entry))) (view (now (img .entry))) (now (name .entry)) id mode time (now (list .entry)) ⌝ }
+    requires { ⌜ Accepted (now img) ⌝ }
+    ensures { λ r. ⌜ r ≡ inVolume createAnswer (now (img .entry)) (now (name .entry)) id mode time (length (now (list .entry))) ⌝ }
+    ensures { λ _. ⌜ now (list .exit) ≡ inVolume createList (now (img .entry)) (now (name .entry)) id mode time (now (list .entry)) ⌝ }
 {
     let g = volume::geometry_in(img);
     let v = own_verdict(img, g, name, id, time);

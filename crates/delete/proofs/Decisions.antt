@@ -24,6 +24,7 @@ use Rattle.model.specs.WriteList.{Record, Plan, Emitted, closed, recordSize, re
 use Rattle.model.specs.Find.{nameConditions}
 use Rattle.model.specs.Delete.{freedSector, freedSectors, deletePlan, deleteConditions, deleteDecision, deleteAnswer, deleteList}
 use Rattle.model.specs.Resize.{shrinkPlan}
+use Rattle.model.specs.Opened.{volumeLength}
 use Rattle.laws.proofs.Named.{editionOn}
 use Rattle.laws.proofs.WriteList.{plan-needs}
 use Rattle.laws.proofs.WriteList.{emit-nil}
@@ -96,9 +97,9 @@ decided-fitted len d cs plan room ok own = rw (eq-eqb _ _ ok, ← own)
 
 abbrev pub Comes : List ℕ → List ℕ → List ℕ → ℕ → Changed → List ℕ → Type 0
 Comes img list name time answer after =
-    (answer ≡ deleteAnswer (length img) (view img) name time (length list)) × (after ≡ deleteList (length img) (view img) name time list)
+    (answer ≡ deleteAnswer (volumeLength (view img)) (view img) name time (length list)) × (after ≡ deleteList (volumeLength (view img)) (view img) name time list)
 
-module _ (img list name : List ℕ) (time : ℕ) (ok : judged (length img) (view img) .number ≡ 0) where
+module _ (img list name : List ℕ) (time : ℕ) (ok : judged (volumeLength (view img)) (view img) .number ≡ 0) where
   abbrev c : Catalogue
   c = catalogueOf (view img)
 
@@ -123,11 +124,11 @@ module _ (img list name : List ℕ) (time : ℕ) (ok : judged (length img) (view
 
   pub delete-bad : isBad ≡ true → Comes img list name time (record { verdict = refusal 8; length = 0 }) list
   unfolding deleteAnswer deleteList deleteDecision
-  delete-bad h = refused-by-own (length img) (view img) cs (some plan) list ok (refusal 8) (bad h) (λ (e : _≡_ {A = ℕ} 8 0). omega arith)
+  delete-bad h = refused-by-own (volumeLength (view img)) (view img) cs (some plan) list ok (refusal 8) (bad h) (λ (e : _≡_ {A = ℕ} 8 0). omega arith)
 
   pub delete-missing : isBad ≡ false → fileNamed c name ≡ Nowhere → Comes img list name time (record { verdict = refusal 9; length = 0 }) list
   unfolding deleteAnswer deleteList deleteDecision
-  delete-missing h n = refused-by-own (length img) (view img) cs (some plan) list ok (refusal 9) (missing h n) (λ (e : _≡_ {A = ℕ} 9 0). omega arith)
+  delete-missing h n = refused-by-own (volumeLength (view img)) (view img) cs (some plan) list ok (refusal 9) (missing h n) (λ (e : _≡_ {A = ℕ} 9 0). omega arith)
 
   module _ (i : ℕ) (good : isBad ≡ false) (found : fileNamed c name ≡ At i) where
     own : done ≡ verdictOf cs
@@ -135,4 +136,4 @@ module _ (img list name : List ℕ) (time : ℕ) (ok : judged (length img) (view
 
     pub delete-found : {answer : Changed} {m : List ℕ} → ComesTo (view img) (deletedAt (view img) i time (length list)) list answer m → Comes img list name time answer m
     unfolding deleteAnswer deleteList deleteDecision
-    delete-found r = rw (decided-fitted (length img) (view img) cs (some plan) (length list) ok own, found) r
+    delete-found r = rw (decided-fitted (volumeLength (view img)) (view img) cs (some plan) (length list) ok own, found) r

@@ -13,11 +13,10 @@ ghost use Rattle.model.specs.Geometry.{tableSectors, extentsFor};
 ghost use Rattle.model.specs.Disk.{view};
 ghost use Rattle.model.specs.Table.{freeFile};
 ghost use Rattle.model.specs.Catalogue.{catalogueOf, holdsFrom, sectorsFrom};
-ghost use Rattle.model.specs.Refusals.{judged};
 ghost use Rattle.model.specs.WriteList.{recordSize, recordCount, groupsFor, closed, Emitted, answerOf, listAfter};
 ghost use Rattle.model.specs.Delete.{freedSector, freedSectors, deletePlan, deleteAnswer, deleteList};
 ghost use Rattle.model.specs.Resize.{shrinkPlan};
-ghost use Rattle.model.specs.Opened.{Opened};
+ghost use Rattle.model.specs.Opened.{Opened, inVolume, Accepted};
 ghost use Rattle.commit.specs.Commit.{Stages, StagesOf};
 ghost use Rattle.delete.specs.Staging.{Added, deletedAt};
 
@@ -184,9 +183,9 @@ fn delete_file(img: &[u8], g: Geometry, i: FileIndex, time: u64, list: &mut [u8]
 }
 
 pub fn delete_in(img: &[u8], name: &[u8], time: u64, list: &mut [u8]) -> Changed
-    requires { ⌜ judged (length (now img)) (view (now img)) .number ≡ 0 ⌝ }
-    ensures { λ r. ⌜ r ≡ deleteAnswer (length (now (img .entry))) (view (now (img .entry))) (now (name .entry)) time (length (now (list .entry))) ⌝ }
-    ensures { λ _. ⌜ now (list .exit) ≡ deleteList (length (now (img .entry))) (view (now (img .entry))) (now (name .entry)) time (now (list .entry)) ⌝ }
+    requires { ⌜ Accepted (now img) ⌝ }
+    ensures { λ r. ⌜ r ≡ inVolume deleteAnswer (now (img .entry)) (now (name .entry)) time (length (now (list .entry))) ⌝ }
+    ensures { λ _. ⌜ now (list .exit) ≡ inVolume deleteList (now (img .entry)) (now (name .entry)) time (now (list .entry)) ⌝ }
 {
     let g = volume::geometry_in(img);
     if directory::bad_name_or_time(g.edition, name, time) {

@@ -17,7 +17,7 @@ ghost use Rattle.model.specs.Root.{rootField, updatedRootSector, accessedRootSe
 ghost use Rattle.model.specs.Edition.{layoutOf, badTime};
 ghost use Rattle.model.specs.Entry.{entryField, entryIn, fieldsOf, isOccupied, nameIn, badName, isTypable, badNewName, updatedEntrySector, renamedEntrySector, accessedEntrySector};
 ghost use Rattle.model.specs.Catalogue.{catalogueOf, hasId, fileNamed, freeEntry};
-ghost use Rattle.model.specs.Faults.{fault21, fault22};
+ghost use Rattle.model.specs.Faults.{badMark, fault21, fault22};
 ghost use Rattle.model.specs.Opened.{Bounded, Opened};
 
 // ---- one entry
@@ -264,16 +264,23 @@ pub fn has_id(img: &[u8], g: Geometry, id: u64) -> bool
 
 // ---- fault 21
 
-// The mark is neither 0 nor 65535.
-fn bad_mark(img: &[u8], i: FileIndex) -> bool
-    requires { ⌜ 512 * entryAt (i .0) + 512 ≤ length (now img) ⌝ }
-    ensures { λ r. ⌜ r ≡ fault21 (view (now (img .entry))) (i .0) ⌝ }
+// The mark in an entry's sector is neither 0 nor 65535.
+pub fn bad_mark_in(s: &[u8]) -> bool
+    requires { ⌜ length (now s) ≡ 512 ⌝ }
+    ensures { λ r. ⌜ r ≡ badMark (now (s .entry)) ⌝ }
 {
-    let mark = layout::entry::mark(fields::sector_part(img, i.sector()));
+    let mark = layout::entry::mark(s);
     if mark == layout::entry::FREE_MARK {
         return false;
     }
     mark != layout::entry::OCCUPIED_MARK
+}
+
+fn bad_mark(img: &[u8], i: FileIndex) -> bool
+    requires { ⌜ 512 * entryAt (i .0) + 512 ≤ length (now img) ⌝ }
+    ensures { λ r. ⌜ r ≡ fault21 (view (now (img .entry))) (i .0) ⌝ }
+{
+    bad_mark_in(fields::sector_part(img, i.sector()))
 }
 
 pub fn fault21(img: &[u8], g: Geometry) -> Lowest
@@ -293,12 +300,11 @@ pub fn fault21(img: &[u8], g: Geometry) -> Lowest
 
 // ---- fault 22
 
-// The name in entry i is bad.
-fn bad_name_at(img: &[u8], edition: u64, i: FileIndex) -> bool
-    requires { ⌜ 512 * entryAt (i .0) + 512 ≤ length (now img) ⌝ }
-    ensures { λ r. ⌜ r ≡ badName edition (nameIn edition (view (now (img .entry)) (entryAt (i .0)))) ⌝ }
+// The name in an entry's sector is bad.
+fn bad_name_in(s: &[u8], edition: u64) -> bool
+    requires { ⌜ length (now s) ≡ 512 ⌝ }
+    ensures { λ r. ⌜ r ≡ badName edition (nameIn edition (now (s .entry))) ⌝ }
 {
-    let s = fields::sector_part(img, i.sector());
     if layout::entry::name_length(s, edition) <= layout::edition::longest_name(edition) {
         return bad_name(edition, layout::entry::name(s, edition));
     }
@@ -306,11 +312,22 @@ fn bad_name_at(img: &[u8], edition: u64, i: FileIndex) -> bool
 }
 
 // N x E
-fn most_bytes(g: Geometry) -> u64
+pub fn most_bytes(g: Geometry) -> u64
     requires { ⌜ Bounded g ⌝ }
     ensures { λ r. ⌜ r ≡ g .extents * extentBytes g ⌝ }
 {
     g.extents * (512 * (g.extent_sectors as u64))
+}
+
+// The name in an entry's sector is bad, or the size exceeds `most`.
+pub fn bad_entry_in(s: &[u8], edition: u64, most: u64) -> bool
+    requires { ⌜ length (now s) ≡ 512 ⌝ }
+    ensures { λ r. ⌜ r ≡ (badName edition (nameIn edition (now (s .entry))) || ltb most (numberIn (now (s .entry)) (entryField .size))) ⌝ }
+{
+    if bad_name_in(s, edition) {
+        return true;
+    }
+    most < layout::entry::size(s)
 }
 
 // Entry i is occupied, and its name is bad or its size exceeds `most`.
@@ -318,11 +335,9 @@ fn bad_entry(img: &[u8], edition: u64, most: u64, i: FileIndex) -> bool
     requires { ⌜ 512 * entryAt (i .0) + 512 ≤ length (now img) ⌝ }
     ensures { λ r. ⌜ r ≡ (isOccupied (view (now (img .entry)) (entryAt (i .0))) && (badName edition (nameIn edition (view (now (img .entry)) (entryAt (i .0)))) || ltb most (numberIn (view (now (img .entry)) (entryAt (i .0))) (entryField .size)))) ⌝ }
 {
-    if is_occupied(img, i) {
-        if bad_name_at(img, edition, i) {
-            return true;
-        }
-        return most < size_at(img, i);
+    let s = fields::sector_part(img, i.sector());
+    if layout::entry::is_occupied(s) {
+        return bad_entry_in(s, edition, most);
     }
     false
 }

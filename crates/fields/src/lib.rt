@@ -104,6 +104,18 @@ pub fn sector_part(img: &[u8], k: Sector) -> &[u8]
     &img[at..at + 512]
 }
 
+// Sector k as an image shows it: zeros past its end, as where only the front of a volume is lent.
+pub fn shown(img: &[u8], k: Sector) -> [u8; 512]
+    requires { ⌜ 512 * k .0 + 512 < 2 ^ 63 ⌝ }
+    ensures { λ r. ⌜ r ≡ view (now (img .entry)) (k .0) ⌝ }
+{
+    let mut a = [0u8; 512];
+    let from = least(512 * k.0, img.len() as u64) as usize;
+    let n = least(512, (img.len() - from) as u64) as usize;
+    copy_bytes(img, from, &mut a, 0, n);
+    a
+}
+
 // Whether the part begins with the text.
 pub fn starts_with(part: &[u8], text: &[u8]) -> bool
     requires { ⌜ length (now text) ≤ length (now part) ⌝ }

@@ -5,13 +5,16 @@ use model::Changed;
 use model::Checked;
 use model::Found;
 use model::Listed;
+use model::Reading;
+use model::Recovering;
 use model::Repaired;
 use model::State;
 use model::Summarized;
+use model::Writing;
 ghost use mathlib.Core.Path.{_≡_};
 ghost use lib.ListN.{length};
-ghost use Rattle.model.specs.Disk.{view};
-ghost use Rattle.model.specs.Summary.{stateCode, stateEntries, summaryAnswer, checkAnswer};
+ghost use Rattle.model.specs.Disk.{view, onImage};
+ghost use Rattle.model.specs.Summary.{stateCode, summaryAnswer, checkAnswer};
 ghost use Rattle.model.specs.Scratch.{checkWithAnswer, ScratchAfter};
 ghost use Rattle.model.specs.Find.{findAnswer};
 ghost use Rattle.model.specs.Listing.{listAnswer, listOutput, listingList};
@@ -24,6 +27,7 @@ ghost use Rattle.model.specs.Rename.{renameAnswer, renameList};
 ghost use Rattle.model.specs.RenameSet.{renameSetAnswer, renameSetList};
 ghost use Rattle.model.specs.Repair.{repairAnswer, repairList};
 ghost use Rattle.model.specs.Recovery.{recoveryAnswer, recoveryList, sliceAnswer, sliceList};
+ghost use Rattle.model.specs.Lent.{onLent, readLent, readStep, readStepOutput, writeLent, resizeLent, writeStep, writeStepList, recoveryLent, recoveryStep, recoveryStepList};
 ghost use Rattle.model.specs.Format.{formatAnswer, formatOutput};
 ghost use Rattle.model.specs.CarryOut.{carryAnswer, carryImage};
 ghost use Rattle.model.specs.Lengths.{longestAnswer};
@@ -53,17 +57,6 @@ fn state_code(s: State) -> u64
     }
 }
 
-fn state_entries(s: State) -> u64
-    ensures { λ r. ⌜ r ≡ stateEntries s ⌝ }
-{
-    match s {
-        State::Clean => 0,
-        State::Waiting(n) => n,
-        State::Damaged => 0,
-        State::Unfinished => 0,
-    }
-}
-
 fn summary_result(a: Summarized) -> SummaryResult
     ensures { λ r. ⌜ r ≡ summaryNumbers a ⌝ }
 {
@@ -76,14 +69,14 @@ fn summary_result(a: Summarized) -> SummaryResult
         extents: g.extents,
         extent_sectors: g.extent_sectors as u64,
         state: state_code(st),
-        entries: state_entries(st),
+        entries: volume::state_entries(st),
         edition: g.edition,
     }
 }
 
 #[no_mangle]
 pub extern "C" fn goofs_summary(img: &[u8]) -> SummaryResult
-    ensures { λ r. ⌜ r ≡ summaryNumbers (summaryAnswer (length (now (img .entry))) (view (now (img .entry)))) ⌝ }
+    ensures { λ r. ⌜ r ≡ summaryNumbers (onImage summaryAnswer (now (img .entry))) ⌝ }
 {
     summary_result(volume::summary(img))
 }
@@ -110,7 +103,7 @@ fn check_result(a: Checked) -> CheckResult
 
 #[no_mangle]
 pub extern "C" fn goofs_check(img: &[u8]) -> CheckResult
-    ensures { λ r. ⌜ r ≡ checkNumbers (checkAnswer (length (now (img .entry))) (view (now (img .entry)))) ⌝ }
+    ensures { λ r. ⌜ r ≡ checkNumbers (onImage checkAnswer (now (img .entry))) ⌝ }
 {
     check_result(queries::check(img))
 }
@@ -118,8 +111,8 @@ pub extern "C" fn goofs_check(img: &[u8]) -> CheckResult
 // What scratch holds after 0 or 7 is the program's choice; only its length is common to every choice.
 #[no_mangle]
 pub extern "C" fn goofs_check_with(img: &[u8], scratch: &mut [u32]) -> CheckResult
-    ensures { λ r. ⌜ r ≡ checkNumbers (checkWithAnswer (length (now (img .entry))) (view (now (img .entry))) (length (now (scratch .entry)))) ⌝ }
-    ensures { λ _. ⌜ ScratchAfter (checkWithAnswer (length (now (img .entry))) (view (now (img .entry))) (length (now (scratch .entry))) .verdict) (now (scratch .entry)) (now (scratch .exit)) ⌝ }
+    ensures { λ r. ⌜ r ≡ checkNumbers (onImage checkWithAnswer (now (img .entry)) (length (now (scratch .entry)))) ⌝ }
+    ensures { λ _. ⌜ ScratchAfter (onImage checkWithAnswer (now (img .entry)) (length (now (scratch .entry))) .verdict) (now (scratch .entry)) (now (scratch .exit)) ⌝ }
 {
     let a = queries::check_with(img, scratch);
     check_result(a)
@@ -165,7 +158,7 @@ fn find_result(a: Found) -> FindResult
 
 #[no_mangle]
 pub extern "C" fn goofs_find(img: &[u8], name: &[u8]) -> FindResult
-    ensures { λ r. ⌜ r ≡ findNumbers (findAnswer (length (now (img .entry))) (view (now (img .entry))) (now (name .entry))) ⌝ }
+    ensures { λ r. ⌜ r ≡ findNumbers (onImage findAnswer (now (img .entry)) (now (name .entry))) ⌝ }
 {
     find_result(queries::find(img, name))
 }
@@ -216,9 +209,9 @@ pub extern "C" fn goofs_list(
     out: &mut [u8],
     list: &mut [u8],
 ) -> ListResult
-    ensures { λ r. ⌜ r ≡ listNumbers (listAnswer (length (now (img .entry))) (view (now (img .entry))) index time (length (now (out .entry))) (length (now (list .entry)))) ⌝ }
-    ensures { λ _. ⌜ now (out .exit) ≡ listOutput (length (now (img .entry))) (view (now (img .entry))) index time (now (out .entry)) (length (now (list .entry))) ⌝ }
-    ensures { λ _. ⌜ now (list .exit) ≡ listingList (length (now (img .entry))) (view (now (img .entry))) index time (length (now (out .entry))) (now (list .entry)) ⌝ }
+    ensures { λ r. ⌜ r ≡ listNumbers (onImage listAnswer (now (img .entry)) index time (length (now (out .entry))) (length (now (list .entry)))) ⌝ }
+    ensures { λ _. ⌜ now (out .exit) ≡ onImage listOutput (now (img .entry)) index time (now (out .entry)) (length (now (list .entry))) ⌝ }
+    ensures { λ _. ⌜ now (list .exit) ≡ onImage listingList (now (img .entry)) index time (length (now (out .entry))) (now (list .entry)) ⌝ }
 {
     let a = queries::list(img, index, time, out, list);
     list_result(a)
@@ -259,9 +252,9 @@ pub extern "C" fn goofs_read(
     out: &mut [u8],
     list: &mut [u8],
 ) -> ReadResult
-    ensures { λ r. ⌜ r ≡ readNumbers (readAnswer (length (now (img .entry))) (view (now (img .entry))) (now (name .entry)) offset count time (length (now (out .entry))) (length (now (list .entry)))) ⌝ }
-    ensures { λ _. ⌜ now (out .exit) ≡ readOutput (length (now (img .entry))) (view (now (img .entry))) (now (name .entry)) offset count time (now (out .entry)) (length (now (list .entry))) ⌝ }
-    ensures { λ _. ⌜ now (list .exit) ≡ readList (length (now (img .entry))) (view (now (img .entry))) (now (name .entry)) offset count time (length (now (out .entry))) (now (list .entry)) ⌝ }
+    ensures { λ r. ⌜ r ≡ readNumbers (onImage readAnswer (now (img .entry)) (now (name .entry)) offset count time (length (now (out .entry))) (length (now (list .entry)))) ⌝ }
+    ensures { λ _. ⌜ now (out .exit) ≡ onImage readOutput (now (img .entry)) (now (name .entry)) offset count time (now (out .entry)) (length (now (list .entry))) ⌝ }
+    ensures { λ _. ⌜ now (list .exit) ≡ onImage readList (now (img .entry)) (now (name .entry)) offset count time (length (now (out .entry))) (now (list .entry)) ⌝ }
 {
     let a = queries::read(img, name, offset, count, time, out, list);
     read_result(a)
@@ -298,8 +291,8 @@ pub extern "C" fn goofs_create(
     time: u64,
     list: &mut [u8],
 ) -> ChangeResult
-    ensures { λ r. ⌜ r ≡ changeNumbers (createAnswer (length (now (img .entry))) (view (now (img .entry))) (now (name .entry)) id mode time (length (now (list .entry)))) ⌝ }
-    ensures { λ _. ⌜ now (list .exit) ≡ createList (length (now (img .entry))) (view (now (img .entry))) (now (name .entry)) id mode time (now (list .entry)) ⌝ }
+    ensures { λ r. ⌜ r ≡ changeNumbers (onImage createAnswer (now (img .entry)) (now (name .entry)) id mode time (length (now (list .entry)))) ⌝ }
+    ensures { λ _. ⌜ now (list .exit) ≡ onImage createList (now (img .entry)) (now (name .entry)) id mode time (now (list .entry)) ⌝ }
 {
     let a = changes::create(img, name, id, mode, time, list);
     change_result(a)
@@ -307,8 +300,8 @@ pub extern "C" fn goofs_create(
 
 #[no_mangle]
 pub extern "C" fn goofs_delete(img: &[u8], name: &[u8], time: u64, list: &mut [u8]) -> ChangeResult
-    ensures { λ r. ⌜ r ≡ changeNumbers (deleteAnswer (length (now (img .entry))) (view (now (img .entry))) (now (name .entry)) time (length (now (list .entry)))) ⌝ }
-    ensures { λ _. ⌜ now (list .exit) ≡ deleteList (length (now (img .entry))) (view (now (img .entry))) (now (name .entry)) time (now (list .entry)) ⌝ }
+    ensures { λ r. ⌜ r ≡ changeNumbers (onImage deleteAnswer (now (img .entry)) (now (name .entry)) time (length (now (list .entry)))) ⌝ }
+    ensures { λ _. ⌜ now (list .exit) ≡ onImage deleteList (now (img .entry)) (now (name .entry)) time (now (list .entry)) ⌝ }
 {
     let a = changes::delete(img, name, time, list);
     change_result(a)
@@ -322,8 +315,8 @@ pub extern "C" fn goofs_resize(
     time: u64,
     list: &mut [u8],
 ) -> ChangeResult
-    ensures { λ r. ⌜ r ≡ changeNumbers (resizeAnswer (length (now (img .entry))) (view (now (img .entry))) (now (name .entry)) size time (length (now (list .entry)))) ⌝ }
-    ensures { λ _. ⌜ now (list .exit) ≡ resizeList (length (now (img .entry))) (view (now (img .entry))) (now (name .entry)) size time (now (list .entry)) ⌝ }
+    ensures { λ r. ⌜ r ≡ changeNumbers (onImage resizeAnswer (now (img .entry)) (now (name .entry)) size time (length (now (list .entry)))) ⌝ }
+    ensures { λ _. ⌜ now (list .exit) ≡ onImage resizeList (now (img .entry)) (now (name .entry)) size time (now (list .entry)) ⌝ }
 {
     let a = changes::resize(img, name, size, time, list);
     change_result(a)
@@ -338,8 +331,8 @@ pub extern "C" fn goofs_write(
     time: u64,
     list: &mut [u8],
 ) -> ChangeResult
-    ensures { λ r. ⌜ r ≡ changeNumbers (writeAnswer (length (now (img .entry))) (view (now (img .entry))) (now (name .entry)) offset (now (bytes .entry)) time (length (now (list .entry)))) ⌝ }
-    ensures { λ _. ⌜ now (list .exit) ≡ writeList (length (now (img .entry))) (view (now (img .entry))) (now (name .entry)) offset (now (bytes .entry)) time (now (list .entry)) ⌝ }
+    ensures { λ r. ⌜ r ≡ changeNumbers (onImage writeAnswer (now (img .entry)) (now (name .entry)) offset (now (bytes .entry)) time (length (now (list .entry)))) ⌝ }
+    ensures { λ _. ⌜ now (list .exit) ≡ onImage writeList (now (img .entry)) (now (name .entry)) offset (now (bytes .entry)) time (now (list .entry)) ⌝ }
 {
     let a = changes::write(img, name, offset, bytes, time, list);
     change_result(a)
@@ -353,8 +346,8 @@ pub extern "C" fn goofs_rename(
     time: u64,
     list: &mut [u8],
 ) -> ChangeResult
-    ensures { λ r. ⌜ r ≡ changeNumbers (renameAnswer (length (now (img .entry))) (view (now (img .entry))) (now (old .entry)) (now (new .entry)) time (length (now (list .entry)))) ⌝ }
-    ensures { λ _. ⌜ now (list .exit) ≡ renameList (length (now (img .entry))) (view (now (img .entry))) (now (old .entry)) (now (new .entry)) time (now (list .entry)) ⌝ }
+    ensures { λ r. ⌜ r ≡ changeNumbers (onImage renameAnswer (now (img .entry)) (now (old .entry)) (now (new .entry)) time (length (now (list .entry)))) ⌝ }
+    ensures { λ _. ⌜ now (list .exit) ≡ onImage renameList (now (img .entry)) (now (old .entry)) (now (new .entry)) time (now (list .entry)) ⌝ }
 {
     let a = changes::rename(img, old, new, time, list);
     change_result(a)
@@ -369,8 +362,8 @@ pub extern "C" fn goofs_rename_set(
     time: u64,
     list: &mut [u8],
 ) -> ChangeResult
-    ensures { λ r. ⌜ r ≡ changeNumbers (renameSetAnswer (length (now (img .entry))) (view (now (img .entry))) (now (names .entry)) (now (lengths .entry)) time (length (now (list .entry)))) ⌝ }
-    ensures { λ _. ⌜ now (list .exit) ≡ renameSetList (length (now (img .entry))) (view (now (img .entry))) (now (names .entry)) (now (lengths .entry)) time (now (list .entry)) ⌝ }
+    ensures { λ r. ⌜ r ≡ changeNumbers (onImage renameSetAnswer (now (img .entry)) (now (names .entry)) (now (lengths .entry)) time (length (now (list .entry)))) ⌝ }
+    ensures { λ _. ⌜ now (list .exit) ≡ onImage renameSetList (now (img .entry)) (now (names .entry)) (now (lengths .entry)) time (now (list .entry)) ⌝ }
 {
     let a = changes::rename_set(img, names, lengths, time, list);
     change_result(a)
@@ -403,8 +396,8 @@ fn repair_result(a: Repaired) -> RepairResult
 
 #[no_mangle]
 pub extern "C" fn goofs_repair(img: &[u8], list: &mut [u8]) -> RepairResult
-    ensures { λ r. ⌜ r ≡ repairNumbers (repairAnswer (length (now (img .entry))) (view (now (img .entry))) (length (now (list .entry)))) ⌝ }
-    ensures { λ _. ⌜ now (list .exit) ≡ repairList (length (now (img .entry))) (view (now (img .entry))) (now (list .entry)) ⌝ }
+    ensures { λ r. ⌜ r ≡ repairNumbers (onImage repairAnswer (now (img .entry)) (length (now (list .entry)))) ⌝ }
+    ensures { λ _. ⌜ now (list .exit) ≡ onImage repairList (now (img .entry)) (now (list .entry)) ⌝ }
 {
     let a = repair::repair(img, list);
     repair_result(a)
@@ -420,8 +413,8 @@ pub struct RecoverResult {
 
 #[no_mangle]
 pub extern "C" fn goofs_recover(img: &[u8], list: &mut [u8]) -> RecoverResult
-    ensures { λ r. ⌜ r ≡ recoverNumbers (recoveryAnswer (length (now (img .entry))) (view (now (img .entry))) (length (now (list .entry)))) ⌝ }
-    ensures { λ _. ⌜ now (list .exit) ≡ recoveryList (length (now (img .entry))) (view (now (img .entry))) (now (list .entry)) ⌝ }
+    ensures { λ r. ⌜ r ≡ recoverNumbers (onImage recoveryAnswer (now (img .entry)) (length (now (list .entry)))) ⌝ }
+    ensures { λ _. ⌜ now (list .exit) ≡ onImage recoveryList (now (img .entry)) (now (list .entry)) ⌝ }
 {
     let a = recovery::recover(img, list);
     RecoverResult {
@@ -439,8 +432,8 @@ pub struct SliceResult {
 
 #[no_mangle]
 pub extern "C" fn goofs_recover_slice(img: &[u8], budget: u64, list: &mut [u8]) -> SliceResult
-    ensures { λ r. ⌜ r ≡ sliceNumbers (sliceAnswer (length (now (img .entry))) (view (now (img .entry))) budget (length (now (list .entry)))) ⌝ }
-    ensures { λ _. ⌜ now (list .exit) ≡ sliceList (length (now (img .entry))) (view (now (img .entry))) budget (now (list .entry)) ⌝ }
+    ensures { λ r. ⌜ r ≡ sliceNumbers (onImage sliceAnswer (now (img .entry)) budget (length (now (list .entry)))) ⌝ }
+    ensures { λ _. ⌜ now (list .exit) ≡ onImage sliceList (now (img .entry)) budget (now (list .entry)) ⌝ }
 {
     let a = recovery::recover_slice(img, budget, list);
     SliceResult {
@@ -508,4 +501,216 @@ pub extern "C" fn goofs_longest_list(
         code: a.number,
         length: a.length,
     }
+}
+
+// ---- on lent sectors (T-11): `front` holds at least the sectors before the data area, `count` is the volume's sectors
+
+#[no_mangle]
+pub extern "C" fn goofs_summary_lent(front: &[u8], count: u64) -> SummaryResult
+    ensures { λ r. ⌜ r ≡ summaryNumbers (onLent summaryAnswer (now (front .entry)) count) ⌝ }
+{
+    summary_result(volume::summary_lent(front, count))
+}
+
+#[no_mangle]
+pub extern "C" fn goofs_check_lent(front: &[u8], count: u64) -> CheckResult
+    ensures { λ r. ⌜ r ≡ checkNumbers (onLent checkAnswer (now (front .entry)) count) ⌝ }
+{
+    check_result(queries::check_lent(front, count))
+}
+
+#[no_mangle]
+pub extern "C" fn goofs_check_with_lent(
+    front: &[u8],
+    count: u64,
+    scratch: &mut [u32],
+) -> CheckResult
+    ensures { λ r. ⌜ r ≡ checkNumbers (onLent checkWithAnswer (now (front .entry)) count (length (now (scratch .entry)))) ⌝ }
+    ensures { λ _. ⌜ ScratchAfter (onLent checkWithAnswer (now (front .entry)) count (length (now (scratch .entry))) .verdict) (now (scratch .entry)) (now (scratch .exit)) ⌝ }
+{
+    let a = queries::check_with_lent(front, count, scratch);
+    check_result(a)
+}
+
+#[no_mangle]
+pub extern "C" fn goofs_find_lent(front: &[u8], count: u64, name: &[u8]) -> FindResult
+    ensures { λ r. ⌜ r ≡ findNumbers (onLent findAnswer (now (front .entry)) count (now (name .entry))) ⌝ }
+{
+    find_result(queries::find_lent(front, count, name))
+}
+
+#[no_mangle]
+pub extern "C" fn goofs_list_lent(
+    front: &[u8],
+    count: u64,
+    index: u64,
+    time: u64,
+    out: &mut [u8],
+    list: &mut [u8],
+) -> ListResult
+    ensures { λ r. ⌜ r ≡ listNumbers (onLent listAnswer (now (front .entry)) count index time (length (now (out .entry))) (length (now (list .entry)))) ⌝ }
+    ensures { λ _. ⌜ now (out .exit) ≡ onLent listOutput (now (front .entry)) count index time (now (out .entry)) (length (now (list .entry))) ⌝ }
+    ensures { λ _. ⌜ now (list .exit) ≡ onLent listingList (now (front .entry)) count index time (length (now (out .entry))) (now (list .entry)) ⌝ }
+{
+    let a = queries::list_lent(front, count, index, time, out, list);
+    list_result(a)
+}
+
+#[no_mangle]
+pub extern "C" fn goofs_create_lent(
+    front: &[u8],
+    count: u64,
+    name: &[u8],
+    id: u64,
+    mode: u32,
+    time: u64,
+    list: &mut [u8],
+) -> ChangeResult
+    ensures { λ r. ⌜ r ≡ changeNumbers (onLent createAnswer (now (front .entry)) count (now (name .entry)) id mode time (length (now (list .entry)))) ⌝ }
+    ensures { λ _. ⌜ now (list .exit) ≡ onLent createList (now (front .entry)) count (now (name .entry)) id mode time (now (list .entry)) ⌝ }
+{
+    let a = changes::create_lent(front, count, name, id, mode, time, list);
+    change_result(a)
+}
+
+#[no_mangle]
+pub extern "C" fn goofs_delete_lent(
+    front: &[u8],
+    count: u64,
+    name: &[u8],
+    time: u64,
+    list: &mut [u8],
+) -> ChangeResult
+    ensures { λ r. ⌜ r ≡ changeNumbers (onLent deleteAnswer (now (front .entry)) count (now (name .entry)) time (length (now (list .entry)))) ⌝ }
+    ensures { λ _. ⌜ now (list .exit) ≡ onLent deleteList (now (front .entry)) count (now (name .entry)) time (now (list .entry)) ⌝ }
+{
+    let a = changes::delete_lent(front, count, name, time, list);
+    change_result(a)
+}
+
+#[no_mangle]
+pub extern "C" fn goofs_rename_lent(
+    front: &[u8],
+    count: u64,
+    old: &[u8],
+    new: &[u8],
+    time: u64,
+    list: &mut [u8],
+) -> ChangeResult
+    ensures { λ r. ⌜ r ≡ changeNumbers (onLent renameAnswer (now (front .entry)) count (now (old .entry)) (now (new .entry)) time (length (now (list .entry)))) ⌝ }
+    ensures { λ _. ⌜ now (list .exit) ≡ onLent renameList (now (front .entry)) count (now (old .entry)) (now (new .entry)) time (now (list .entry)) ⌝ }
+{
+    let a = changes::rename_lent(front, count, old, new, time, list);
+    change_result(a)
+}
+
+#[no_mangle]
+pub extern "C" fn goofs_rename_set_lent(
+    front: &[u8],
+    count: u64,
+    names: &[u8],
+    lengths: &[u64],
+    time: u64,
+    list: &mut [u8],
+) -> ChangeResult
+    ensures { λ r. ⌜ r ≡ changeNumbers (onLent renameSetAnswer (now (front .entry)) count (now (names .entry)) (now (lengths .entry)) time (length (now (list .entry)))) ⌝ }
+    ensures { λ _. ⌜ now (list .exit) ≡ onLent renameSetList (now (front .entry)) count (now (names .entry)) (now (lengths .entry)) time (now (list .entry)) ⌝ }
+{
+    let a = changes::rename_set_lent(front, count, names, lengths, time, list);
+    change_result(a)
+}
+
+#[no_mangle]
+pub extern "C" fn goofs_repair_lent(front: &[u8], count: u64, list: &mut [u8]) -> RepairResult
+    ensures { λ r. ⌜ r ≡ repairNumbers (onLent repairAnswer (now (front .entry)) count (length (now (list .entry)))) ⌝ }
+    ensures { λ _. ⌜ now (list .exit) ≡ onLent repairList (now (front .entry)) count (now (list .entry)) ⌝ }
+{
+    let a = repair::repair_lent(front, count, list);
+    repair_result(a)
+}
+
+// Read, write, a growing resize and recovery ask for data sectors: the state that comes back goes into the next step with the sector's bytes.
+#[no_mangle]
+pub extern "C" fn goofs_read_lent(
+    front: &[u8],
+    count: u64,
+    name: &[u8],
+    offset: u64,
+    asked: u64,
+    time: u64,
+    room: u64,
+    list: &mut [u8],
+) -> Reading
+    ensures { λ r. ⌜ r ≡ onLent readLent (now (front .entry)) count (now (name .entry)) offset asked time room (length (now (list .entry))) ⌝ }
+    ensures { λ _. ⌜ now (list .exit) ≡ onLent readList (now (front .entry)) count (now (name .entry)) offset asked time room (now (list .entry)) ⌝ }
+{
+    queries::read_lent(front, count, name, offset, asked, time, room, list)
+}
+
+#[no_mangle]
+pub extern "C" fn goofs_read_step(r: Reading, bytes: &[u8], out: &mut [u8]) -> Reading
+    ensures { λ s. ⌜ s ≡ readStep r (length (now (bytes .entry))) (length (now (out .entry))) ⌝ }
+    ensures { λ _. ⌜ now (out .exit) ≡ readStepOutput r (now (bytes .entry)) (now (out .entry)) ⌝ }
+{
+    reading::read_step(r, bytes, out)
+}
+
+#[no_mangle]
+pub extern "C" fn goofs_resize_lent(
+    front: &[u8],
+    count: u64,
+    name: &[u8],
+    size: u64,
+    time: u64,
+    list: &mut [u8],
+) -> Writing
+    ensures { λ r. ⌜ r ≡ onLent resizeLent (now (front .entry)) count (now (name .entry)) size time (length (now (list .entry))) ⌝ }
+    ensures { λ _. ⌜ now (list .exit) ≡ onLent resizeList (now (front .entry)) count (now (name .entry)) size time (now (list .entry)) ⌝ }
+{
+    changes::resize_lent(front, count, name, size, time, list)
+}
+
+#[no_mangle]
+pub extern "C" fn goofs_write_lent(
+    front: &[u8],
+    count: u64,
+    name: &[u8],
+    offset: u64,
+    bytes: &[u8],
+    time: u64,
+    list: &mut [u8],
+) -> Writing
+    ensures { λ r. ⌜ r ≡ onLent writeLent (now (front .entry)) count (now (name .entry)) offset (now (bytes .entry)) time (length (now (list .entry))) ⌝ }
+    ensures { λ _. ⌜ now (list .exit) ≡ onLent writeList (now (front .entry)) count (now (name .entry)) offset (now (bytes .entry)) time (now (list .entry)) ⌝ }
+{
+    changes::write_lent(front, count, name, offset, bytes, time, list)
+}
+
+#[no_mangle]
+pub extern "C" fn goofs_write_step(w: Writing, bytes: &[u8], list: &mut [u8]) -> Writing
+    ensures { λ r. ⌜ r ≡ writeStep w (length (now (bytes .entry))) (length (now (list .entry))) ⌝ }
+    ensures { λ _. ⌜ now (list .exit) ≡ writeStepList w (now (bytes .entry)) (now (list .entry)) ⌝ }
+{
+    write::write_step(w, bytes, list)
+}
+
+#[no_mangle]
+pub extern "C" fn goofs_recover_lent(front: &[u8], count: u64, list: &mut [u8]) -> Recovering
+    ensures { λ r. ⌜ r ≡ onLent recoveryLent (now (front .entry)) count (length (now (list .entry))) ⌝ }
+    ensures { λ _. ⌜ now (list .exit) ≡ onLent recoveryList (now (front .entry)) count (now (list .entry)) ⌝ }
+{
+    recovery::recover_lent(front, count, list)
+}
+
+#[no_mangle]
+pub extern "C" fn goofs_recover_step(
+    v: Recovering,
+    front: &[u8],
+    bytes: &[u8],
+    list: &mut [u8],
+) -> Recovering
+    ensures { λ r. ⌜ r ≡ recoveryStep (view (now (front .entry))) (length (now (front .entry))) v (length (now (bytes .entry))) (length (now (list .entry))) ⌝ }
+    ensures { λ _. ⌜ now (list .exit) ≡ recoveryStepList (view (now (front .entry))) (length (now (front .entry))) v (now (bytes .entry)) (now (list .entry)) ⌝ }
+{
+    recovery::recover_step(v, front, bytes, list)
 }

@@ -9,6 +9,7 @@ pub mod Edition
 pub mod Entry
 pub mod Refusals
 pub mod Catalogue
+pub mod Lines
 pub mod WriteList
 pub mod Staging
 pub mod Recovery

@@ -1,6 +1,7 @@
 // The editions of the format, 1 and 2: the superblock's version says which. Where they differ, one value says what stands where.
 use super::Field;
 ghost use mathlib.Core.Path.{_≡_};
+ghost use Prim.Native.Nat.{_+_};
 ghost use Rattle.model.specs.Edition.{layoutOf, isEdition, badTime};
 ghost use Rattle.layout.specs.Edition.{layoutIn, InSector};
 
@@ -73,6 +74,15 @@ pub fn of(edition: u64) -> Edition
         return SECOND;
     }
     FIRST
+}
+
+// Where an entry's name starts.
+pub fn name_start(edition: u64) -> usize
+    ensures { λ r. ⌜ r ≡ layoutOf edition .name ⌝ }
+    ensures { λ r. ⌜ r + layoutOf edition .longestName ≡ 512 ⌝ }
+{
+    let e = of(edition);
+    e.name
 }
 
 pub fn longest_name(edition: u64) -> usize

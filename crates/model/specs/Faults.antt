@@ -2,8 +2,10 @@
 -- But for the entry marks, faults are read off the catalogue.
 use Prim.Native.Nat.{ℕ, _*_}
 use mathlib.Core.Bool.{Bool, false, not, _&&_, _||_}
+use mathlib.Core.List.{List}
 use mathlib.Core.Option.{Option, none, some}
 use lib.Dec.{eqb, ltb}
+use Rattle.model.specs.declared.Geometry.{Geometry}
 use Rattle.model.specs.declared.Lowest.{Lowest}
 use Rattle.model.specs.declared.Lowest.the-variants.{At, Nowhere}
 use Rattle.model.specs.declared.Soundness.{Soundness}
@@ -12,7 +14,7 @@ use Rattle.model.specs.Bytes.{numberIn}
 use Rattle.model.specs.Search.{first, anyBelow, allBelow, countBelow}
 use Rattle.model.specs.Geometry.{ExtentNumber, FileNumber, extentBytes, entryAt, extentsFor}
 use Rattle.model.specs.Disk.{Disk}
-use Rattle.model.specs.Entry.{entryField, freeMark, isOccupied, badName}
+use Rattle.model.specs.Entry.{Entry, entryField, freeMark, isOccupied, badName}
 use Rattle.model.specs.Catalogue.{Catalogue, catalogueOf, isFree, hasName, hasId, isPart, ownedFrom}
 
 -- an occupied entry, a taken extent, of which a test holds: "only occupied entries are judged by 22, 23, 24 and 26"
@@ -20,14 +22,20 @@ abbrev pub holdsOf {ℓ} : {A : Type ℓ} → Option A → (A → Bool) → Bool
 holdsOf none p = false
 holdsOf (some a) p = p a
 
--- 21 entry mark is neither value
+-- 21 entry mark is neither value: by an entry's sector
+abbrev pub badMark : List ℕ → Bool
+badMark s = not (eqb (numberIn s (entryField .mark)) freeMark || isOccupied s)
+
 unfoldable pub fault21 : Disk → FileNumber → Bool
-fault21 d i = not (eqb (numberIn (d (entryAt i)) (entryField .mark)) freeMark || isOccupied (d (entryAt i)))
+fault21 d i = badMark (d (entryAt i))
+
+-- 22 occupied, and the name length isn't 1 to 476, on version 2 to 468, or a name byte is 0, or size exceeds N x E (T-12): of an occupied entry
+abbrev pub badEntry : Geometry → Entry → Bool
+badEntry g e = badName (g .edition) (e .name) || ltb (g .extents * extentBytes g) (e .size)
 
 module _ (c : Catalogue) where
-  -- 22 occupied, and the name length isn't 1 to 476, on version 2 to 468, or a name byte is 0, or size exceeds N x E (T-12)
   unfoldable pub fault22 : FileNumber → Bool
-  fault22 i = holdsOf (c .entries i) (λ e. badName (c .geometry .edition) (e .name) || ltb (c .geometry .extents * extentBytes (c .geometry)) (e .size))
+  fault22 i = holdsOf (c .entries i) (λ e. badEntry (c .geometry) e)
 
   -- 23 same name as an occupied entry of lower index
   unfoldable pub fault23 : FileNumber → Bool

@@ -13,6 +13,7 @@ pub mod Catalogue
 pub mod Faults
 pub mod Refusals
 pub mod Summary
+pub mod Lines
 pub mod Scratch
 pub mod Find
 pub mod WriteList
@@ -26,6 +27,7 @@ pub mod Rename
 pub mod RenameSet
 pub mod Repair
 pub mod Recovery
+pub mod Lent
 pub mod Format
 pub mod CarryOut
 pub mod Lengths

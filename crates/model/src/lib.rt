@@ -144,10 +144,68 @@ pub struct CarriedOut {
     pub number: u64,
 }
 
+// What the listing program prints on a sector: nothing; "refused " and the number; a fault's number and the entry's index; or an occupied
+// entry's index and size, and of its name the first byte's place in the sector and the length.
+pub enum Line {
+    Nothing,
+    Refused(u64),
+    Fault(u64, u64),
+    File(u64, u64, usize, usize),
+}
+
 // The most bytes that a call's list can have.
 pub struct Longest {
     pub number: u64,
     pub length: u64,
+}
+
+// ---- a call over lent sectors (T-11), between its steps. Each holds the number of the last step, the answer's other numbers, the data sector that is
+// asked for, 0 for none (sector 0 is the superblock), and what the next step rests on. A list's length stays 0 until nothing is asked for.
+
+// `skip` bytes of the sector stand before the span. `done` bytes of the span are in the output; at `edge` of them it goes on in sector `next`.
+#[repr(C)]
+pub struct Reading {
+    pub code: u64,
+    pub fault: u64,
+    pub place: u64,
+    pub count: u64,
+    pub length: u64,
+    pub wanted: u64,
+    pub skip: u64,
+    pub done: u64,
+    pub edge: u64,
+    pub next: u64,
+}
+
+// A data sector of which a span covers the bytes from `from` to before `to`, and its record's position in the list.
+#[repr(C)]
+pub struct Part {
+    pub sector: u64,
+    pub from: u64,
+    pub to: u64,
+    pub position: u64,
+}
+
+// `last` is asked for after `wanted`; `full` is the list's length.
+#[repr(C)]
+pub struct Writing {
+    pub code: u64,
+    pub fault: u64,
+    pub place: u64,
+    pub length: u64,
+    pub wanted: Part,
+    pub last: Part,
+    pub full: u64,
+}
+
+// The source of journal entry `entry` is asked for; `full` is the list's length.
+#[repr(C)]
+pub struct Recovering {
+    pub code: u64,
+    pub length: u64,
+    pub wanted: u64,
+    pub entry: u64,
+    pub full: u64,
 }
 
 // ---- the layout's rules: only these turn file, extent and sector numbers into each other

@@ -2,3 +2,4 @@
 pub mod Verdicts
 pub mod ListAnswers
 pub mod ReadAnswers
+pub mod Steps

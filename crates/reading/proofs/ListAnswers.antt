@@ -1,5 +1,5 @@
--- What list answers and leaves in both buffers, test by test. Assumes nothing.
-use Prim.Native.Nat.{ℕ, _*_, _≤_, _<_}
+-- What list answers and leaves in both buffers, test by test, by any length of the image. Assumes nothing.
+use Prim.Native.Nat.{ℕ, _≤_, _<_}
 use mathlib.Core.Path.{_≡_, sym, ap, ap₂, _∙_, subst}
 use mathlib.Core.Bool.{Bool, true, false, cond}
 use mathlib.Core.List.{List}
@@ -21,7 +21,7 @@ use Rattle.model.specs.Root.{accessedRootSector}
 use Rattle.model.specs.Entry.{Entry, nameIn, entryIn, fieldsOf, isOccupied}
 use Rattle.model.specs.Catalogue.{catalogueOf, lacksReserve, entryOf}
 use Rattle.model.specs.Refusals.{Conditions, verdictOf, andThen, refusal, judged}
-use Rattle.model.specs.WriteList.{Plan, oneTarget, emit, groupsFor, closed, listLength, Decision, planConditions, listAfter}
+use Rattle.model.specs.WriteList.{Plan, oneTarget, emit, groupsFor, closed, listLength, Decision, planConditions, decided, listAfter}
 use Rattle.model.specs.Listing.{listConditions, listPlan, listPlanned, listDecision, notListed, listedOf, copiedOf, listAnswer, listCopies, listOutput, listingList}
 use Rattle.laws.proofs.Bytes.{put-nil}
 use Rattle.laws.proofs.Named.{free-is}
@@ -98,12 +98,12 @@ module _ (img out list : List ℕ) (i time : ℕ) (g : Geometry) (is : g ≡ geo
 
 -- ---- the call
 
-abbrev pub Lists : List ℕ → List ℕ → List ℕ → ℕ → ℕ → Listed → List ℕ → List ℕ → Type 0
-Lists img out list i time r o l =
-    (r ≡ listAnswer (length img) (view img) i time (length out) (length list))
-    × ((o ≡ listOutput (length img) (view img) i time out (length list)) × (l ≡ listingList (length img) (view img) i time (length out) list))
+abbrev pub Lists : ℕ → List ℕ → List ℕ → List ℕ → ℕ → ℕ → Listed → List ℕ → List ℕ → Type 0
+Lists len img out list i time r o l =
+    (r ≡ listAnswer len (view img) i time (length out) (length list))
+    × ((o ≡ listOutput len (view img) i time out (length list)) × (l ≡ listingList len (view img) i time (length out) list))
 
-module _ (img out list : List ℕ) (i time : ℕ) where
+module _ (len : ℕ) (img out list : List ℕ) (i time : ℕ) where
   abbrev cs : Conditions
   cs = listConditions (catalogueOf (view img)) i time (length out)
 
@@ -114,33 +114,39 @@ module _ (img out list : List ℕ) (i time : ℕ) where
   abbrev own : Verdict
   own = andThen (verdictOf cs) (verdictOf (planConditions (view img) plan (length list)))
 
-  list-as : {r : Listed} {o l : List ℕ} (y : Decision) → listDecision (length img) (view img) i time (length out) (length list) ≡ y
-      → ListedAs img out list i y r o l → Lists img out list i time r o l
+  list-as : {r : Listed} {o l : List ℕ} (y : Decision) → listDecision len (view img) i time (length out) (length list) ≡ y
+      → ListedAs img out list i y r o l → Lists len img out list i time r o l
   unfolding listAnswer listOutput listCopies listingList
   list-as y e h = rw e h
 
+  -- by another length that is judged the same
+  pub lists-same : {r : Listed} {o l : List ℕ} (len′ : ℕ) → judged len′ (view img) ≡ judged len (view img) → Lists len′ img out list i time r o l
+      → Lists len img out list i time r o l
+  unfolding listAnswer listOutput listCopies listingList listDecision decided
+  lists-same len′ e h = rw (← e) h
+
   -- 1 to 7
-  pub list-judged : (v : Verdict) → v ≡ judged (length img) (view img) → (v .number ≡ 0 → ⊥) → Lists img out list i time (notListed v) out list
+  pub list-judged : (v : Verdict) → v ≡ judged len (view img) → (v .number ≡ 0 → ⊥) → Lists len img out list i time (notListed v) out list
   unfolding listDecision
   list-judged v e h =
-      list-as (record { verdict = v; plan = none }) (decided-judged (length img) (view img) cs plan (length list) v e h) (refused-as img out list i v h)
+      list-as (record { verdict = v; plan = none }) (decided-judged len (view img) cs plan (length list) v e h) (refused-as img out list i v h)
 
-  module _ (ok : judged (length img) (view img) .number ≡ 0) (g : Geometry) (is : g ≡ geometryIn (view img superblockAt)) where
+  module _ (ok : judged len (view img) .number ≡ 0) (g : Geometry) (is : g ≡ geometryIn (view img superblockAt)) where
     list-own : (v : Verdict) → v ≡ own
-        → listDecision (length img) (view img) i time (length out) (length list) ≡ planned v plan
+        → listDecision len (view img) i time (length out) (length list) ≡ planned v plan
     unfolding listDecision
-    list-own v e = decided-own (length img) (view img) cs plan (length list) ok v e
+    list-own v e = decided-own len (view img) cs plan (length list) ok v e
 
     own-refused : (v : Verdict) → (v .number ≡ 0 → ⊥) → v ≡ own
-        → Lists img out list i time (notListed v) out list
+        → Lists len img out list i time (notListed v) out list
     own-refused v h e = list-as (record { verdict = v; plan = none }) (list-own v e ∙ planned-refused v plan h) (refused-as img out list i v h)
 
-    pub list-wide : badTime (g .edition) time ≡ true → Lists img out list i time (notListed (refusal 8)) out list
+    pub list-wide : badTime (g .edition) time ≡ true → Lists len img out list i time (notListed (refusal 8)) out list
     unfolding verdictOf listConditions
     list-wide h = own-refused (refusal 8) (λ (e : _≡_ {A = ℕ} 8 0). omega arith) (rw (edition-is img g is, h))
 
     module _ (fits : badTime (g .edition) time ≡ false) where
-      pub list-past : g .files ≤ i → Lists img out list i time (notListed (refusal 8)) out list
+      pub list-past : g .files ≤ i → Lists len img out list i time (notListed (refusal 8)) out list
       unfolding verdictOf listConditions
       list-past h = own-refused (refusal 8) (λ (e : _≡_ {A = ℕ} 8 0). omega arith) (rw (edition-is img g is, fits, files-is img g is, le-leb (g .files) i h))
 
@@ -148,7 +154,7 @@ module _ (img out list : List ℕ) (i time : ℕ) where
         low-on : i < geometryIn (view img superblockAt) .files
         low-on = let f = ap (λ (x : Geometry). x .files) is in omega arith
 
-        pub list-free : isOccupied (view img (entryAt i)) ≡ false → Lists img out list i time (notListed (refusal 9)) out list
+        pub list-free : isOccupied (view img (entryAt i)) ≡ false → Lists len img out list i time (notListed (refusal 9)) out list
         unfolding verdictOf listConditions
         list-free o =
             own-refused (refusal 9) (λ (e : _≡_ {A = ℕ} 9 0). omega arith)
@@ -164,7 +170,7 @@ module _ (img out list : List ℕ) (i time : ℕ) where
             ∙ rw (list-needs (view img) time, edition-is img g is, fits, files-is img g is, lt-leb (g .files) i low, free-is (view img) i low-on, o)
 
         pub list-found : {r : Listed} {o l : List ℕ} → isOccupied (view img (entryAt i)) ≡ true
-            → ListedAs img out list i (entryDecision (view img) i time (length out) (length list)) r o l → Lists img out list i time r o l
+            → ListedAs img out list i (entryDecision (view img) i time (length out) (length list)) r o l → Lists len img out list i time r o l
         list-found o h =
             list-as (entryDecision (view img) i time (length out) (length list))
             (list-own (lentVerdict (length (entryOf (catalogueOf (view img)) i .name)) (length out) (accessSize (lacksReserve (catalogueOf (view img)))) (length list)) (lent-own o)) h

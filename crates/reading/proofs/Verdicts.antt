@@ -10,11 +10,12 @@ use borrow.Author.Tests.{ltb-false, eq-eqb, ne-eqb}
 use Rattle.model.specs.declared.Geometry.{Geometry}
 use Rattle.model.specs.declared.Lowest.the-variants.{At, Nowhere}
 use Rattle.model.specs.declared.Verdict.{Verdict}
+use Rattle.model.specs.Bytes.{numberIn}
 use Rattle.model.specs.Search.{isAt}
 use Rattle.model.specs.Geometry.{superblockAt, entryAt}
 use Rattle.model.specs.Disk.{Disk, view}
 use Rattle.model.specs.Superblock.{geometryIn}
-use Rattle.model.specs.Entry.{entryIn, isOccupied, badName}
+use Rattle.model.specs.Entry.{entryField, Entry, entryIn, isOccupied, badName}
 use Rattle.model.specs.Catalogue.{catalogueOf, fileNamed, entryOf}
 use Rattle.model.specs.Refusals.{verdictOf, andThen, refusal, done}
 use Rattle.model.specs.WriteList.{Plan, recordSize, groupsFor, listLength, isPlanned}
@@ -91,3 +92,8 @@ pub entry-is : (img : List ℕ) (g : Geometry) (i : ℕ) → g ≡ geometryIn (v
 entry-is img g i is low occupied =
     let f = ap (λ (x : Geometry). x .files) is in
     ap (λ (x : Geometry). entryIn (x .edition) (view img (entryAt i))) is ∙ sym (entry-on (view img) i (omega arith) occupied)
+
+pub size-is : (img : List ℕ) (g : Geometry) (i : ℕ) → g ≡ geometryIn (view img superblockAt) → i < g .files → isOccupied (view img (entryAt i)) ≡ true
+    → numberIn (view img (entryAt i)) (entryField .size) ≡ entryOf (catalogueOf (view img)) i .size
+unfolding entryIn
+size-is img g i is low occupied = ap (λ (y : Entry). y .size) (entry-is img g i is low occupied)

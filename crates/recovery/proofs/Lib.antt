@@ -3,3 +3,4 @@ pub mod Index
 pub mod Answer
 pub mod Rising
 pub mod Slice
+pub mod Lent

@@ -18,7 +18,7 @@ use Rattle.model.specs.Catalogue.{Catalogue, catalogueOf, fileNamed}
 use Rattle.model.specs.Refusals.{Conditions, verdictOf, refusal, done, judged}
 use Rattle.model.specs.WriteList.{Plan}
 use Rattle.model.specs.Rename.{renameConditions, renamePlan, renamePlanned, renameDecision, renameAnswer, renameList}
-use Rattle.model.specs.Opened.{Opened}
+use Rattle.model.specs.Opened.{Opened, volumeLength}
 use Rattle.laws.proofs.Named.{editionOn, named-at}
 use Rattle.commit.proofs.Decided.{same-refusal, same-refusals, ComesTo, refused-by-own, done-with-nothing}
 use Rattle.delete.proofs.Decisions.{decided-fitted}
@@ -34,9 +34,9 @@ place-below {img} {g} (At j) name o e = let low = named-at (view img) name j e .
 
 abbrev pub Comes : List ℕ → List ℕ → List ℕ → List ℕ → ℕ → Changed → List ℕ → Type 0
 Comes img list old new time answer after =
-    (answer ≡ renameAnswer (length img) (view img) old new time (length list)) × (after ≡ renameList (length img) (view img) old new time list)
+    (answer ≡ renameAnswer (volumeLength (view img)) (view img) old new time (length list)) × (after ≡ renameList (volumeLength (view img)) (view img) old new time list)
 
-module _ (img list old new : List ℕ) (time : ℕ) (ok : judged (length img) (view img) .number ≡ 0) where
+module _ (img list old new : List ℕ) (time : ℕ) (ok : judged (volumeLength (view img)) (view img) .number ≡ 0) where
   abbrev c : Catalogue
   c = catalogueOf (view img)
 
@@ -64,11 +64,11 @@ module _ (img list old new : List ℕ) (time : ℕ) (ok : judged (length img) (v
 
   pub rename-bad : isBad ≡ true → Comes img list old new time (record { verdict = refusal 8; length = 0 }) list
   unfolding renameAnswer renameList renameDecision
-  rename-bad h = refused-by-own (length img) (view img) cs planned list ok (refusal 8) (bad h) (λ (e : _≡_ {A = ℕ} 8 0). omega arith)
+  rename-bad h = refused-by-own (volumeLength (view img)) (view img) cs planned list ok (refusal 8) (bad h) (λ (e : _≡_ {A = ℕ} 8 0). omega arith)
 
   pub rename-missing : isBad ≡ false → fileNamed c old ≡ Nowhere → Comes img list old new time (record { verdict = refusal 9; length = 0 }) list
   unfolding renameAnswer renameList renameDecision
-  rename-missing h n = refused-by-own (length img) (view img) cs planned list ok (refusal 9) (missing h n) (λ (e : _≡_ {A = ℕ} 9 0). omega arith)
+  rename-missing h n = refused-by-own (volumeLength (view img)) (view img) cs planned list ok (refusal 9) (missing h n) (λ (e : _≡_ {A = ℕ} 9 0). omega arith)
 
   module _ (i : ℕ) (good : isBad ≡ false) (found : fileNamed c old ≡ At i) where
     own : done ≡ verdictOf cs
@@ -76,9 +76,9 @@ module _ (img list old new : List ℕ) (time : ℕ) (ok : judged (length img) (v
 
     pub rename-itself : equalBytes old new ≡ true → Comes img list old new time (record { verdict = done; length = 0 }) list
     unfolding renameAnswer renameList renameDecision renamePlanned
-    rename-itself e = rw e (done-with-nothing (length img) (view img) cs list ok done own refl)
+    rename-itself e = rw e (done-with-nothing (volumeLength (view img)) (view img) cs list ok done own refl)
 
     pub rename-other : {answer : Changed} {m : List ℕ} → equalBytes old new ≡ false → ComesTo (view img) (renamedTo (view img) i new time (length list)) list answer m
         → Comes img list old new time answer m
     unfolding renameAnswer renameList renameDecision renamePlanned
-    rename-other e r = rw (e, decided-fitted (length img) (view img) cs (some (renamePlan c (view img) (indexOf (fileNamed c old)) (fileNamed c new) new time)) (length list) ok own, found) r
+    rename-other e r = rw (e, decided-fitted (volumeLength (view img)) (view img) cs (some (renamePlan c (view img) (indexOf (fileNamed c old)) (fileNamed c new) new time)) (length list) ok own, found) r

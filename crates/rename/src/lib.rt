@@ -18,10 +18,9 @@ ghost use Rattle.model.specs.Disk.{view};
 ghost use Rattle.model.specs.Edition.{layoutOf, badTime};
 ghost use Rattle.model.specs.Entry.{badName, badNewName};
 ghost use Rattle.model.specs.Catalogue.{catalogueOf, sectorsFrom};
-ghost use Rattle.model.specs.Refusals.{judged};
 ghost use Rattle.model.specs.WriteList.{sectorWrite, recordSize, recordCount, groupsFor, closed, Emitted, answerOf, listAfter};
 ghost use Rattle.model.specs.Rename.{renamedRecord, replacingRecords, renamingRecords, renamePlan, renameAnswer, renameList};
-ghost use Rattle.model.specs.Opened.{Bounded, Opened};
+ghost use Rattle.model.specs.Opened.{Bounded, Opened, inVolume, Accepted};
 ghost use Rattle.commit.specs.Commit.{Stages, StagesOf};
 ghost use Rattle.delete.specs.Staging.{Added};
 ghost use Rattle.rename.specs.Renaming.{renamingCount, renamedTo};
@@ -250,9 +249,9 @@ fn rename_file(
 }
 
 pub fn rename_in(img: &[u8], old: &[u8], new: &[u8], time: u64, list: &mut [u8]) -> Changed
-    requires { ⌜ judged (length (now img)) (view (now img)) .number ≡ 0 ⌝ }
-    ensures { λ r. ⌜ r ≡ renameAnswer (length (now (img .entry))) (view (now (img .entry))) (now (old .entry)) (now (new .entry)) time (length (now (list .entry))) ⌝ }
-    ensures { λ _. ⌜ now (list .exit) ≡ renameList (length (now (img .entry))) (view (now (img .entry))) (now (old .entry)) (now (new .entry)) time (now (list .entry)) ⌝ }
+    requires { ⌜ Accepted (now img) ⌝ }
+    ensures { λ r. ⌜ r ≡ inVolume renameAnswer (now (img .entry)) (now (old .entry)) (now (new .entry)) time (length (now (list .entry))) ⌝ }
+    ensures { λ _. ⌜ now (list .exit) ≡ inVolume renameList (now (img .entry)) (now (old .entry)) (now (new .entry)) time (now (list .entry)) ⌝ }
 {
     let g = volume::geometry_in(img);
     if bad_argument(g.edition, old, new, time) {

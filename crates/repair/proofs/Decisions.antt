@@ -17,14 +17,16 @@ use Rattle.model.specs.declared.Changed.{Changed}
 use Rattle.model.specs.declared.Repaired.{Repaired}
 use Rattle.model.specs.Search.{first, countBelow}
 use Rattle.model.specs.Geometry.{tableSectors}
-use Rattle.model.specs.Disk.{Disk, view}
+use Rattle.model.specs.Disk.{Disk}
 use Rattle.model.specs.Superblock.{geometryIn, stateOn}
 use Rattle.model.specs.Catalogue.{Catalogue, catalogueOf, lacksReserve}
 use Rattle.model.specs.Faults.{fault21, fault22, fault23, fault24, fault25, fault26, orElse, faultsIn}
 use Rattle.model.specs.Refusals.{verdictOf, andThen, isDone, done, refusal, imageVerdict, stateNumber}
 use Rattle.model.specs.WriteList.{Plan, Decision, Emitted, closed, recordSize, recordCount, groupsFor, listLength, listAfter, planConditions}
 use Rattle.model.specs.Repair.{isStray, strays, repaired, repairPlanned, repairVerdict, repairDecision, doneBut, notRepaired, repairAnswer, repairList}
+use Rattle.model.specs.Opened.{volumeLength}
 use Rattle.laws.proofs.Search.{first-none}
+use Rattle.laws.proofs.Refusals.{image-done, own-done}
 use Rattle.laws.proofs.WriteList.{emit-nil}
 use Rattle.laws.proofs.Repaired.{fault25-repaired}
 use Rattle.soundness.specs.Directory.{directoryFault}
@@ -112,8 +114,8 @@ module _ (d : Disk) (g : Geometry) (is : g ≡ geometryIn (d 0)) where
 
 -- ---- the call
 
-abbrev pub Comes : List ℕ → List ℕ → Repaired → List ℕ → Type 0
-Comes img list answer after = (answer ≡ repairAnswer (length img) (view img) (length list)) × (after ≡ repairList (length img) (view img) list)
+abbrev pub Comes : ℕ → Disk → List ℕ → Repaired → List ℕ → Type 0
+Comes len d list answer after = (answer ≡ repairAnswer len d (length list)) × (after ≡ repairList len d list)
 
 then-then : (a b x : Verdict) → andThen a (andThen b x) ≡ andThen (andThen a b) x
 then-then a b x = go (isDone a) refl
@@ -122,64 +124,74 @@ then-then a b x = go (isDone a) refl
     go true e = refl
     go false e = sym (ap (λ (t : Bool). cond t x a) e)
 
-module _ (img list : List ℕ) where
-  abbrev l : ℕ
-  l = length img
-
-  abbrev v : Disk
-  v = view img
-
+module _ (len : ℕ) (d : Disk) (list : List ℕ) where
   -- 1 to 6
   abbrev pub early : Verdict
-  early = andThen (imageVerdict (length img) (view img)) (refusal (stateNumber (stateOn (view img))))
+  early = andThen (imageVerdict len d) (refusal (stateNumber (stateOn d)))
 
   -- 13 and 14, or the plan
   abbrev pub later : Decision
-  later = fitted (view img) (repairPlanned (catalogueOf (view img)) (view img)) (length list)
+  later = fitted d (repairPlanned (catalogueOf d) d) (length list)
 
-  verdict-is : repairVerdict (length img) (view img) (length list) ≡ andThen early (later .verdict)
+  verdict-is : repairVerdict len d (length list) ≡ andThen early (later .verdict)
   unfolding repairVerdict
-  verdict-is = then-then (imageVerdict l v) (refusal (stateNumber (stateOn v))) (later .verdict)
+  verdict-is = then-then (imageVerdict len d) (refusal (stateNumber (stateOn d))) (later .verdict)
 
   -- a clean volume's image passed 1 to 3
-  pub clean-image : early .number ≡ 0 → imageVerdict (length img) (view img) .number ≡ 0
-  clean-image h = go (isDone (imageVerdict l v)) refl
+  pub clean-image : early .number ≡ 0 → imageVerdict len d .number ≡ 0
+  clean-image h = go (isDone (imageVerdict len d)) refl
     where
-      go : (b : Bool) → isDone (imageVerdict l v) ≡ b → imageVerdict l v .number ≡ 0
-      go true t = eqb-true (imageVerdict l v .number) 0 t
-      go false t = ap (λ (b : Bool). cond b (refusal (stateNumber (stateOn v))) (imageVerdict l v) .number) (sym t) ∙ h
+      go : (b : Bool) → isDone (imageVerdict len d) ≡ b → imageVerdict len d .number ≡ 0
+      go true t = eqb-true (imageVerdict len d .number) 0 t
+      go false t = ap (λ (b : Bool). cond b (refusal (stateNumber (stateOn d))) (imageVerdict len d) .number) (sym t) ∙ h
 
-  refused-by : (w : Verdict) → repairVerdict (length img) (view img) (length list) ≡ w → isDone w ≡ false → Comes img list (notRepaired w) list
+  pub clean-state : early .number ≡ 0 → stateNumber (stateOn d) ≡ 0
+  clean-state h = ap (λ (b : Bool). cond b (refusal (stateNumber (stateOn d))) (imageVerdict len d) .number) (sym (eq-eqb (imageVerdict len d .number) 0 (clean-image h))) ∙ h
+
+  pub clean-both : imageVerdict len d .number ≡ 0 → stateNumber (stateOn d) ≡ 0 → early .number ≡ 0
+  clean-both i s = ap (λ (b : Bool). cond b (refusal (stateNumber (stateOn d))) (imageVerdict len d) .number) (eq-eqb (imageVerdict len d .number) 0 i) ∙ s
+
+  -- what 1 to 3 let pass is repaired whatever its length
+  module _ (i : imageVerdict len d .number ≡ 0) where
+    own-decision : repairDecision (volumeLength d) d (length list) ≡ repairDecision len d (length list)
+    unfolding repairDecision repairVerdict
+    own-decision = rw (own-done len d i, image-done len d i) refl
+
+    pub own-comes : {answer : Repaired} {after : List ℕ} → Comes (volumeLength d) d list answer after → Comes len d list answer after
+    unfolding repairAnswer repairList
+    own-comes p = rw own-decision at p
+
+  refused-by : (w : Verdict) → repairVerdict len d (length list) ≡ w → isDone w ≡ false → Comes len d list (notRepaired w) list
   unfolding repairAnswer repairList repairDecision groupsFor
   refused-by w e n = (rw (e, n), rw (e, n) (sym (emit-nil list 0)))
 
-  pub repair-early : {w : Verdict} → w ≡ early → w .number ≢ 0 → Comes img list (notRepaired w) list
+  pub repair-early : {w : Verdict} → w ≡ early → w .number ≢ 0 → Comes len d list (notRepaired w) list
   repair-early {w} q n =
       refused-by w (verdict-is ∙ ap (λ (x : Verdict). andThen x (later .verdict)) (sym q) ∙ ap (λ (b : Bool). cond b (later .verdict) w) (ne-eqb (w .number) 0 n)) (ne-eqb (w .number) 0 n)
 
   module _ (clean : early .number ≡ 0) where
-    from-later : repairDecision (length img) (view img) (length list) ≡ later
+    from-later : repairDecision len d (length list) ≡ later
     unfolding repairDecision
     from-later =
-        ap (λ (w : Verdict). let p = repairPlanned (catalogueOf v) v in record { verdict = w; plan = cond (isDone w) p none })
+        ap (λ (w : Verdict). let p = repairPlanned (catalogueOf d) d in record { verdict = w; plan = cond (isDone w) p none })
         (verdict-is ∙ ap (λ (b : Bool). cond b (later .verdict) early) (eq-eqb (early .number) 0 clean))
 
-    module _ {r : Mended} {after : List ℕ} (m : Mends (view img) list r after) where
-      leaves : after ≡ repairList (length img) (view img) list
+    module _ {r : Mended} {after : List ℕ} (m : Mends d list r after) where
+      leaves : after ≡ repairList len d list
       unfolding repairList
-      leaves = m .leaves ∙ ap (λ (x : Decision). listAfter v x list) (sym from-later)
+      leaves = m .leaves ∙ ap (λ (x : Decision). listAfter d x list) (sym from-later)
 
-      verdict-was : repairDecision (length img) (view img) (length list) .verdict ≡ refusal (r .number)
+      verdict-was : repairDecision len d (length list) .verdict ≡ refusal (r .number)
       verdict-was = ap (λ (x : Decision). x .verdict) from-later ∙ sym (ap (λ (a : Changed). a .verdict) (m .answers))
 
-      pub repair-refused : r .number ≢ 0 → Comes img list (notRepaired (refusal (r .number))) after
+      pub repair-refused : r .number ≢ 0 → Comes len d list (notRepaired (refusal (r .number))) after
       unfolding repairAnswer
       repair-refused n = (rw (verdict-was, ne-eqb (r .number) 0 n), leaves)
 
-      pub repair-done : (w : Verdict) → r .number ≡ 0 → w ≡ doneBut (faultsIn (fault21 (view img)) (repaired (catalogueOf (view img))))
-          → Comes img list (record { verdict = w; freed = r .freed; length = r .length }) after
+      pub repair-done : (w : Verdict) → r .number ≡ 0 → w ≡ doneBut (faultsIn (fault21 d) (repaired (catalogueOf d)))
+          → Comes len d list (record { verdict = w; freed = r .freed; length = r .length }) after
       unfolding repairAnswer
       repair-done w z q =
-          let k : r .length ≡ listLength (groupsFor v (repairDecision l v (length list) .plan))
-          = ap (λ (a : Changed). a .length) (m .answers) ∙ ap (λ (x : Decision). listLength (groupsFor v (x .plan))) (sym from-later) in
+          let k : r .length ≡ listLength (groupsFor d (repairDecision len d (length list) .plan))
+          = ap (λ (a : Changed). a .length) (m .answers) ∙ ap (λ (x : Decision). listLength (groupsFor d (x .plan))) (sym from-later) in
           (rw (verdict-was, z, q, m .freed z, k), leaves)

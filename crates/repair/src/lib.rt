@@ -15,12 +15,15 @@ ghost use lib.Dec.{eqb};
 ghost use lib.ListN.{length, getD};
 ghost use Rattle.model.specs.Search.{first, anyBelow, countBelow};
 ghost use Rattle.model.specs.Geometry.{tableAt, tableSectors};
-ghost use Rattle.model.specs.Disk.{view};
+ghost use Rattle.model.specs.Disk.{view, onImage};
+ghost use Rattle.model.specs.Superblock.{stateOn};
 ghost use Rattle.model.specs.Table.{freeFile, tableFile, tableOffset, freedIn};
 ghost use Rattle.model.specs.Catalogue.{catalogueOf};
 ghost use Rattle.model.specs.Faults.{fault21, fault26, faultsIn};
+ghost use Rattle.model.specs.Refusals.{stateNumber};
 ghost use Rattle.model.specs.WriteList.{recordSize, recordCount, groupsFor, closed, Emitted};
-ghost use Rattle.model.specs.Opened.{Bounded, Opened};
+ghost use Rattle.model.specs.Opened.{Bounded, Opened, inVolume, Readable};
+ghost use Rattle.model.specs.Lent.{onLent};
 ghost use Rattle.model.specs.Repair.{isStray, repaired, doneBut, repairAnswer, repairList};
 ghost use Rattle.commit.specs.Commit.{Stages, StagesOf};
 ghost use Rattle.delete.specs.Staging.{Added};
@@ -498,24 +501,46 @@ fn refused(verdict: Verdict) -> Repaired
     }
 }
 
+// The repair of a clean volume.
+fn repair_in(img: &[u8], list: &mut [u8]) -> Repaired
+    requires { ⌜ Readable (now img) ⌝ }
+    requires { ⌜ stateNumber (stateOn (view (now img))) ≡ 0 ⌝ }
+    ensures { λ r. ⌜ r ≡ inVolume repairAnswer (now (img .entry)) (length (now (list .entry))) ⌝ }
+    ensures { λ _. ⌜ now (list .exit) ≡ inVolume repairList (now (img .entry)) (now (list .entry)) ⌝ }
+{
+    let g = volume::geometry_in(img);
+    let m = mend_with(img, g, list, 1024);
+    if m.number == 0 {
+        let lacking = m.lacking;
+        let verdict = remaining(img, g, lacking);
+        return Repaired {
+            verdict,
+            freed: m.freed,
+            length: m.length,
+        };
+    }
+    refused(volume::refusal(m.number))
+}
+
 pub fn repair(img: &[u8], list: &mut [u8]) -> Repaired
-    ensures { λ r. ⌜ r ≡ repairAnswer (length (now (img .entry))) (view (now (img .entry))) (length (now (list .entry))) ⌝ }
-    ensures { λ _. ⌜ now (list .exit) ≡ repairList (length (now (img .entry))) (view (now (img .entry))) (now (list .entry)) ⌝ }
+    ensures { λ r. ⌜ r ≡ onImage repairAnswer (now (img .entry)) (length (now (list .entry))) ⌝ }
+    ensures { λ _. ⌜ now (list .exit) ≡ onImage repairList (now (img .entry)) (now (list .entry)) ⌝ }
 {
     let v = soundness::clean_verdict(img);
     if v.number == 0 {
-        let g = volume::geometry_in(img);
-        let m = mend_with(img, g, list, 1024);
-        if m.number == 0 {
-            let lacking = m.lacking;
-            let verdict = remaining(img, g, lacking);
-            return Repaired {
-                verdict,
-                freed: m.freed,
-                length: m.length,
-            };
-        }
-        return refused(volume::refusal(m.number));
+        return repair_in(img, list);
+    }
+    refused(v)
+}
+
+// The same of lent sectors (T-11).
+pub fn repair_lent(front: &[u8], count: u64, list: &mut [u8]) -> Repaired
+    ensures { λ r. ⌜ r ≡ onLent repairAnswer (now (front .entry)) count (length (now (list .entry))) ⌝ }
+    ensures { λ _. ⌜ now (list .exit) ≡ onLent repairList (now (front .entry)) count (now (list .entry)) ⌝ }
+{
+    let v = soundness::clean_verdict_lent(front, count);
+    if v.number == 0 {
+        return repair_in(front, list);
     }
     refused(v)
 }

@@ -33,7 +33,7 @@ use Rattle.model.specs.Repair.{isStray, holdsStray, repaired, repairedSector, r
 use Rattle.laws.proofs.Bytes.{pow-more}
 use Rattle.laws.proofs.Count.{countBelow-anyBelow}
 use Rattle.laws.proofs.Disk.{length-view, getD-view}
-use Rattle.laws.proofs.Refusals.{image-passed, opened}
+use Rattle.laws.proofs.Refusals.{image-passed, readable, opened}
 use Rattle.laws.proofs.Search.{anyBelow-true, none-at}
 use Rattle.laws.proofs.Seeking.{anyBelow-first}
 use Rattle.laws.proofs.Staging.{free, InExtent, one-extent}
@@ -151,7 +151,7 @@ module _ (img : List ℕ) where
         let p = image-passed (length img) d number in
         record {
           ready = record { volume = record { whole = p .whole; marked = p .volume; geometry = refl; fits = p .fits }; clean = clean-by (stateOn d) state };
-          bounded = opened img g refl small number .bounded;
+          bounded = opened img g refl small (readable img number) .bounded;
           there = λ q. sym (ap (λ (b : Bool). isPlanned (cond b (some (repairPlan c d)) none) && lacksReserve c) q) ∙ plan-passed .0;
         }
 

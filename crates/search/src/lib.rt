@@ -1,9 +1,8 @@
 // The search for a free extent, exported alone so that the bench can time it. Calls for a volume stand in `goofs`.
 use model::Lowest;
 ghost use mathlib.Core.Path.{_≡_};
-ghost use lib.ListN.{length};
-ghost use Rattle.model.specs.Disk.{view};
-ghost use Rattle.model.specs.Refusals.{imageVerdict};
+ghost use Rattle.model.specs.Disk.{view, onImage};
+ghost use Rattle.model.specs.Opened.{Readable};
 ghost use Rattle.model.specs.Catalogue.{catalogueOf, freeExtent};
 ghost use Rattle.search.specs.Numbers.{extentNumbers, freeExtentNumbers};
 
@@ -14,7 +13,7 @@ pub struct FreeExtentResult {
 }
 
 fn search_in(img: &[u8]) -> FreeExtentResult
-    requires { ⌜ imageVerdict (length (now img)) (view (now img)) .number ≡ 0 ⌝ }
+    requires { ⌜ Readable (now img) ⌝ }
     ensures { λ r. ⌜ r ≡ extentNumbers (freeExtent (catalogueOf (view (now (img .entry))))) ⌝ }
 {
     let g = volume::geometry_in(img);
@@ -33,7 +32,7 @@ fn search_in(img: &[u8]) -> FreeExtentResult
 // The lowest free extent; 13 where there is none, 1 to 3 as in every call. Soundness isn't judged.
 #[no_mangle]
 pub extern "C" fn goofs_free_extent(img: &[u8]) -> FreeExtentResult
-    ensures { λ r. ⌜ r ≡ freeExtentNumbers (length (now (img .entry))) (view (now (img .entry))) ⌝ }
+    ensures { λ r. ⌜ r ≡ onImage freeExtentNumbers (now (img .entry)) ⌝ }
 {
     let v = volume::image_verdict(img);
     if v.number == 0 {

@@ -3,17 +3,17 @@
 use model::Geometry;
 use model::Lowest;
 use model::Soundness;
-use model::State;
 use model::Verdict;
 ghost use mathlib.Core.Path.{_≡_};
 ghost use Prim.Native.Nat.{_≤_};
 ghost use lib.ListN.{length};
-ghost use Rattle.model.specs.Disk.{view};
+ghost use Rattle.model.specs.Disk.{view, onImage};
 ghost use Rattle.model.specs.Faults.{firstFault};
 ghost use Rattle.model.specs.Superblock.{stateOn};
 ghost use Rattle.model.specs.Refusals.{andThen, refusal, imageVerdict, stateNumber, faultVerdict, soundVerdict, judged};
 ghost use Rattle.model.specs.Scratch.{scratchNumbers, soundVerdictWith, judgedWith, ScratchAfter};
-ghost use Rattle.model.specs.Opened.{Opened};
+ghost use Rattle.model.specs.Lent.{onLent};
+ghost use Rattle.model.specs.Opened.{Opened, Readable};
 ghost use Rattle.soundness.specs.Directory.{directoryFault};
 
 // The first of the faults 21 to 24. Each test may rest on the earlier faults' not being there.
@@ -47,17 +47,6 @@ fn first_fault(img: &[u8], g: Geometry) -> Soundness
     allocation::faults(img, g)
 }
 
-fn state_number(s: State) -> u64
-    ensures { λ r. ⌜ r ≡ stateNumber s ⌝ }
-{
-    match s {
-        State::Clean => 0,
-        State::Waiting(_) => 5,
-        State::Damaged => 6,
-        State::Unfinished => 4,
-    }
-}
-
 fn fault_verdict(s: Soundness) -> Verdict
     ensures { λ r. ⌜ r ≡ faultVerdict s ⌝ }
 {
@@ -73,21 +62,31 @@ fn fault_verdict(s: Soundness) -> Verdict
 
 // The refusals 1 to 6.
 pub fn clean_verdict(img: &[u8]) -> Verdict
-    ensures { λ r. ⌜ r ≡ andThen (imageVerdict (length (now (img .entry))) (view (now (img .entry)))) (refusal (stateNumber (stateOn (view (now (img .entry)))))) ⌝ }
+    ensures { λ r. ⌜ r ≡ andThen (onImage imageVerdict (now (img .entry))) (refusal (stateNumber (stateOn (view (now (img .entry)))))) ⌝ }
 {
     let v = volume::image_verdict(img);
     if v.number == 0 {
-        return volume::refusal(state_number(volume::state_on(img)));
+        return volume::refusal(volume::state_number(volume::state_on(img)));
+    }
+    v
+}
+
+pub fn clean_verdict_lent(front: &[u8], count: u64) -> Verdict
+    ensures { λ r. ⌜ r ≡ andThen (onLent imageVerdict (now (front .entry)) count) (refusal (stateNumber (stateOn (view (now (front .entry)))))) ⌝ }
+{
+    let v = volume::front_verdict(front, count);
+    if v.number == 0 {
+        return volume::refusal(volume::state_number(volume::state_on(front)));
     }
     v
 }
 
 // The refusals 4 to 7.
 fn sound_verdict(img: &[u8]) -> Verdict
-    requires { ⌜ imageVerdict (length (now img)) (view (now img)) .number ≡ 0 ⌝ }
+    requires { ⌜ Readable (now img) ⌝ }
     ensures { λ r. ⌜ r ≡ soundVerdict (view (now (img .entry))) ⌝ }
 {
-    let n = state_number(volume::state_on(img));
+    let n = volume::state_number(volume::state_on(img));
     if n == 0 {
         let g = volume::geometry_in(img);
         return fault_verdict(first_fault(img, g));
@@ -97,11 +96,22 @@ fn sound_verdict(img: &[u8]) -> Verdict
 
 // The refusals 1 to 7.
 pub fn judge(img: &[u8]) -> Verdict
-    ensures { λ r. ⌜ r ≡ judged (length (now (img .entry))) (view (now (img .entry))) ⌝ }
+    ensures { λ r. ⌜ r ≡ onImage judged (now (img .entry)) ⌝ }
 {
     let v = volume::image_verdict(img);
     if v.number == 0 {
         return sound_verdict(img);
+    }
+    v
+}
+
+// Of lent sectors (T-11).
+pub fn judge_lent(front: &[u8], count: u64) -> Verdict
+    ensures { λ r. ⌜ r ≡ onLent judged (now (front .entry)) count ⌝ }
+{
+    let v = volume::front_verdict(front, count);
+    if v.number == 0 {
+        return sound_verdict(front);
     }
     v
 }
@@ -138,11 +148,11 @@ pub fn first_fault_with(img: &[u8], g: Geometry, scratch: &mut [u32]) -> Soundne
 
 // The refusals 4 to 6, 14 and 7.
 fn sound_verdict_with(img: &[u8], scratch: &mut [u32]) -> Verdict
-    requires { ⌜ imageVerdict (length (now img)) (view (now img)) .number ≡ 0 ⌝ }
+    requires { ⌜ Readable (now img) ⌝ }
     ensures { λ r. ⌜ r ≡ soundVerdictWith (view (now (img .entry))) (length (now (scratch .entry))) ⌝ }
     ensures { λ r. ⌜ ScratchAfter r (now (scratch .entry)) (now (scratch .exit)) ⌝ }
 {
-    let n = state_number(volume::state_on(img));
+    let n = volume::state_number(volume::state_on(img));
     if n == 0 {
         let g = volume::geometry_in(img);
         if (scratch.len() as u64) < scratch_numbers(g) {
@@ -155,12 +165,23 @@ fn sound_verdict_with(img: &[u8], scratch: &mut [u32]) -> Verdict
 
 // The refusals 1 to 6, 14 and 7.
 pub fn judge_with(img: &[u8], scratch: &mut [u32]) -> Verdict
-    ensures { λ r. ⌜ r ≡ judgedWith (length (now (img .entry))) (view (now (img .entry))) (length (now (scratch .entry))) ⌝ }
+    ensures { λ r. ⌜ r ≡ onImage judgedWith (now (img .entry)) (length (now (scratch .entry))) ⌝ }
     ensures { λ r. ⌜ ScratchAfter r (now (scratch .entry)) (now (scratch .exit)) ⌝ }
 {
     let v = volume::image_verdict(img);
     if v.number == 0 {
         return sound_verdict_with(img, scratch);
+    }
+    v
+}
+
+pub fn judge_with_lent(front: &[u8], count: u64, scratch: &mut [u32]) -> Verdict
+    ensures { λ r. ⌜ r ≡ onLent judgedWith (now (front .entry)) count (length (now (scratch .entry))) ⌝ }
+    ensures { λ r. ⌜ ScratchAfter r (now (scratch .entry)) (now (scratch .exit)) ⌝ }
+{
+    let v = volume::front_verdict(front, count);
+    if v.number == 0 {
+        return sound_verdict_with(front, scratch);
     }
     v
 }

@@ -12,7 +12,7 @@ use Rattle.model.specs.declared.Lowest.{Lowest}
 use Rattle.model.specs.declared.Lowest.the-variants.{At, Nowhere}
 use Rattle.model.specs.Bytes.{bytesFrom}
 use Rattle.model.specs.Search.{scan, tabulate, indexOf}
-use Rattle.model.specs.Geometry.{extentSectors, extentBytes, extentAt, superblockAt}
+use Rattle.model.specs.Geometry.{extentSectors, extentBytes, extentAt, superblockAt, volumeSectors}
 use Rattle.model.specs.Disk.{view}
 use Rattle.model.specs.Superblock.{geometryIn}
 use Rattle.model.specs.Catalogue.{Catalogue, catalogueOf, isPart, extentOf, sectorOf, fileByte, fileBytes}
@@ -70,11 +70,11 @@ extent-below img g h i o =
     let r : indexOf (scan p (n - 0) 0) < n - 0 = found-below p (n - 0) (scan p (n - 0) 0) (omega (arith, h .bounded .extents-low)) (scan-hit p (n - 0) 0) in
     rw (extent-of-is (view img) g (h .is) i o) (omega (arith, r))
 
--- so do the bytes of one
-pub extent-inside : (img : List ℕ) (g : Geometry) → Opened img g → (x : ℕ) → x < g .extents → 512 * extentAt g x + extentBytes g ≤ length img
-extent-inside img g h x l =
+-- so do its sectors
+pub extent-inside : (g : Geometry) (x : ℕ) → x < g .extents → extentAt g x + extentSectors g ≤ volumeSectors g
+extent-inside g x l =
     let m : suc x * extentSectors g ≤ g .extents * extentSectors g = mul-le-mul-right (extentSectors g) l in
-    omega (arith, h .held, suc-mul x (extentSectors g))
+    omega (arith, suc-mul x (extentSectors g))
 
 -- ---- where an offset stands: in the extent offset / E, at byte offset % E
 
@@ -99,8 +99,8 @@ module _ (img : List ℕ) (g : Geometry) (h : Opened img g) (i offset x start : 
   piece-below : x < g .extents
   piece-below = omega (arith, extent-below img g h i (offset / extentBytes g))
 
-  pub piece-inside : 512 * start + extentBytes g ≤ length img
-  piece-inside = rw at (extent-inside img g h x piece-below)
+  pub piece-inside : 512 * volumeSectors g ≤ length img → 512 * start + extentBytes g ≤ length img
+  piece-inside w = rw at (omega (arith, w, extent-inside g x piece-below))
 
   pub piece-is : (m : ℕ) → offset % extentBytes g + m ≤ extentBytes g
       → fileBytes (catalogueOf (view img)) (view img) i offset m ≡ bytesFrom img (512 * start + offset % extentBytes g) m

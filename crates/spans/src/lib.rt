@@ -7,16 +7,17 @@ use model::Sector;
 ghost use mathlib.Core.Path.{_≡_};
 ghost use mathlib.Core.Bool.{cond};
 ghost use mathlib.Core.List.{[], _∷_};
-ghost use Prim.Native.Nat.{_+_, _*_, _-_, _≤_, _<_, _^_};
+ghost use Prim.Native.Nat.{_+_, _*_, _-_, _%_, _≤_, _<_, _^_};
 ghost use lib.Dec.{ltb};
 ghost use lib.ListN.{length};
 ghost use Rattle.model.specs.Bytes.{bytesFrom, put};
 ghost use Rattle.model.specs.Search.{tabulate};
+ghost use Rattle.model.specs.Geometry.{extentSectors, volumeSectors};
 ghost use Rattle.model.specs.Disk.{view};
 ghost use Rattle.model.specs.Table.{freeFile};
 ghost use Rattle.model.specs.Catalogue.{catalogueOf, fileBytes, extentOf};
 ghost use Rattle.model.specs.WriteList.{sectorWrite, recordSize, Emitted};
-ghost use Rattle.model.specs.Write.{spliced, dataSector};
+ghost use Rattle.model.specs.Write.{spliced, fileSectorAt, dataSector};
 ghost use Rattle.model.specs.Opened.{Opened};
 ghost use Rattle.spans.specs.Touched.{Touched, Lent, Source, spanOf};
 
@@ -33,6 +34,7 @@ fn read_piece(
     n: usize,
 ) -> usize
     requires { ⌜ Opened (now img) g ⌝ }
+    requires { ⌜ 512 * volumeSectors g ≤ length (now img) ⌝ }
     requires { ⌜ (i .0 < freeFile) × (0 < n) × (offset + n < 2 ^ 63) ⌝ }
     requires { ⌜ at + n ≤ length (now out) ⌝ }
     ensures { λ r. ⌜ (0 < r) × (r ≤ n) ⌝ }
@@ -57,6 +59,7 @@ pub fn read_span(
     n: usize,
 )
     requires { ⌜ Opened (now img) g ⌝ }
+    requires { ⌜ 512 * volumeSectors g ≤ length (now img) ⌝ }
     requires { ⌜ (i .0 < freeFile) × (offset + n < 2 ^ 63) ⌝ }
     requires { ⌜ at + n ≤ length (now out) ⌝ }
     ensures { λ _. ⌜ now (out .exit) ≡ put (now (out .entry)) at (fileBytes (catalogueOf (view (now (img .entry)))) (view (now (img .entry))) (i .0) offset n) ⌝ }
@@ -83,7 +86,7 @@ fn place_in(bytes: &[u8], len: u64, at: u64, n: u64) -> usize
     0
 }
 
-// File sector s of the span, which stands at `place`: what the span doesn't cover keeps its old bytes.
+// File sector s of the span, which stands at `place`: what the span doesn't cover keeps its old bytes, or is 0 where the image ends before it (T-11).
 fn put_data_sector(
     list: &mut [u8],
     k: usize,
@@ -95,7 +98,7 @@ fn put_data_sector(
     s: u64,
 ) -> usize
     requires { ⌜ (k + 1) * recordSize ≤ length (now list) ⌝ }
-    requires { ⌜ 512 * place .0 + 512 ≤ length (now img) ⌝ }
+    requires { ⌜ 512 * place .0 + 512 < 2 ^ 63 ⌝ }
     requires { ⌜ Touched offset len s 1 ⌝ }
     requires { ⌜ Source (now bytes) len ⌝ }
     ensures { λ r. ⌜ Emitted (now (list .entry)) k (sectorWrite (place .0) (spliced offset (spanOf (now (bytes .entry)) len) s (view (now (img .entry)) (place .0))) ∷ []) (now (list .exit)) r ⌝ }
@@ -107,7 +110,7 @@ fn put_data_sector(
     if to - from == 512 {
         return lists::put_from(list, k, place, bytes, at);
     }
-    let mut a = fields::sector(img, place);
+    let mut a = fields::shown(img, place);
     fields::copy_bytes(
         bytes,
         at,
@@ -131,7 +134,7 @@ fn put_piece(
     n: u64,
 ) -> usize
     requires { ⌜ (k + n) * recordSize ≤ length (now list) ⌝ }
-    requires { ⌜ 512 * (start .0 + n) ≤ length (now img) ⌝ }
+    requires { ⌜ 512 * (start .0 + n) < 2 ^ 63 ⌝ }
     requires { ⌜ Touched offset len s n ⌝ }
     requires { ⌜ Source (now bytes) len ⌝ }
     ensures { λ r. ⌜ r ≡ k + n ⌝ }
@@ -167,6 +170,18 @@ fn extent_for(img: &[u8], g: Geometry, i: FileIndex, held: u64, next: Extent, o:
     next
 }
 
+// Where file sector s stands.
+pub fn sector_at(img: &[u8], g: Geometry, i: FileIndex, held: u64, next: Extent, s: u64) -> Sector
+    requires { ⌜ Opened (now img) g ⌝ }
+    requires { ⌜ Lent (now img) (i .0) held (next .0) ⌝ }
+    ensures { λ r. ⌜ r .0 ≡ fileSectorAt (catalogueOf (view (now (img .entry)))) (i .0) s ⌝ }
+    ensures { λ r. ⌜ 512 * (r .0 + (extentSectors g - s % extentSectors g)) < 2 ^ 63 ⌝ }
+{
+    let size = g.extent_sectors as u64;
+    let start = g.extent_at(extent_for(img, g, i, held, next, s / size));
+    Sector(start.0 + s % size)
+}
+
 // Those of the n data sectors of the span from file sector s on that lie in one extent, in file order; the answer is how many.
 fn put_in_extent(
     list: &mut [u8],
@@ -192,20 +207,9 @@ fn put_in_extent(
     ensures { λ r. ⌜ Emitted (now (list .entry)) k (tabulate (dataSector (catalogueOf (view (now (img .entry)))) (i .0) (view (now (img .entry))) offset (spanOf (now (bytes .entry)) len)) s r) (now (list .exit)) (k + r) ⌝ }
 {
     let size = g.extent_sectors as u64;
-    let within = s % size;
-    let m = fields::least(size - within, n);
-    let start = g.extent_at(extent_for(img, g, i, held, next, s / size));
-    put_piece(
-        list,
-        k,
-        img,
-        Sector(start.0 + within),
-        offset,
-        bytes,
-        len,
-        s,
-        m,
-    );
+    let m = fields::least(size - s % size, n);
+    let place = sector_at(img, g, i, held, next, s);
+    put_piece(list, k, img, place, offset, bytes, len, s, m);
     m
 }
 

@@ -27,7 +27,7 @@ use Rattle.model.specs.Refusals.{Conditions, verdictOf, refusal, done, judged}
 use Rattle.model.specs.WriteList.{Plan, Record, Group, sectorWrite, recordSize, recordCount, groupsFor, listLength, closed, Emitted, decided}
 use Rattle.model.specs.Read.{longestTransfer, sizeNamed}
 use Rattle.model.specs.Write.{touchedSectors, heldExtents, grows, noRoom, sizeAfter, dataSector, writePlan, writePlanned, writeConditions, writeDecision, writeAnswer, writeList}
-use Rattle.model.specs.Opened.{Opened}
+use Rattle.model.specs.Opened.{Opened, volumeLength, Accepted}
 use Rattle.laws.proofs.Search.{Hit, scan-hit, length-tabulate}
 use Rattle.laws.proofs.Judged.{judged-sound}
 use Rattle.laws.proofs.Named.{editionOn, named-at, named-entry, size-fits}
@@ -111,7 +111,7 @@ module _ (img : List ℕ) (g : Geometry) (o : Opened img g) where
     pub file-below : i < g .files
     file-below = rw (o .is) (named-at (view img) name i e .0)
 
-    pub asked : judged (length img) (view img) .number ≡ 0 → (size n : ℕ) → size ≡ numberIn (view img (entryAt i)) (entryField .size) → n ≤ longestTransfer → Asked img g i size n
+    pub asked : Accepted img → (size n : ℕ) → size ≡ numberIn (view img (entryAt i)) (entryField .size) → n ≤ longestTransfer → Asked img g i size n
     unfolding entryIn
     asked ok size n q short =
         let h = named-at (view img) name i e in
@@ -120,7 +120,7 @@ module _ (img : List ℕ) (g : Geometry) (o : Opened img g) where
           opened = o;
           file = file-below;
           says = q ∙ sym (ap (λ (x : Entry). x .size) (named-entry (view img) name i e));
-          fits = rw q (size-fits img g o (judged-sound (length img) (view img) ok) i (h .0) (h .1));
+          fits = rw q (size-fits img g o (judged-sound (volumeLength (view img)) (view img) (ok .verdict)) i (h .0) (h .1));
           short = short;
         }
 
@@ -182,14 +182,19 @@ either-way false v = refl
 abbrev pub refusedBy : ℕ → Changed
 refusedBy k = record { verdict = refusal k; length = 0 }
 
+-- the size of a file that has the name
+pub sized : (c : Catalogue) (name : List ℕ) (i : ℕ) → At i ≡ fileNamed c name → sizeNamed c name ≡ entryOf c i .size
+unfolding sizeNamed
+sized c name i e = ap (λ (p : Lowest). entryOf c (indexOf p) .size) (sym e)
+
 -- n is not 0
 abbrev Some : ℕ → Type 0
 Some n = n ≡ 0 → ⊥
 
-module _ (img : List ℕ) (ok : judged (length img) (view img) .number ≡ 0) (list : List ℕ) where
+module _ (img : List ℕ) (ok : judged (volumeLength (view img)) (view img) .number ≡ 0) (list : List ℕ) where
   pub own-refusal : (cs : Conditions) (plan : Option Plan) (k : ℕ) → Some k → verdictOf cs ≡ refusal k
-      → ComesTo (view img) (decided (length img) (view img) cs plan (length list)) list (refusedBy k) list
-  own-refusal cs plan k n e = refused-by-own (length img) (view img) cs plan list ok (refusal k) (sym e) n
+      → ComesTo (view img) (decided (volumeLength (view img)) (view img) cs plan (length list)) list (refusedBy k) list
+  own-refusal cs plan k n e = refused-by-own (volumeLength (view img)) (view img) cs plan list ok (refusal k) (sym e) n
 
   module _ (i offset : ℕ) (bytes : List ℕ) (time : ℕ) where
     abbrev c : Catalogue
@@ -199,15 +204,15 @@ module _ (img : List ℕ) (ok : judged (length img) (view img) .number ≡ 0) (l
     plan = writePlan (catalogueOf (view img)) i (view img) offset bytes time
 
     abbrev Room : Changed → List ℕ → Type 0
-    Room answer after = ComesTo (view img) (roomDecision (length img) (view img) i offset bytes time (length list)) list answer after
+    Room answer after = ComesTo (view img) (roomDecision (volumeLength (view img)) (view img) i offset bytes time (length list)) list answer after
 
     abbrev File : Changed → List ℕ → Type 0
-    File answer after = ComesTo (view img) (fileDecision (length img) (view img) i offset bytes time (length list)) list answer after
+    File answer after = ComesTo (view img) (fileDecision (volumeLength (view img)) (view img) i offset bytes time (length list)) list answer after
 
     -- a write of 0 bytes
     pub room-none : length bytes ≡ 0 → Room (refusedBy 0) list
     unfolding roomDecision verdictOf
-    room-none h = rw (planned-none c i (view img) offset bytes time h) (done-with-nothing (length img) (view img) [] list ok done refl refl)
+    room-none h = rw (planned-none c i (view img) offset bytes time h) (done-with-nothing (volumeLength (view img)) (view img) [] list ok done refl refl)
 
     -- 14, or the list
     module _ (there : lacksReserve c ≡ false) (nonempty : Some (length bytes)) (z : ℕ) (b : Bool) (e : z ≡ sizeAfter c i offset (length bytes)) (h : b ≡ grows c i z) where
@@ -223,14 +228,14 @@ module _ (img : List ℕ) (ok : judged (length img) (view img) .number ≡ 0) (l
       unfolding roomDecision verdictOf
       room-short l =
           rw (planned-some c i (view img) offset bytes time nonempty)
-          (refused-as-short (length img) (view img) [] (some plan) list ok done refl there refl (rw needs l))
+          (refused-as-short (volumeLength (view img)) (view img) [] (some plan) list ok done refl there refl (rw needs l))
 
       pub room-done : {m : List ℕ} {j : ℕ} → recordCount (touchedSectors offset (length bytes)) (cond b 2 1) * recordSize ≤ length list
           → Emitted list 0 (closed (groupsFor (view img) (some plan))) m j → Room (record { verdict = done; length = j * recordSize }) m
       unfolding roomDecision verdictOf
       room-done l q =
           rw (planned-some c i (view img) offset bytes time nonempty, emitted-length (groupsFor (view img) (some plan)) q)
-          (done-as-planned (length img) (view img) [] (some plan) list ok done refl there refl (rw needs l) q)
+          (done-as-planned (volumeLength (view img)) (view img) [] (some plan) list ok done refl there refl (rw needs l) q)
 
     -- 12, 13
     module _ (size : ℕ) (says : size ≡ entryOf c i .size) where
@@ -251,7 +256,7 @@ module _ (img : List ℕ) (ok : judged (length img) (view img) .number ≡ 0) (l
         pub file-room : {answer : Changed} {after : List ℕ} → (grows c i z && ltb (length (freeExtents c)) (reserveExtents (c .geometry) + 1)) ≡ false → Room answer after → File answer after
         unfolding fileDecision roomDecision fileConditions verdictOf noRoom
         file-room q r =
-            rw (decided-same (length img) (view img) (fileConditions c i offset (length bytes)) [] (writePlanned c i (view img) offset bytes time) (length list)
+            rw (decided-same (volumeLength (view img)) (view img) (fileConditions c i offset (length bytes)) [] (writePlanned c i (view img) offset bytes time) (length list)
             (rw (← says, le-ltb size offset l, says, ← e, q))) r
 
       -- no bytes
@@ -270,12 +275,12 @@ module _ (img : List ℕ) (ok : judged (length img) (view img) .number ≡ 0) (l
           cs = (ltb (entryOf c i .size) offset, refusal 12) ∷ (noRoom c i (sizeAfter c i offset (length bytes)), refusal 13) ∷ []
 
           go : (b : Bool) → noRoom c i (sizeAfter c i offset (length bytes)) ≡ b
-              → ComesTo (view img) (decided (length img) (view img) cs (writePlanned c i (view img) offset bytes time) (length list)) list (refusedBy 13) list
+              → ComesTo (view img) (decided (volumeLength (view img)) (view img) cs (writePlanned c i (view img) offset bytes time) (length list)) list (refusedBy 13) list
           go true q =
               own-refusal cs (writePlanned c i (view img) offset bytes time) 13 (λ (e : _≡_ {A = ℕ} 13 0). omega arith) (rw (← says, le-ltb size offset l, says, q))
           go false q =
               rw (planned-some c i (view img) offset bytes time nonempty)
-              (refused-as-full (length img) (view img) cs (some plan) list ok done (sym (rw (← says, le-ltb size offset l, says, q))) refl f)
+              (refused-as-full (volumeLength (view img)) (view img) cs (some plan) list ok done (sym (rw (← says, le-ltb size offset l, says, q))) refl f)
 
   -- ---- 8, 9 of write
 
@@ -288,7 +293,7 @@ module _ (img : List ℕ) (ok : judged (length img) (view img) .number ≡ 0) (l
 
     abbrev pub Written : Changed → List ℕ → Type 0
     Written answer after =
-        (answer ≡ writeAnswer (length img) (view img) name offset bytes time (length list)) × (after ≡ writeList (length img) (view img) name offset bytes time list)
+        (answer ≡ writeAnswer (volumeLength (view img)) (view img) name offset bytes time (length list)) × (after ≡ writeList (volumeLength (view img)) (view img) name offset bytes time list)
 
     -- the code's tests
     abbrev isBad : Bool
@@ -320,17 +325,13 @@ module _ (img : List ℕ) (ok : judged (length img) (view img) .number ≡ 0) (l
       unfolding writeAnswer writeList writeDecision
       write-missing h = own-refusal conditions planned 9 (λ (e : _≡_ {A = ℕ} 9 0). omega arith) (write-tests ∙ rw (good, le-ltb longestTransfer (length bytes) most, h))
 
-      sized : (i : ℕ) → At i ≡ fileNamed (catalogueOf (view img)) name → sizeNamed (catalogueOf (view img)) name ≡ entryOf (catalogueOf (view img)) i .size
-      unfolding sizeNamed
-      sized i e = ap (λ (p : Lowest). entryOf (catalogueOf (view img)) (indexOf p) .size) (sym e)
-
       pub write-found : {answer : Changed} {after : List ℕ} (i : ℕ) → At i ≡ fileNamed (catalogueOf (view img)) name
-          → ComesTo (view img) (fileDecision (length img) (view img) i offset bytes time (length list)) list answer after → Written answer after
+          → ComesTo (view img) (fileDecision (volumeLength (view img)) (view img) i offset bytes time (length list)) list answer after → Written answer after
       unfolding writeAnswer writeList writeDecision fileDecision fileConditions verdictOf
       write-found i e r =
           rw (
-            decided-same (length img) (view img) conditions (fileConditions (catalogueOf (view img)) i offset (length bytes)) planned (length list)
-                (write-tests ∙ rw (good, le-ltb longestTransfer (length bytes) most, ← e, sized i e)),
+            decided-same (volumeLength (view img)) (view img) conditions (fileConditions (catalogueOf (view img)) i offset (length bytes)) planned (length list)
+                (write-tests ∙ rw (good, le-ltb longestTransfer (length bytes) most, ← e, sized (catalogueOf (view img)) name i e)),
             ← e,
           )
           r

@@ -1,4 +1,5 @@
--- Laws of what a write needs and of its decisions; of its list; and of a resize's decisions.
+-- Laws of what a write needs and of its decisions; of its list; of a resize's decisions; and of both on lent sectors.
 pub mod Laws
 pub mod Lists
 pub mod Resizes
+pub mod Lent

@@ -1,6 +1,6 @@
 -- How a resize is decided, from the tests that the code makes. Assumes nothing.
 use Prim.Native.Nat.{ℕ, _+_, _*_, _-_, _/_, _≤_, _<_, max}
-use mathlib.Core.Path.{_≡_, refl, sym, ap, _∙_}
+use mathlib.Core.Path.{_≡_, refl, _∙_}
 use mathlib.Core.Bool.{Bool, true, false, cond, not, _&&_, _||_}
 use mathlib.Core.List.{List, []}
 use mathlib.Core.Option.{Option, some}
@@ -11,7 +11,6 @@ use lib.ListN.{length}
 use borrow.Author.Tests.{lt-ltb, le-ltb}
 use Rattle.model.specs.declared.Changed.{Changed}
 use Rattle.model.specs.declared.Geometry.{Geometry}
-use Rattle.model.specs.declared.Lowest.{Lowest}
 use Rattle.model.specs.declared.Lowest.the-variants.{At}
 use Rattle.model.specs.declared.Verdict.{Verdict}
 use Rattle.model.specs.Search.{isAt, indexOf}
@@ -26,7 +25,7 @@ use Rattle.model.specs.WriteList.{Plan, recordSize, recordCount, groupsFor, lis
 use Rattle.model.specs.Read.{longestTransfer, sizeNamed}
 use Rattle.model.specs.Write.{grows, noRoom, writePlanned}
 use Rattle.model.specs.Resize.{zeros, shrinkPlan, resizePlanned, resizeConditions, resizeDecision, resizeAnswer, resizeList}
-use Rattle.model.specs.Opened.{Bounded, Opened}
+use Rattle.model.specs.Opened.{Bounded, Opened, volumeLength}
 use Rattle.laws.proofs.Bytes.{length-bytesFrom}
 use Rattle.laws.proofs.Named.{editionOn}
 use Rattle.commit.proofs.Records.{emitted-length}
@@ -34,7 +33,7 @@ use Rattle.commit.proofs.Decided.{same-refusals, ComesTo, refused-as-full, refu
 use Rattle.delete.proofs.Decisions.{shrink-needs}
 use Rattle.write.specs.FileWrite.{fileConditions, fileDecision}
 use Rattle.write.specs.FileResize.{sizeConditions, sizeDecision, shrinkDecision}
-use Rattle.write.proofs.Laws.{decided-same, refusedBy, own-refusal}
+use Rattle.write.proofs.Laws.{decided-same, refusedBy, sized, own-refusal}
 
 -- a smaller size needs no more extents
 extents-less : (g : Geometry) → Bounded g → (a b : ℕ) → a ≤ b → extentsFor g a ≤ extentsFor g b
@@ -53,16 +52,16 @@ module _ (img : List ℕ) (g : Geometry) (o : Opened img g) where
       (le-ltb (extentsFor (geometryIn (view img superblockAt)) size) (extentsFor (geometryIn (view img superblockAt)) z)
       (extents-less (geometryIn (view img superblockAt)) (rw (o .is) at (o .bounded)) z size h))
 
-  module _ (ok : judged (length img) (view img) .number ≡ 0) (list : List ℕ) where
+  module _ (ok : judged (volumeLength (view img)) (view img) .number ≡ 0) (list : List ℕ) where
     module _ (i z time : ℕ) where
       abbrev plan : Plan
       plan = shrinkPlan c (view img) i z time
 
       abbrev Shrunk : Changed → List ℕ → Type 0
-      Shrunk answer after = ComesTo (view img) (shrinkDecision (length img) (view img) i z time (length list)) list answer after
+      Shrunk answer after = ComesTo (view img) (shrinkDecision (volumeLength (view img)) (view img) i z time (length list)) list answer after
 
       abbrev Sized : Changed → List ℕ → Type 0
-      Sized answer after = ComesTo (view img) (sizeDecision (length img) (view img) i z time (length list)) list answer after
+      Sized answer after = ComesTo (view img) (sizeDecision (volumeLength (view img)) (view img) i z time (length list)) list answer after
 
       needs : listLength (groupsFor (view img) (some plan)) ≡ recordCount 0 (1 + sectorsFrom c i (extentsFor g z)) * recordSize
       needs = shrink-needs (view img) g (o .is) i z time
@@ -73,18 +72,18 @@ module _ (img : List ℕ) (g : Geometry) (o : Opened img g) where
 
       pub shrink-full : lacksReserve c ≡ true → Shrunk (refusedBy 13) list
       unfolding shrinkDecision verdictOf
-      shrink-full f = refused-as-full (length img) (view img) [] (some plan) list ok done refl refl f
+      shrink-full f = refused-as-full (volumeLength (view img)) (view img) [] (some plan) list ok done refl refl f
 
       pub shrink-short : lacksReserve c ≡ false → length list < recordCount 0 (1 + sectorsFrom c i (extentsFor g z)) * recordSize → Shrunk (refusedBy 14) list
       unfolding shrinkDecision verdictOf
-      shrink-short f l = refused-as-short (length img) (view img) [] (some plan) list ok done refl f refl (rw needs l)
+      shrink-short f l = refused-as-short (volumeLength (view img)) (view img) [] (some plan) list ok done refl f refl (rw needs l)
 
       pub shrink-done : {m : List ℕ} {j : ℕ} → lacksReserve c ≡ false → recordCount 0 (1 + sectorsFrom c i (extentsFor g z)) * recordSize ≤ length list
           → Emitted list 0 (closed (groupsFor (view img) (some plan))) m j → Shrunk (record { verdict = done; length = j * recordSize }) m
       unfolding shrinkDecision verdictOf
       shrink-done f l q =
           rw (emitted-length (groupsFor (view img) (some plan)) q)
-          (done-as-planned (length img) (view img) [] (some plan) list ok done refl f refl (rw needs l) q)
+          (done-as-planned (volumeLength (view img)) (view img) [] (some plan) list ok done refl f refl (rw needs l) q)
 
       module _ (size : ℕ) (says : size ≡ entryOf c i .size) where
         none-holds : z < size → verdictOf (sizeConditions c i z) ≡ verdictOf []
@@ -98,7 +97,7 @@ module _ (img : List ℕ) (g : Geometry) (o : Opened img g) where
         pub size-shrinks : {answer : Changed} {after : List ℕ} → z < size → Shrunk answer after → Sized answer after
         unfolding sizeDecision shrinkDecision
         size-shrinks l r =
-            rw (decided-same (length img) (view img) (sizeConditions c i z) [] (resizePlanned c (view img) i z time) (length list) (none-holds l), less-planned l) r
+            rw (decided-same (volumeLength (view img)) (view img) (sizeConditions c i z) [] (resizePlanned c (view img) i z time) (length list) (none-holds l), less-planned l) r
 
         pub size-far : size + longestTransfer < z → Sized (refusedBy 8) list
         unfolding sizeDecision sizeConditions verdictOf
@@ -118,18 +117,19 @@ module _ (img : List ℕ) (g : Geometry) (o : Opened img g) where
           more-planned = rw (← says, le-ltb z size l)
 
           pub size-grows : {answer : Changed} {after : List ℕ}
-              → ComesTo (view img) (fileDecision (length img) (view img) i size (zeros (z - size)) time (length list)) list answer after → Sized answer after
+              → ComesTo (view img) (fileDecision (volumeLength (view img)) (view img) i size (zeros (z - size)) time (length list)) list answer after → Sized answer after
           unfolding sizeDecision fileDecision
           size-grows r =
               rw (
-                decided-same (length img) (view img) (sizeConditions c i z) (fileConditions c i size (length (zeros (z - size)))) (resizePlanned c (view img) i z time) (length list) same-verdict,
+                decided-same (volumeLength (view img)) (view img) (sizeConditions c i z) (fileConditions c i size (length (zeros (z - size))))
+                    (resizePlanned c (view img) i z time) (length list) same-verdict,
                 more-planned,
               )
               r
 
 -- ---- 8 for the name or the time, 9
 
-module _ (img : List ℕ) (ok : judged (length img) (view img) .number ≡ 0) (list : List ℕ) where
+module _ (img : List ℕ) (ok : judged (volumeLength (view img)) (view img) .number ≡ 0) (list : List ℕ) where
   abbrev cat : Catalogue
   cat = catalogueOf (view img)
 
@@ -142,7 +142,7 @@ module _ (img : List ℕ) (ok : judged (length img) (view img) .number ≡ 0) (l
 
     abbrev Resized : Changed → List ℕ → Type 0
     Resized answer after =
-        (answer ≡ resizeAnswer (length img) (view img) name z time (length list)) × (after ≡ resizeList (length img) (view img) name z time list)
+        (answer ≡ resizeAnswer (volumeLength (view img)) (view img) name z time (length list)) × (after ≡ resizeList (volumeLength (view img)) (view img) name z time list)
 
     -- the code's tests
     abbrev isBad : Bool
@@ -167,12 +167,8 @@ module _ (img : List ℕ) (ok : judged (length img) (view img) .number ≡ 0) (l
       unfolding resizeAnswer resizeList resizeDecision
       resize-missing h = own-refusal img ok list conditions planned 9 (λ (e : _≡_ {A = ℕ} 9 0). omega arith) (resize-tests ∙ rw (good, h))
 
-      sized : (i : ℕ) → At i ≡ fileNamed cat name → sizeNamed cat name ≡ entryOf cat i .size
-      unfolding sizeNamed
-      sized i e = ap (λ (p : Lowest). entryOf cat (indexOf p) .size) (sym e)
-
-      pub resize-found : {answer : Changed} {after : List ℕ} (i : ℕ) → At i ≡ fileNamed cat name → ComesTo (view img) (sizeDecision (length img) (view img) i z time (length list)) list answer after
-          → Resized answer after
+      pub resize-found : {answer : Changed} {after : List ℕ} (i : ℕ) → At i ≡ fileNamed cat name
+          → ComesTo (view img) (sizeDecision (volumeLength (view img)) (view img) i z time (length list)) list answer after → Resized answer after
       unfolding resizeAnswer resizeList resizeDecision sizeDecision sizeConditions verdictOf
       resize-found i e r =
-          rw (decided-same (length img) (view img) conditions (sizeConditions cat i z) planned (length list) (resize-tests ∙ rw (good, ← e, sized i e)), ← e) r
+          rw (decided-same (volumeLength (view img)) (view img) conditions (sizeConditions cat i z) planned (length list) (resize-tests ∙ rw (good, ← e, sized cat name i e)), ← e) r

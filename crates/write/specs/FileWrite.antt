@@ -10,11 +10,11 @@ use Rattle.model.specs.Search.{indexOf}
 use Rattle.model.specs.Geometry.{FileNumber, reserveExtents}
 use Rattle.model.specs.Disk.{Disk, view}
 use Rattle.model.specs.Catalogue.{Catalogue, catalogueOf, freeExtent, freeExtents, entryOf}
-use Rattle.model.specs.Refusals.{Conditions, refusal, judged}
+use Rattle.model.specs.Refusals.{Conditions, refusal}
 use Rattle.model.specs.Read.{longestTransfer}
 use Rattle.model.specs.WriteList.{Decision, decided}
 use Rattle.model.specs.Write.{heldExtents, grows, noRoom, sizeAfter, writePlanned}
-use Rattle.model.specs.Opened.{Opened}
+use Rattle.model.specs.Opened.{Opened, Accepted}
 use Rattle.write.specs.declared.Growth.{Growth}
 
 -- w says of file i what a new size z needs
@@ -26,7 +26,7 @@ pub record Grown (c : Catalogue) (i z : ℕ) (w : Growth) : Type 0 where
 
 -- on a judged image of geometry g: file i is in the directory, its size is known, and n bytes are not too many
 pub record Asked (img : List ℕ) (g : Geometry) (i size n : ℕ) : Type 0 where
-  pub judgment : judged (length img) (view img) .number ≡ 0
+  pub judgment : Accepted img
   pub opened : Opened img g
   pub file : i < g .files
   pub says : size ≡ entryOf (catalogueOf (view img)) i .size

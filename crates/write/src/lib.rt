@@ -1,25 +1,32 @@
-// The calls write and resize on a volume that the refusals 1 to 7 let pass: their refusals and their write lists.
+// The calls write and resize on a volume that the refusals 1 to 7 let pass: their refusals and their write lists; and their forms on lent sectors,
+// which ask for the sectors that the span covers partly (T-11).
 use model::Changed;
 use model::Extent;
 use model::FileIndex;
 use model::Geometry;
 use model::Lowest;
+use model::Part;
+use model::Verdict;
+use model::Writing;
 ghost use mathlib.Core.Path.{_≡_};
 ghost use mathlib.Core.Bool.{false, cond};
+ghost use mathlib.Core.List.{[]};
 ghost use mathlib.Core.Option.{some};
-ghost use Prim.Native.Nat.{_+_, _*_, _≤_, _<_, _^_};
+ghost use Prim.Native.Nat.{_+_, _*_, _-_, _/_, _≤_, _<_, _^_};
+ghost use lib.Dec.{eqb, ltb};
 ghost use lib.ListN.{length};
+ghost use Rattle.model.specs.Search.{indexOf};
 ghost use Rattle.model.specs.Disk.{view};
-ghost use Rattle.model.specs.Table.{tableSectorOf, takenIn};
-ghost use Rattle.model.specs.Catalogue.{catalogueOf, lacksReserve, entryOf};
-ghost use Rattle.model.specs.Refusals.{judged};
+ghost use Rattle.model.specs.Table.{freeFile, tableSectorOf, takenIn};
+ghost use Rattle.model.specs.Catalogue.{catalogueOf, freeExtent, lacksReserve, entryOf};
 ghost use Rattle.model.specs.Read.{longestTransfer};
 ghost use Rattle.model.specs.WriteList.{recordSize, recordCount, groupsFor, closed, Emitted, answerOf, listAfter};
 ghost use Rattle.model.specs.Write.{touchedSectors, sizeAfter, writePlan, writeAnswer, writeList};
 ghost use Rattle.model.specs.Resize.{zeros, resizeAnswer, resizeList};
-ghost use Rattle.model.specs.Opened.{Opened};
+ghost use Rattle.model.specs.Lent.{noPart, partAt, partly, partlyCovered, writeAsking, writeLent, resizeLent, takesWrite, writeTaken, writeNotTaken, writeStep, completed, writeStepList};
+ghost use Rattle.model.specs.Opened.{Opened, inVolume, Accepted};
 ghost use Rattle.commit.specs.Commit.{StagesOf};
-ghost use Rattle.spans.specs.Touched.{Source, spanOf};
+ghost use Rattle.spans.specs.Touched.{Lent, Source, spanOf};
 ghost use Rattle.write.specs.FileWrite.{Grown, Asked, fileDecision, roomDecision};
 ghost use Rattle.write.specs.FileResize.{shrinkDecision, sizeDecision};
 
@@ -161,13 +168,13 @@ fn put_if_room(
 ) -> Changed
     requires { ⌜ StagesOf g (view (now img)) (now stages) ⌝ }
     requires { ⌜ (lacksReserve (catalogueOf (view (now img))) ≡ false) × (0 < len) ⌝ }
-    requires { ⌜ judged (length (now img)) (view (now img)) .number ≡ 0 ⌝ }
+    requires { ⌜ Accepted (now img) ⌝ }
     requires { ⌜ Opened (now img) g ⌝ }
     requires { ⌜ Grown (catalogueOf (view (now img))) (i .0) z w × (w .next .0 < g .extents) ⌝ }
     requires { ⌜ (i .0 < g .files) × (len ≤ longestTransfer) × (offset + len < 2 ^ 63) × Source (now bytes) len ⌝ }
     requires { ⌜ z ≡ sizeAfter (catalogueOf (view (now img))) (i .0) offset len ⌝ }
-    ensures { λ r. ⌜ r ≡ answerOf (view (now (img .entry))) (roomDecision (length (now (img .entry))) (view (now (img .entry))) (i .0) offset (spanOf (now (bytes .entry)) len) time (length (now (list .entry)))) ⌝ }
-    ensures { λ _. ⌜ now (list .exit) ≡ listAfter (view (now (img .entry))) (roomDecision (length (now (img .entry))) (view (now (img .entry))) (i .0) offset (spanOf (now (bytes .entry)) len) time (length (now (list .entry)))) (now (list .entry)) ⌝ }
+    ensures { λ r. ⌜ r ≡ answerOf (view (now (img .entry))) (inVolume roomDecision (now (img .entry)) (i .0) offset (spanOf (now (bytes .entry)) len) time (length (now (list .entry)))) ⌝ }
+    ensures { λ _. ⌜ now (list .exit) ≡ listAfter (view (now (img .entry))) (inVolume roomDecision (now (img .entry)) (i .0) offset (spanOf (now (bytes .entry)) len) time (length (now (list .entry)))) (now (list .entry)) ⌝ }
 {
     if list.len() < records(w.more, offset, len) * lists::RECORD_SIZE {
         return commit::refused(volume::refusal(14));
@@ -197,8 +204,8 @@ fn write_staged(
     requires { ⌜ (lacksReserve (catalogueOf (view (now img))) ≡ false) × (0 < len) × (offset ≤ size) ⌝ }
     requires { ⌜ Asked (now img) g (i .0) size len ⌝ }
     requires { ⌜ Source (now bytes) len ⌝ }
-    ensures { λ r. ⌜ r ≡ answerOf (view (now (img .entry))) (fileDecision (length (now (img .entry))) (view (now (img .entry))) (i .0) offset (spanOf (now (bytes .entry)) len) time (length (now (list .entry)))) ⌝ }
-    ensures { λ _. ⌜ now (list .exit) ≡ listAfter (view (now (img .entry))) (fileDecision (length (now (img .entry))) (view (now (img .entry))) (i .0) offset (spanOf (now (bytes .entry)) len) time (length (now (list .entry)))) (now (list .entry)) ⌝ }
+    ensures { λ r. ⌜ r ≡ answerOf (view (now (img .entry))) (inVolume fileDecision (now (img .entry)) (i .0) offset (spanOf (now (bytes .entry)) len) time (length (now (list .entry)))) ⌝ }
+    ensures { λ _. ⌜ now (list .exit) ≡ listAfter (view (now (img .entry))) (inVolume fileDecision (now (img .entry)) (i .0) offset (spanOf (now (bytes .entry)) len) time (length (now (list .entry)))) (now (list .entry)) ⌝ }
 {
     let z = fields::most(size, offset + len);
     let w = need_for(img, g, stages, i, size, z);
@@ -225,8 +232,8 @@ fn write_file(
 ) -> Changed
     requires { ⌜ Asked (now img) g (i .0) size len ⌝ }
     requires { ⌜ Source (now bytes) len ⌝ }
-    ensures { λ r. ⌜ r ≡ answerOf (view (now (img .entry))) (fileDecision (length (now (img .entry))) (view (now (img .entry))) (i .0) offset (spanOf (now (bytes .entry)) len) time (length (now (list .entry)))) ⌝ }
-    ensures { λ _. ⌜ now (list .exit) ≡ listAfter (view (now (img .entry))) (fileDecision (length (now (img .entry))) (view (now (img .entry))) (i .0) offset (spanOf (now (bytes .entry)) len) time (length (now (list .entry)))) (now (list .entry)) ⌝ }
+    ensures { λ r. ⌜ r ≡ answerOf (view (now (img .entry))) (inVolume fileDecision (now (img .entry)) (i .0) offset (spanOf (now (bytes .entry)) len) time (length (now (list .entry)))) ⌝ }
+    ensures { λ _. ⌜ now (list .exit) ≡ listAfter (view (now (img .entry))) (inVolume fileDecision (now (img .entry)) (i .0) offset (spanOf (now (bytes .entry)) len) time (length (now (list .entry)))) (now (list .entry)) ⌝ }
 {
     if size < offset {
         return commit::refused(volume::refusal(12));
@@ -251,9 +258,9 @@ pub fn write_in(
     time: u64,
     list: &mut [u8],
 ) -> Changed
-    requires { ⌜ judged (length (now img)) (view (now img)) .number ≡ 0 ⌝ }
-    ensures { λ r. ⌜ r ≡ writeAnswer (length (now (img .entry))) (view (now (img .entry))) (now (name .entry)) offset (now (bytes .entry)) time (length (now (list .entry))) ⌝ }
-    ensures { λ _. ⌜ now (list .exit) ≡ writeList (length (now (img .entry))) (view (now (img .entry))) (now (name .entry)) offset (now (bytes .entry)) time (now (list .entry)) ⌝ }
+    requires { ⌜ Accepted (now img) ⌝ }
+    ensures { λ r. ⌜ r ≡ inVolume writeAnswer (now (img .entry)) (now (name .entry)) offset (now (bytes .entry)) time (length (now (list .entry))) ⌝ }
+    ensures { λ _. ⌜ now (list .exit) ≡ inVolume writeList (now (img .entry)) (now (name .entry)) offset (now (bytes .entry)) time (now (list .entry)) ⌝ }
 {
     let g = volume::geometry_in(img);
     if directory::bad_name_or_time(g.edition, name, time) {
@@ -284,11 +291,11 @@ pub fn write_in(
 
 // File i is shrunk to z: refusals 13 and 14, or the list.
 fn shrink_file(img: &[u8], g: Geometry, i: FileIndex, z: u64, time: u64, list: &mut [u8]) -> Changed
-    requires { ⌜ judged (length (now img)) (view (now img)) .number ≡ 0 ⌝ }
+    requires { ⌜ Accepted (now img) ⌝ }
     requires { ⌜ Opened (now img) g ⌝ }
     requires { ⌜ i .0 < g .files ⌝ }
-    ensures { λ r. ⌜ r ≡ answerOf (view (now (img .entry))) (shrinkDecision (length (now (img .entry))) (view (now (img .entry))) (i .0) z time (length (now (list .entry)))) ⌝ }
-    ensures { λ _. ⌜ now (list .exit) ≡ listAfter (view (now (img .entry))) (shrinkDecision (length (now (img .entry))) (view (now (img .entry))) (i .0) z time (length (now (list .entry)))) (now (list .entry)) ⌝ }
+    ensures { λ r. ⌜ r ≡ answerOf (view (now (img .entry))) (inVolume shrinkDecision (now (img .entry)) (i .0) z time (length (now (list .entry)))) ⌝ }
+    ensures { λ _. ⌜ now (list .exit) ≡ listAfter (view (now (img .entry))) (inVolume shrinkDecision (now (img .entry)) (i .0) z time (length (now (list .entry)))) (now (list .entry)) ⌝ }
 {
     let mut stages = [0u64; 5];
     if table::staging(img, g, &mut stages) {
@@ -316,8 +323,8 @@ fn write_zeros(
     list: &mut [u8],
 ) -> Changed
     requires { ⌜ Asked (now img) g (i .0) size n ⌝ }
-    ensures { λ r. ⌜ r ≡ answerOf (view (now (img .entry))) (fileDecision (length (now (img .entry))) (view (now (img .entry))) (i .0) size (zeros n) time (length (now (list .entry)))) ⌝ }
-    ensures { λ _. ⌜ now (list .exit) ≡ listAfter (view (now (img .entry))) (fileDecision (length (now (img .entry))) (view (now (img .entry))) (i .0) size (zeros n) time (length (now (list .entry)))) (now (list .entry)) ⌝ }
+    ensures { λ r. ⌜ r ≡ answerOf (view (now (img .entry))) (inVolume fileDecision (now (img .entry)) (i .0) size (zeros n) time (length (now (list .entry)))) ⌝ }
+    ensures { λ _. ⌜ now (list .exit) ≡ listAfter (view (now (img .entry))) (inVolume fileDecision (now (img .entry)) (i .0) size (zeros n) time (length (now (list .entry)))) (now (list .entry)) ⌝ }
 {
     let zeros = [0u8; 512];
     write_file(img, g, i, size, size, &zeros, n, time, list)
@@ -334,8 +341,8 @@ fn resize_file(
     list: &mut [u8],
 ) -> Changed
     requires { ⌜ Asked (now img) g (i .0) size 0 ⌝ }
-    ensures { λ r. ⌜ r ≡ answerOf (view (now (img .entry))) (sizeDecision (length (now (img .entry))) (view (now (img .entry))) (i .0) z time (length (now (list .entry)))) ⌝ }
-    ensures { λ _. ⌜ now (list .exit) ≡ listAfter (view (now (img .entry))) (sizeDecision (length (now (img .entry))) (view (now (img .entry))) (i .0) z time (length (now (list .entry)))) (now (list .entry)) ⌝ }
+    ensures { λ r. ⌜ r ≡ answerOf (view (now (img .entry))) (inVolume sizeDecision (now (img .entry)) (i .0) z time (length (now (list .entry)))) ⌝ }
+    ensures { λ _. ⌜ now (list .exit) ≡ listAfter (view (now (img .entry))) (inVolume sizeDecision (now (img .entry)) (i .0) z time (length (now (list .entry)))) (now (list .entry)) ⌝ }
 {
     if z < size {
         return shrink_file(img, g, i, z, time, list);
@@ -347,9 +354,9 @@ fn resize_file(
 }
 
 pub fn resize_in(img: &[u8], name: &[u8], size: u64, time: u64, list: &mut [u8]) -> Changed
-    requires { ⌜ judged (length (now img)) (view (now img)) .number ≡ 0 ⌝ }
-    ensures { λ r. ⌜ r ≡ resizeAnswer (length (now (img .entry))) (view (now (img .entry))) (now (name .entry)) size time (length (now (list .entry))) ⌝ }
-    ensures { λ _. ⌜ now (list .exit) ≡ resizeList (length (now (img .entry))) (view (now (img .entry))) (now (name .entry)) size time (now (list .entry)) ⌝ }
+    requires { ⌜ Accepted (now img) ⌝ }
+    ensures { λ r. ⌜ r ≡ inVolume resizeAnswer (now (img .entry)) (now (name .entry)) size time (length (now (list .entry))) ⌝ }
+    ensures { λ _. ⌜ now (list .exit) ≡ inVolume resizeList (now (img .entry)) (now (name .entry)) size time (now (list .entry)) ⌝ }
 {
     let g = volume::geometry_in(img);
     if directory::bad_name_or_time(g.edition, name, time) {
@@ -361,4 +368,291 @@ pub fn resize_in(img: &[u8], name: &[u8], size: u64, time: u64, list: &mut [u8])
         return resize_file(img, g, index, old, size, time, list);
     }
     commit::refused(volume::refusal(9))
+}
+
+// ---- T-11: what a write asks for
+
+fn no_part() -> Part
+    ensures { λ r. ⌜ r ≡ noPart ⌝ }
+{
+    Part {
+        sector: 0,
+        from: 0,
+        to: 0,
+        position: 0,
+    }
+}
+
+// An answer with what it asks for; the list's length is given with the last sector.
+fn wanting(a: Changed, wanted: Part, last: Part) -> Writing
+    ensures { λ r. ⌜ r ≡ record { code = a .verdict .number; fault = a .verdict .fault; place = a .verdict .place; length = 0; wanted = wanted; last = last; full = a .length } ⌝ }
+{
+    let v = a.verdict;
+    Writing {
+        code: v.number,
+        fault: v.fault,
+        place: v.place,
+        length: 0,
+        wanted,
+        last,
+        full: a.length,
+    }
+}
+
+// An answer that asks for nothing.
+fn settled(a: Changed) -> Writing
+    ensures { λ r. ⌜ r ≡ writeAsking a [] ⌝ }
+{
+    let v = a.verdict;
+    Writing {
+        code: v.number,
+        fault: v.fault,
+        place: v.place,
+        length: a.length,
+        wanted: no_part(),
+        last: no_part(),
+        full: a.length,
+    }
+}
+
+// What the lent forms answer where they refuse.
+pub fn refused_writing(verdict: Verdict) -> Writing
+    ensures { λ r. ⌜ r ≡ writeAsking (record { verdict = verdict; length = 0 }) [] ⌝ }
+{
+    settled(commit::refused(verdict))
+}
+
+// Whether a part isn't all of its sector.
+fn is_partly(p: Part) -> bool
+    requires { ⌜ p .from ≤ p .to ⌝ }
+    ensures { λ r. ⌜ r ≡ ltb (p .to - p .from) 512 ⌝ }
+{
+    p.to - p.from < 512
+}
+
+// The touched sector is asked for, or each of two, unless the span covers it.
+fn asked_one(a: Changed, p: Part) -> Writing
+    requires { ⌜ p .from ≤ p .to ⌝ }
+    ensures { λ r. ⌜ r ≡ writeAsking a (partly p []) ⌝ }
+{
+    if is_partly(p) {
+        return wanting(a, p, no_part());
+    }
+    settled(a)
+}
+
+fn asked_two(a: Changed, p: Part, q: Part) -> Writing
+    requires { ⌜ (p .from ≤ p .to) × (q .from ≤ q .to) ⌝ }
+    ensures { λ r. ⌜ r ≡ writeAsking a (partly p (partly q [])) ⌝ }
+{
+    if is_partly(p) {
+        if is_partly(q) {
+            return wanting(a, p, q);
+        }
+        return wanting(a, p, no_part());
+    }
+    asked_one(a, q)
+}
+
+// The extent that a file takes if it needs one more.
+fn next_extent(img: &[u8], g: Geometry) -> Extent
+    requires { ⌜ Opened (now img) g ⌝ }
+    ensures { λ r. ⌜ r .0 ≡ indexOf (freeExtent (catalogueOf (view (now (img .entry))))) ⌝ }
+{
+    if let Lowest::At(e) = table::free_extent(img, g) {
+        return Extent(e as u64);
+    }
+    Extent(0)
+}
+
+// The k-th of the sectors that a span of n bytes touches, and the bytes of it that the span covers.
+fn part_at(
+    img: &[u8],
+    g: Geometry,
+    i: FileIndex,
+    held: u64,
+    next: Extent,
+    offset: u64,
+    n: u64,
+    k: u64,
+) -> Part
+    requires { ⌜ Opened (now img) g ⌝ }
+    requires { ⌜ Lent (now img) (i .0) held (next .0) ⌝ }
+    requires { ⌜ (offset + n < 2 ^ 63) × (512 * (offset / 512 + k) ≤ offset + n) ⌝ }
+    ensures { λ r. ⌜ r ≡ partAt (catalogueOf (view (now (img .entry)))) (i .0) offset n k ⌝ }
+    ensures { λ r. ⌜ r .from ≤ r .to ⌝ }
+{
+    let s = offset / 512 + k;
+    let base = 512 * s;
+    let place = spans::sector_at(img, g, i, held, next, s);
+    Part {
+        sector: place.0,
+        from: fields::most(offset, base) - base,
+        to: fields::least(offset + n, base + 512) - base,
+        position: k,
+    }
+}
+
+// A write of n bytes to file i, whose size is given, that has its answer: the sectors that the span covers partly are asked for.
+fn asking(
+    img: &[u8],
+    g: Geometry,
+    i: FileIndex,
+    size: u64,
+    offset: u64,
+    n: u64,
+    a: Changed,
+) -> Writing
+    requires { ⌜ Opened (now img) g ⌝ }
+    requires { ⌜ (i .0 < freeFile) × (size ≡ entryOf (catalogueOf (view (now img))) (i .0) .size) ⌝ }
+    requires { ⌜ (0 < a .length → offset + n < 2 ^ 63) ⌝ }
+    ensures { λ r. ⌜ r ≡ writeAsking a (cond (eqb (a .length) 0) [] (partlyCovered (catalogueOf (view (now (img .entry)))) (i .0) offset n)) ⌝ }
+{
+    if a.length == 0 {
+        return settled(a);
+    }
+    let extents = table::extents_for(g, size);
+    let next = next_extent(img, g);
+    let touched = (offset + n + 511) / 512 - offset / 512;
+    let first = part_at(img, g, i, extents, next, offset, n, 0);
+    if 1 < touched {
+        let last = part_at(img, g, i, extents, next, offset, n, touched - 1);
+        return asked_two(a, first, last);
+    }
+    asked_one(a, first)
+}
+
+// ---- T-11: write and resize on lent sectors
+
+pub fn write_lent_in(
+    img: &[u8],
+    name: &[u8],
+    offset: u64,
+    bytes: &[u8],
+    time: u64,
+    list: &mut [u8],
+) -> Writing
+    requires { ⌜ Accepted (now img) ⌝ }
+    ensures { λ r. ⌜ r ≡ inVolume writeLent (now (img .entry)) (now (name .entry)) offset (now (bytes .entry)) time (length (now (list .entry))) ⌝ }
+    ensures { λ _. ⌜ now (list .exit) ≡ inVolume writeList (now (img .entry)) (now (name .entry)) offset (now (bytes .entry)) time (now (list .entry)) ⌝ }
+{
+    let g = volume::geometry_in(img);
+    if directory::bad_name_or_time(g.edition, name, time) {
+        return refused_writing(volume::refusal(8));
+    }
+    if 65536 < bytes.len() {
+        return refused_writing(volume::refusal(8));
+    }
+    if let Lowest::At(i) = directory::file_named(img, g, name) {
+        let index = FileIndex(i as u64);
+        let size = directory::size_at(img, index);
+        let n = bytes.len() as u64;
+        let a = write_file(img, g, index, size, offset, bytes, n, time, list);
+        return asking(img, g, index, size, offset, n, a);
+    }
+    refused_writing(volume::refusal(9))
+}
+
+pub fn resize_lent_in(img: &[u8], name: &[u8], size: u64, time: u64, list: &mut [u8]) -> Writing
+    requires { ⌜ Accepted (now img) ⌝ }
+    ensures { λ r. ⌜ r ≡ inVolume resizeLent (now (img .entry)) (now (name .entry)) size time (length (now (list .entry))) ⌝ }
+    ensures { λ _. ⌜ now (list .exit) ≡ inVolume resizeList (now (img .entry)) (now (name .entry)) size time (now (list .entry)) ⌝ }
+{
+    let g = volume::geometry_in(img);
+    if directory::bad_name_or_time(g.edition, name, time) {
+        return refused_writing(volume::refusal(8));
+    }
+    if let Lowest::At(i) = directory::file_named(img, g, name) {
+        let index = FileIndex(i as u64);
+        let old = directory::size_at(img, index);
+        let a = resize_file(img, g, index, old, size, time, list);
+        if size < old {
+            return settled(a);
+        }
+        return asking(img, g, index, old, old, size - old, a);
+    }
+    refused_writing(volume::refusal(9))
+}
+
+// ---- T-11: the sectors that were asked for
+
+// Whether a data sector is asked for and its bytes, n of them, fit the list of so many.
+fn takes_write(w: Writing, n: usize, room: usize) -> bool
+    ensures { λ r. ⌜ r ≡ takesWrite w n room ⌝ }
+{
+    let p = w.wanted;
+    if volume::is_asked(p.sector, n) {
+        if p.from <= p.to {
+            if p.to <= 512 {
+                return p.position < (room / lists::RECORD_SIZE) as u64;
+            }
+        }
+    }
+    false
+}
+
+// The bytes of a sector before and behind those that the span covers, put into its record.
+fn complete(p: Part, bytes: &[u8], list: &mut [u8])
+    requires { ⌜ length (now bytes) ≡ 512 ⌝ }
+    requires { ⌜ (p .from ≤ p .to) × (p .to ≤ 512) × ((p .position + 1) * recordSize ≤ length (now list)) ⌝ }
+    ensures { λ _. ⌜ now (list .exit) ≡ completed p (now (bytes .entry)) (now (list .entry)) ⌝ }
+{
+    let at = p.position as usize * lists::RECORD_SIZE + lists::CONTENTS_START;
+    let to = p.to as usize;
+    fields::copy_bytes(bytes, 0, list, at, p.from as usize);
+    fields::copy_bytes(bytes, to, list, at + to, 512 - to);
+}
+
+// The list's length once nothing is asked for any more.
+fn length_taken(last: Part, full: u64) -> u64
+    ensures { λ r. ⌜ r ≡ cond (eqb (last .sector) 0) full 0 ⌝ }
+{
+    if last.sector == 0 {
+        return full;
+    }
+    0
+}
+
+fn write_taken(w: Writing) -> Writing
+    ensures { λ r. ⌜ r ≡ writeTaken w ⌝ }
+{
+    let last = w.last;
+    Writing {
+        code: 0,
+        fault: w.fault,
+        place: w.place,
+        length: length_taken(last, w.full),
+        wanted: last,
+        last: no_part(),
+        full: w.full,
+    }
+}
+
+fn write_not_taken(w: Writing) -> Writing
+    ensures { λ r. ⌜ r ≡ writeNotTaken w ⌝ }
+{
+    let wanted = w.wanted;
+    let last = w.last;
+    Writing {
+        code: 8,
+        fault: w.fault,
+        place: w.place,
+        length: w.length,
+        wanted,
+        last,
+        full: w.full,
+    }
+}
+
+// The bytes of the sector that is asked for: the list is whole with the last of them.
+pub fn write_step(w: Writing, bytes: &[u8], list: &mut [u8]) -> Writing
+    ensures { λ r. ⌜ r ≡ writeStep w (length (now (bytes .entry))) (length (now (list .entry))) ⌝ }
+    ensures { λ _. ⌜ now (list .exit) ≡ writeStepList w (now (bytes .entry)) (now (list .entry)) ⌝ }
+{
+    if takes_write(w, bytes.len(), list.len()) {
+        let p = w.wanted;
+        complete(p, bytes, list);
+        return write_taken(w);
+    }
+    write_not_taken(w)
 }

@@ -6,7 +6,9 @@ mod comparing;
 mod free_search;
 mod growth;
 mod images;
+mod lent;
 mod memory;
+mod plain_steps;
 mod scratch_check;
 mod stack;
 mod text;
@@ -33,6 +35,9 @@ fn main() -> ExitCode {
     }
     if wanted("growth") {
         growth::print(&mut comparisons);
+    }
+    if wanted("lent") {
+        lent::print(&mut comparisons);
     }
     let mut failed = false;
     if wanted("search") {

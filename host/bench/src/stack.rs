@@ -7,6 +7,7 @@ use oracle::layout::{put64, Geometry, SECTOR};
 use oracle::testing::images::{blank, put_file};
 
 use crate::images::{assert_sound, geometry};
+use crate::lent::{read_all, recover_all, write_all};
 use crate::memory::{taken_by, MOST_STACK};
 use crate::text::digits;
 use crate::write_list::up_to_start_mark;
@@ -148,11 +149,84 @@ fn column(geometry: Geometry) -> Vec<(&'static str, usize)> {
         "rename_set, of eight",
         &mut [&mut |list| goofs::rename_set(black_box(image), names, &[1; 16], 2, list).code],
     );
+    let front = &image[..geometry.data_at().0 as usize * SECTOR];
+    let sectors = geometry.end().0;
+    row(
+        "summary_lent",
+        &mut [&mut |_| goofs::summary_lent(black_box(front), sectors).code],
+    );
+    row(
+        "check_lent",
+        &mut [&mut |_| goofs::check_lent(black_box(front), sectors).code],
+    );
+    row(
+        "check_with_lent",
+        &mut [&mut |_| goofs::check_with_lent(black_box(front), sectors, scratch).code],
+    );
+    row(
+        "find_lent",
+        &mut [&mut |_| goofs::find_lent(black_box(front), sectors, b"a").code],
+    );
+    row(
+        "list_lent",
+        &mut [&mut |list| goofs::list_lent(black_box(front), sectors, 100, 2, output, list).code],
+    );
+    row(
+        "read_lent and its steps",
+        &mut [&mut |list| {
+            let (from, room) = (size - 1_000, output.len() as u64);
+            let front = black_box(front);
+            let first = goofs::read_lent(front, sectors, b"a", from, 65_536, 2, room, list);
+            read_all(goofs::read_step, image, first, output).code
+        }],
+    );
+    row(
+        "create_lent",
+        &mut [&mut |list| {
+            goofs::create_lent(black_box(front), sectors, b"new", 1 << 40, 0, 2, list).code
+        }],
+    );
+    row(
+        "write_lent and its steps",
+        &mut [&mut |list| {
+            let front = black_box(front);
+            let first = goofs::write_lent(front, sectors, b"a", 1, &data[2..], 2, list);
+            write_all(goofs::write_step, image, first, list).code
+        }],
+    );
+    row(
+        "resize_lent and its steps",
+        &mut [
+            &mut |list| {
+                let first = goofs::resize_lent(black_box(front), sectors, b"0", 65_000, 2, list);
+                write_all(goofs::write_step, image, first, list).code
+            },
+            &mut |list| goofs::resize_lent(black_box(front), sectors, b"a", 0, 2, list).code,
+        ],
+    );
+    row(
+        "delete_lent",
+        &mut [&mut |list| goofs::delete_lent(black_box(front), sectors, b"a", 2, list).code],
+    );
+    row(
+        "rename_lent",
+        &mut [&mut |list| goofs::rename_lent(black_box(front), sectors, b"0", b"a", 2, list).code],
+    );
+    row(
+        "rename_set_lent, of eight",
+        &mut [&mut |list| {
+            goofs::rename_set_lent(black_box(front), sectors, names, &[1; 16], 2, list).code
+        }],
+    );
     let mut stray = image_of(geometry);
     stray[102 * SECTOR..][..2].fill(0);
     row(
         "repair",
         &mut [&mut |list| goofs::repair(black_box(&stray), list).code],
+    );
+    row(
+        "repair_lent",
+        &mut [&mut |list| goofs::repair_lent(black_box(&stray[..front.len()]), sectors, list).code],
     );
     drop(stray);
 
@@ -169,12 +243,34 @@ fn column(geometry: Geometry) -> Vec<(&'static str, usize)> {
         "recover_slice, of 32",
         &mut [&mut |list| goofs::recover_slice(black_box(&waiting), 32, list).code],
     );
+    row(
+        "recover_lent and its steps",
+        &mut [&mut |list| {
+            let first = goofs::recover_lent(&waiting[..front.len()], sectors, list);
+            recover_all(
+                goofs::recover_step,
+                &waiting[..front.len()],
+                &waiting,
+                first,
+                list,
+            )
+            .code
+        }],
+    );
     // The first two entries of the journal change places, as no call of ours leaves them.
     let journal = geometry.journal_at().0 as usize * SECTOR;
     waiting[journal..][..32].rotate_left(16);
     row(
         "recover, another writer's",
         &mut [&mut |list| goofs::recover(black_box(&waiting), list).code],
+    );
+    row(
+        "recover_lent, another writer's",
+        &mut [&mut |list| {
+            let first = goofs::recover_lent(&waiting[..front.len()], sectors, list);
+            let front = &waiting[..front.len()];
+            recover_all(goofs::recover_step, front, &waiting, first, list).code
+        }],
     );
     drop(waiting);
 

@@ -57,7 +57,7 @@ pub fn audit(arguments: &Arguments) -> Result<(), Failure> {
 
 /// The volume that the log begins from, as a copy of the card shows it.
 fn beginning(arguments: &Arguments, copy: &OsStr) -> Result<Ledger, Failure> {
-    let mut image = card::read(copy, arguments.wait()?)?;
+    let mut image = card::whole(copy, arguments.wait()?)?;
     recover(&mut image).map_err(of_card(copy))?;
     image.check().map_err(of_card(copy))?;
     let described = Ledger::described(image.bytes());
@@ -65,9 +65,9 @@ fn beginning(arguments: &Arguments, copy: &OsStr) -> Result<Ledger, Failure> {
 }
 
 /// In memory.
-fn recover(image: &mut Image) -> Result<(), Refusal> {
+fn recover(image: &mut Image) -> Result<(), Error> {
     let list = image.recovery()?;
-    image.carry_out(&list)
+    Ok(image.carry_out(&list)?)
 }
 
 /// Where the write's data sector of this place begins and ends in the file, as far as the write goes.
@@ -121,7 +121,7 @@ impl Audit<'_> {
             Some(call) => self.replay.formatted(call)?,
             None => None,
         };
-        let mut image = match card::read(self.card, arguments.wait()?) {
+        let mut image = match card::whole(self.card, arguments.wait()?) {
             // Before the first write of the first format there is no volume.
             Err(Failure::Card {
                 error: Error::Refused(Refusal::NotWholeSectors | Refusal::NotAVolume),
@@ -136,7 +136,7 @@ impl Audit<'_> {
         };
         let geometry = |ledger: &Ledger| (ledger.edition(), ledger.geometry());
         match (recover(&mut image), &formatted) {
-            (Err(Refusal::Unfinished), Some(format))
+            (Err(Error::Refused(Refusal::Unfinished)), Some(format))
                 if geometry(format) == geometry(&described(&image).0) =>
             {
                 return not_done();

@@ -53,13 +53,24 @@ pub fn is_device_name(card: &OsStr) -> bool {
 
 /// The volume, under a lock that other readers share.
 pub fn read(card: &OsStr, wait: Duration) -> Result<Image, Failure> {
+    let disk = shared(card, wait)?;
+    let mut progress = loading();
+    Image::load_telling(&disk, &mut |done, all| progress.of(done, all)).map_err(of_card(card))
+}
+
+/// All of the volume in memory, for the second program, which takes whole images.
+pub fn whole(card: &OsStr, wait: Duration) -> Result<Image, Failure> {
+    let disk = shared(card, wait)?;
+    let mut progress = loading();
+    Image::load_whole(&disk, &mut |done, all| progress.of(done, all)).map_err(of_card(card))
+}
+
+fn shared(card: &OsStr, wait: Duration) -> Result<Disk, Failure> {
     let open = || {
         is_block_device(card)?;
         File::open(card)
     };
-    let disk = locked(card, wait, &open, Disk::shared)?;
-    let mut progress = loading();
-    Image::load_telling(&disk, &mut |done, all| progress.of(done, all)).map_err(of_card(card))
+    locked(card, wait, &open, Disk::shared)
 }
 
 /// Whether the system says that a block device can't be written to. It may be opened all the same,

@@ -284,7 +284,7 @@ fn held(disk: &Disk, request: &Format, card: &OsStr) -> Result<Option<String>, F
     while start < length {
         let piece = &mut piece[..(length - start).min(PIECE) as usize];
         disk.read(start / SECTOR as u64, piece)
-            .map_err(|error| of_card(card)(Error::Unreadable(error)))?;
+            .map_err(|error| of_card(card)(Error::unreadable(error)))?;
         if start == 0 && piece.len() >= SECTOR && goofs::summary(&piece[..SECTOR]).code != 2 {
             return Ok(Some("a volume".to_string()));
         }
@@ -403,7 +403,9 @@ pub fn rm(arguments: &Arguments) -> Result<(), Failure> {
 fn of_removals<'r>(card: &'r OsStr, names: &'r [OsString]) -> impl Fn(Error) -> Failure + 'r {
     move |error| {
         let others = match &error {
-            Error::Stopped { changes_done } | Error::Unlogged { changes_done, .. } => {
+            Error::Stopped { changes_done }
+            | Error::Unlogged { changes_done, .. }
+            | Error::Unreadable { changes_done, .. } => {
                 of_several(names, *changes_done, "Removed", "Not removed")
             }
             // Of the one at which the medium failed, the recovery decides.

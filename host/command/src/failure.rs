@@ -15,16 +15,6 @@ use crate::output::NOT_KEPT;
 use crate::space::Space;
 use crate::text::word;
 
-/// For a medium that can't be read in the middle of a command. A change's list is made, and done in
-/// memory, before the first of its writes is sent to the medium, so that no change is left half done.
-pub const UNREADABLE: &str = "\
-goofs: the medium could not be read: a sector is unreadable, or the card was taken out, or its file
-was made shorter, or has holes and its disk is full. No change was left half done; of several, as in a
-put, the first may be done.
-Next: see that the card is in its place, and that the disk of an image file has room (df shows that);
-look at the card with goofs check, and give the command again.
-";
-
 #[derive(Debug)]
 pub enum Failure {
     /// The words were not understood.
@@ -675,6 +665,18 @@ impl fmt::Display for Failure {
                             _ => "",
                         }
                     ),
+                    Error::Unreadable { changes_done, .. } => write!(
+                        f,
+                        "{card}: {error}. {}see that the card is in the reader, and that an image file was not \
+                         made shorter; try another reader, then another card. goofs salvage {card} FOLDER \
+                         copies the files that can be read.",
+                        match changes_done {
+                            0 => "Nothing was changed.\nNext: ".to_string(),
+                            _ => format!(
+                                "The volume is clean.\nNext: see what is done: goofs ls {card}; "
+                            ),
+                        }
+                    ),
                     Error::Interrupted(_) => write!(
                         f,
                         "{card}: {error}.\nNext: when the medium can be written again, \
@@ -778,7 +780,14 @@ mod tests {
                 },
                 "--sectors 2,",
             ),
-            (Error::Unreadable(cause()), "reader"),
+            (Error::unreadable(cause()), "reader"),
+            (
+                Error::Unreadable {
+                    changes_done: 2,
+                    cause: cause(),
+                },
+                "goofs ls 'a card'",
+            ),
             (Error::Unsettled(cause()), "give the command again"),
             (Error::Stopped { changes_done: 0 }, "goofs ls 'a card'"),
             (
@@ -801,7 +810,15 @@ mod tests {
         ];
         for (error, next) in errors {
             // A change that was interrupted may have changed something, and so may those before a stop.
-            let may_change = matches!(error, Error::Interrupted(_) | Error::Stopped { .. });
+            let may_change = matches!(
+                error,
+                Error::Interrupted(_)
+                    | Error::Stopped { .. }
+                    | Error::Unreadable {
+                        changes_done: 1..,
+                        ..
+                    }
+            );
             let text = of_card(OsStr::new("a card"))(error).to_string();
             let (happened, advice) = text.split_once("\nNext: ").expect("there is an advice");
             assert!(happened.starts_with("'a card': "), "{text}");

@@ -283,9 +283,10 @@ nor the root's; the table gives it exactly one extent for each of its places, an
 are copied as they stand there: nothing on a volume tells whether they are right. A file that the medium
 does not give is listed, too.
 
-A change that was cut is finished first, in memory. Where the journal is damaged, that can't be done:
-then a change may be half done, which is told. An unfinished volume is refused, as its directory may be
-that of another format. Names are escaped as by goofs get --all.
+A change that was cut is finished first, in memory. Where the journal is damaged, or the copies of the
+change can't be read, that can't be done: then a change may be half done, which is told. An unfinished
+volume is refused, as its directory may be that of another format. Names are escaped as by goofs get
+--all.
 ";
 
 pub const FORMAT: &str = "\

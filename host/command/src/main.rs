@@ -144,7 +144,6 @@ const COMMANDS: [Command; 16] = [
 const STACK: usize = 8 << 20;
 
 fn main() -> ExitCode {
-    goofs::map::end_if_unreadable(failure::UNREADABLE);
     system::report_long_files();
     let working = thread::Builder::new().stack_size(STACK).spawn(|| {
         let given: Vec<OsString> = env::args_os().skip(1).collect();

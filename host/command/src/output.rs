@@ -191,34 +191,41 @@ fn like(file: &File, old: &Metadata) -> io::Result<()> {
     }
 }
 
-/// Writes an image to a file that must be new. Runs of zeros become holes. If it fails, the file is
-/// removed.
+/// Writes an image of this length, which is read piece by piece, to a file that must be new. Runs of zeros
+/// become holes. If it fails, the file is removed.
 pub fn save_image(
     path: &OsStr,
-    image: &[u8],
+    length: u64,
+    read: impl Fn(u64, &mut [u8]) -> Result<(), Failure>,
     progress: &mut dyn FnMut(u64),
 ) -> Result<(), Failure> {
-    let mut file = File::create_new(path).map_err(of_file(path))?;
+    const PIECE: u64 = 1 << 20;
+    let of_path = of_file(path);
+    let mut file = File::create_new(path).map_err(&of_path)?;
+    let mut piece = vec![0; length.min(PIECE) as usize];
     let mut fill = || {
-        const PIECE: usize = 1 << 20;
-        for (i, piece) in image.chunks(PIECE).enumerate() {
-            let start = (i * PIECE) as u64;
+        let mut start = 0;
+        while start < length {
+            let piece = &mut piece[..(length - start).min(PIECE) as usize];
+            read(start, piece)?;
             if piece.iter().any(|byte| *byte != 0) {
-                file.seek(SeekFrom::Start(start))?;
-                file.write_all(piece)?;
+                file.seek(SeekFrom::Start(start)).map_err(&of_path)?;
+                file.write_all(piece).map_err(&of_path)?;
             }
-            progress(start + piece.len() as u64);
+            start += piece.len() as u64;
+            progress(start);
         }
-        file.set_len(image.len() as u64)?;
-        file.sync_all()?;
-        sync_folder(Path::new(path))
+        file.set_len(length)
+            .and_then(|()| file.sync_all())
+            .and_then(|()| sync_folder(Path::new(path)))
+            .map_err(&of_path)
     };
     let filled = fill();
     if filled.is_err() {
         // Best effort; the failure is reported anyway.
         let _ = fs::remove_file(path);
     }
-    filled.map_err(of_file(path))
+    filled
 }
 
 /// Without this, a power failure could take away a new file whose bytes are on the medium.

@@ -3,17 +3,15 @@
 use std::collections::BTreeMap;
 use std::ffi::OsStr;
 use std::fmt::Write;
-use std::fs::File;
-use std::io;
-use std::os::unix::fs::FileExt;
 
 use goofs::device::SECTOR;
+use goofs::error::Error;
 use goofs::image::{Entry, Image, LONGEST_TRANSFER};
 use goofs::salvage::{Journal, Salvage};
 
 use crate::arguments::Arguments;
 use crate::card;
-use crate::failure::{of_card, of_opening, quoted, Failure};
+use crate::failure::{of_card, quoted, Failure};
 use crate::folder::Targets;
 use crate::output::print;
 use crate::picture::counted;
@@ -25,7 +23,7 @@ pub fn salvage(arguments: &Arguments) -> Result<(), Failure> {
     let (card, folder) = (&places[0], &places[1]);
     let mut image = card::read(card, arguments.wait()?)?;
     let salvage = image.salvage().map_err(of_card(card))?;
-    let Read { whole, unread } = read(card, &image, &salvage)?;
+    let Read { whole, unread } = read(&image, &salvage);
     let targets = Targets::new(card, folder, &whole, arguments.flag("replace"))?;
     print(&told(&salvage, &unread))?;
     print(&targets.copy(card, &image, arguments.flag("preserve"))?)?;
@@ -39,12 +37,12 @@ pub fn salvage(arguments: &Arguments) -> Result<(), Failure> {
 /// The files whose bytes the medium gives, and the others with its answer.
 struct Read {
     whole: Vec<Entry>,
-    unread: Vec<(Entry, io::Error)>,
+    unread: Vec<(Entry, Error)>,
 }
 
-/// Reads the files the ordinary way first: where a map of the card can't be read, the program ends.
-fn read(card: &OsStr, image: &Image, salvage: &Salvage) -> Result<Read, Failure> {
-    let file = File::open(card).map_err(of_opening(card))?;
+/// Reads all files before the first is copied, so that it is known which the card gives whole. They are
+/// read by their extents: a read by the volume code would judge the volume for each piece.
+fn read(image: &Image, salvage: &Salvage) -> Read {
     let summary = image.summary();
     let mut extents: BTreeMap<u64, Vec<(u64, u64)>> = BTreeMap::new();
     for (extent, holder) in (0..).zip(image.holders()) {
@@ -67,12 +65,12 @@ fn read(card: &OsStr, image: &Image, salvage: &Salvage) -> Result<Read, Failure>
                 let count = (entry.size - before).min(summary.extent_bytes());
                 // The medium gives whole sectors.
                 let count = count.next_multiple_of(SECTOR as u64);
-                let start = (summary.data_at() + extent * summary.extent_sectors) * SECTOR as u64;
+                let first = summary.data_at() + extent * summary.extent_sectors;
                 let mut done = 0;
                 while done < count {
                     let length = (count - done).min(LONGEST_TRANSFER as u64);
                     let piece = &mut piece[..length as usize];
-                    file.read_exact_at(piece, start + done)?;
+                    image.sectors(first + done / SECTOR as u64, piece)?;
                     done += length;
                     progress.more(length);
                 }
@@ -84,16 +82,20 @@ fn read(card: &OsStr, image: &Image, salvage: &Salvage) -> Result<Read, Failure>
             Err(error) => unread.push((entry.clone(), error)),
         }
     }
-    Ok(Read { whole, unread })
+    Read { whole, unread }
 }
 
 /// What is not copied, a line for each file, and what was done in memory.
-fn told(salvage: &Salvage, unread: &[(Entry, io::Error)]) -> String {
+fn told(salvage: &Salvage, unread: &[(Entry, Error)]) -> String {
     let mut text = match salvage.journal {
         Journal::Clean => String::new(),
         Journal::Finished => "a change was cut: it is finished for this, in memory\n".to_string(),
         Journal::Unknown => {
             "the journal is damaged: a change may be half done, and a file may be the old one\n"
+                .to_string()
+        }
+        Journal::Unreadable => {
+            "a change was cut, and its copies can't be read: it may be half done, and a file may be the old one\n"
                 .to_string()
         }
     };
@@ -111,7 +113,7 @@ fn told(salvage: &Salvage, unread: &[(Entry, io::Error)]) -> String {
         line(&lost.entry, &why.join("; "));
     }
     for (entry, error) in unread {
-        line(entry, &format!("the medium could not be read: {error}"));
+        line(entry, &error.to_string());
     }
     if salvage.stray > 0 {
         let _ = writeln!(text, "{} of no file", counted(salvage.stray, "extent"));

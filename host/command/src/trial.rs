@@ -142,23 +142,19 @@ pub fn run(arguments: &Arguments) -> Result<(), Failure> {
         "{:<width$} {:>7} {:>7} {:>10} {:>7} {:>7} {:>7} {:>9}\n",
         "change", "writes", "cuts", "recoveries", "before", "part", "after", "different"
     ))?;
-    let unfit = |end| match end {
-        End::Failed(error) => of_card(card)(error),
-        End::Unfit => Failure::Other("a write list does not fit the image".to_string()),
-    };
     for (done, change) in changes.iter().enumerate() {
-        let tally = trial(&mut image, change, &mut draw, every).map_err(unfit)?;
+        let tally = trial(&mut image, change, &mut draw, every).map_err(of_card(card))?;
         print(&line(&words(change), &tally))?;
         all.add(&tally);
         match leave.filter(|_| done + 1 == changes.len()) {
             Some(file) => {
-                land_start_mark(&mut image, change).map_err(unfit)?;
-                leave_image(file, &image)?;
+                land_start_mark(&mut image, change).map_err(of_card(card))?;
+                leave_image(card, file, &image)?;
             }
             None => image
                 .list_of(change)
-                .and_then(|list| image.carry_out(&list))
-                .map_err(of_card(card))?,
+                .and_then(|list| Ok(image.carry_out(&list)?))
+                .map_err(of_card::<Error>(card))?,
         }
     }
     if changes.len() > 1 {
@@ -178,18 +174,22 @@ pub fn run(arguments: &Arguments) -> Result<(), Failure> {
 }
 
 /// The change cut right after its start mark.
-fn land_start_mark(image: &mut Image, change: &Change) -> Result<(), End> {
+fn land_start_mark(image: &mut Image, change: &Change) -> Result<(), Error> {
     let list = image.list_of(change)?;
     for write in list.groups().into_iter().take(2).flatten() {
-        image.land(write).ok_or(End::Unfit)?;
+        image.land(write)?;
     }
     Ok(())
 }
 
-fn leave_image(file: &OsStr, image: &Image) -> Result<(), Failure> {
-    let bytes = image.bytes();
-    let mut progress = Progress::new("bytes written", bytes.len() as u64);
-    save_image(file, bytes, &mut |done| progress.at(done))
+fn leave_image(card: &OsStr, file: &OsStr, image: &Image) -> Result<(), Failure> {
+    let length = image.summary().sectors() * SECTOR as u64;
+    let mut progress = Progress::new("bytes written", length);
+    let read = |start: u64, piece: &mut [u8]| {
+        let read = image.sectors(start / SECTOR as u64, piece);
+        read.map_err(of_card(card))
+    };
+    save_image(file, length, read, &mut |done| progress.at(done))
 }
 
 /// How much of what could be tried was tried.
@@ -278,19 +278,6 @@ impl Tally {
     }
 }
 
-/// Why a trial could not be run.
-#[derive(Debug)]
-enum End {
-    Failed(Error),
-    Unfit,
-}
-
-impl<E: Into<Error>> From<E> for End {
-    fn from(error: E) -> End {
-        End::Failed(error.into())
-    }
-}
-
 /// What an end is compared with: the metadata but for the journal and, of each data sector that the
 /// change writes, the bytes that belong to a file. A trial writes to nothing else, so that its memory
 /// and time do not depend on how many bytes the files have.
@@ -313,8 +300,8 @@ impl Snapshot {
             metadata: metadata(image).map(<[u8]>::to_vec),
             sectors: data_sectors
                 .iter()
-                .map(|sector| (*sector, file_bytes(image, *sector).to_vec()))
-                .collect(),
+                .map(|sector| Ok((*sector, file_bytes(image, *sector)?)))
+                .collect::<Result<_, Error>>()?,
         })
     }
 
@@ -322,22 +309,30 @@ impl Snapshot {
         metadata(image) == [&self.metadata[0][..], &self.metadata[1]]
     }
 
-    fn is(&self, image: &Image) -> bool {
-        self.has_metadata_of(image)
-            && self
-                .sectors
-                .iter()
-                .all(|(sector, bytes)| file_bytes(image, *sector) == bytes)
+    fn is(&self, image: &Image) -> Result<bool, Error> {
+        if !self.has_metadata_of(image) {
+            return Ok(false);
+        }
+        for (sector, bytes) in &self.sectors {
+            if file_bytes(image, *sector)? != *bytes {
+                return Ok(false);
+            }
+        }
+        Ok(true)
     }
 
     /// Whether the image has these metadata, and each sector of a file is as here or as after.
-    fn is_in_part(&self, after: &Snapshot, image: &Image) -> bool {
-        let mut sectors = self.sectors.iter().zip(&after.sectors);
-        self.has_metadata_of(image)
-            && sectors.all(|((sector, before), (_, after))| {
-                let now = file_bytes(image, *sector);
-                now == before || Some(now) == after.get(..now.len())
-            })
+    fn is_in_part(&self, after: &Snapshot, image: &Image) -> Result<bool, Error> {
+        if !self.has_metadata_of(image) {
+            return Ok(false);
+        }
+        for ((sector, before), (_, after)) in self.sectors.iter().zip(&after.sectors) {
+            let now = file_bytes(image, *sector)?;
+            if now != *before && Some(&now[..]) != after.get(..now.len()) {
+                return Ok(false);
+            }
+        }
+        Ok(true)
     }
 }
 
@@ -352,7 +347,7 @@ fn metadata(image: &Image) -> [&[u8]; 2] {
 }
 
 /// The bytes of a data sector that belong to a file: those of its extent up to the file's size.
-fn file_bytes(image: &Image, sector: u64) -> &[u8] {
+fn file_bytes(image: &Image, sector: u64) -> Result<Vec<u8>, Error> {
     let (summary, bytes) = (image.summary(), image.bytes());
     let number = |at: usize, count: usize| {
         let digits = bytes[at..at + count].iter();
@@ -368,7 +363,10 @@ fn file_bytes(image: &Image, sector: u64) -> &[u8] {
     };
     let before = (offset * summary.extent_sectors + place % summary.extent_sectors) * SECTOR as u64;
     let count = size.saturating_sub(before).min(SECTOR as u64) as usize;
-    &bytes[sector as usize * SECTOR..][..count]
+    let mut contents = vec![0; SECTOR];
+    image.sectors(sector, &mut contents)?;
+    contents.truncate(count);
+    Ok(contents)
 }
 
 /// What lands of a list: all groups before this one, and of it the writes with these places.
@@ -402,36 +400,37 @@ fn cuts(groups: &[Vec<Write>], draw: &mut Draw) -> Vec<Cut> {
 /// Sectors that were landed over, so that an image can be taken back without a copy of all of it.
 type Undo = Vec<(u64, [u8; SECTOR])>;
 
-fn land(image: &mut Image, groups: &[Vec<Write>], cut: &Cut) -> Result<Undo, End> {
+fn land(image: &mut Image, groups: &[Vec<Write>], cut: &Cut) -> Result<Undo, Error> {
     let whole = groups[..cut.group].iter().flatten();
     let part = cut.landed.iter().map(|place| &groups[cut.group][*place]);
     land_writes(image, whole.chain(part))
 }
 
-fn land_all(image: &mut Image, groups: &[Vec<Write>]) -> Result<Undo, End> {
+fn land_all(image: &mut Image, groups: &[Vec<Write>]) -> Result<Undo, Error> {
     land_writes(image, groups.iter().flatten())
 }
 
 fn land_writes<'w>(
     image: &mut Image,
     writes: impl Iterator<Item = &'w Write<'w>>,
-) -> Result<Undo, End> {
+) -> Result<Undo, Error> {
     writes
-        .map(|write| Ok((write.sector, image.land(*write).ok_or(End::Unfit)?)))
+        .map(|write| Ok((write.sector, image.land(*write)?)))
         .collect()
 }
 
-fn take_back(image: &mut Image, undo: Undo) {
+fn take_back(image: &mut Image, undo: Undo) -> Result<(), Error> {
     for (sector, contents) in undo.into_iter().rev() {
         image.land(Write {
             sector,
             contents: &contents,
-        });
+        })?;
     }
+    Ok(())
 }
 
 /// Cuts one change in every way. The image is then as it was.
-fn trial(image: &mut Image, change: &Change, draw: &mut Draw, every: bool) -> Result<Tally, End> {
+fn trial(image: &mut Image, change: &Change, draw: &mut Draw, every: bool) -> Result<Tally, Error> {
     let list = image.list_of(change)?;
     let groups = list.groups();
     let data_at = image.summary().data_at();
@@ -440,7 +439,7 @@ fn trial(image: &mut Image, change: &Change, draw: &mut Draw, every: bool) -> Re
     let before = Snapshot::of(image, &data_sectors)?;
     let undo = land_all(image, &groups)?;
     let after = Snapshot::of(image, &data_sectors)?;
-    take_back(image, undo);
+    take_back(image, undo)?;
     let cuts = cuts(&groups, draw);
     let mut scene = Scene {
         before,
@@ -466,7 +465,7 @@ fn trial(image: &mut Image, change: &Change, draw: &mut Draw, every: bool) -> Re
             groups[cut.group].len()
         );
         scene.recoveries(image, &point, draw)?;
-        take_back(image, undo);
+        take_back(image, undo)?;
         progress.at(done as u64 + 1);
     }
     Ok(scene.tally)
@@ -482,7 +481,7 @@ struct Scene {
 
 impl Scene {
     /// A recovery that goes through, and recoveries that are cut, and cut again, before one does.
-    fn recoveries(&mut self, image: &mut Image, point: &str, draw: &mut Draw) -> Result<(), End> {
+    fn recoveries(&mut self, image: &mut Image, point: &str, draw: &mut Draw) -> Result<(), Error> {
         let Some(list) = self.completed(image, point)? else {
             return Ok(());
         };
@@ -501,7 +500,7 @@ impl Scene {
             if let Some(again) = again {
                 self.second_cut(image, &again, &point, draw)?;
             }
-            take_back(image, undo);
+            take_back(image, undo)?;
         }
         Ok(())
     }
@@ -513,7 +512,7 @@ impl Scene {
         list: &List,
         point: &str,
         draw: &mut Draw,
-    ) -> Result<(), End> {
+    ) -> Result<(), Error> {
         let groups = list.groups();
         let group = draw.below(groups.len());
         let landed = (0..groups[group].len())
@@ -525,21 +524,22 @@ impl Scene {
             image,
             &format!("{point}, another cut in group {}", group + 1),
         )?;
-        take_back(image, undo);
+        take_back(image, undo)?;
         Ok(())
     }
 
     /// Completes a recovery, judges its end and takes it back. Gives the recovery's list unless it
     /// is empty or was refused.
-    fn completed(&mut self, image: &mut Image, point: &str) -> Result<Option<List>, End> {
+    fn completed(&mut self, image: &mut Image, point: &str) -> Result<Option<List>, Error> {
         self.tally.recoveries += 1;
         let list = match image.recovery() {
             Ok(list) => list,
-            Err(refusal) => {
+            Err(Error::Refused(refusal)) => {
                 self.tally
                     .differs(format!("{point}: recovery gives {}", refusal.number()));
                 return Ok(None);
             }
+            Err(error) => return Err(error),
         };
         let groups = list.groups();
         let data_at = image.summary().data_at();
@@ -549,17 +549,17 @@ impl Scene {
             return Ok(None);
         }
         let undo = land_all(image, &groups)?;
-        self.judge(image, point);
-        take_back(image, undo);
+        self.judge(image, point)?;
+        take_back(image, undo)?;
         Ok((!list.is_empty()).then_some(list))
     }
 
-    fn judge(&mut self, image: &Image, point: &str) {
-        if self.before.is(image) {
+    fn judge(&mut self, image: &Image, point: &str) -> Result<(), Error> {
+        if self.before.is(image)? {
             self.tally.before += 1;
-        } else if self.after.is(image) {
+        } else if self.after.is(image)? {
             self.tally.after += 1;
-        } else if self.before.is_in_part(&self.after, image) {
+        } else if self.before.is_in_part(&self.after, image)? {
             self.tally.part += 1;
         } else {
             self.tally.differs(match image.check() {
@@ -570,6 +570,7 @@ impl Scene {
                 }
             });
         }
+        Ok(())
     }
 }
 
@@ -651,7 +652,7 @@ mod tests {
             tally: Tally::default(),
         };
         for image in ends {
-            scene.judge(image, "here");
+            scene.judge(image, "here").unwrap();
         }
         scene.tally
     }
@@ -759,7 +760,7 @@ mod tests {
         let held = image.bytes().to_vec();
         for cut in cuts(&groups, &mut Draw(1)) {
             let undo = land(&mut image, &groups, &cut).unwrap();
-            take_back(&mut image, undo);
+            take_back(&mut image, undo).unwrap();
             assert!(image.bytes() == held);
         }
         trial(&mut image, &delete, &mut Draw(1), false).unwrap();

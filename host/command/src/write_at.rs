@@ -81,9 +81,9 @@ fn room(card: &OsStr, image: &Image, name: &[u8], offset: u64, time: u64) -> Res
 /// How many bytes are in the file after a write that broke off, if that is known.
 fn written(error: &Error, all: usize) -> String {
     let (pieces, is_known) = match error {
-        Error::Stopped { changes_done } | Error::Unlogged { changes_done, .. } => {
-            (*changes_done, true)
-        }
+        Error::Stopped { changes_done }
+        | Error::Unlogged { changes_done, .. }
+        | Error::Unreadable { changes_done, .. } => (*changes_done, true),
         Error::Interrupted(cut) => (cut.changes_done, false),
         _ => return String::new(),
     };

@@ -198,15 +198,15 @@ pub fn look_up<'p>(
             Some(_) if in_place && is_given => return Err(already_there(card, name)),
             Some(_) if in_place => (),
             Some(old) if new_file.id == Some(old.id) => return Err(same_id(card, name, old.id)),
-            old => save.judge(image).map_err(|refusal| match old {
-                Some(_) if refusal == Refusal::BadArgument && id != 0 => {
+            old => save.judge(image).map_err(|error| match (old, &error) {
+                (Some(_), Error::Refused(Refusal::BadArgument)) if id != 0 => {
                     not_replaced(card, name, is_given)
                 }
                 _ => or_frozen(
                     card,
                     space,
                     of_new(card, name, edition, new_file.id, another),
-                )(refusal),
+                )(error),
             })?,
         }
         puts.push(Put {

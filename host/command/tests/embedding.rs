@@ -1,20 +1,40 @@
-//! The page for embedders: its C code is that of the example, its figures are those of the library, and every
+//! The page for embedders: its C code is that of the examples, its figures are those of the library, and every
 //! number has its line.
 
 use goofs::longest_list;
 
 const PAGE: &str = include_str!("../../../docs/EMBEDDING.md");
-const EXAMPLE: &str = include_str!("../../../examples/boot.c");
+const START: &str = include_str!("../../../examples/boot.c");
+const LOGGER: &str = include_str!("../../../examples/logger.c");
 const HEADER: &str = include_str!("../../../include/goofs.h");
 const BENCH: &str = include_str!("../../../bench/README.md");
 
 #[test]
-fn code_of_the_example() {
+fn code_of_the_examples() {
     let blocks: Vec<&str> = PAGE.split("```c\n").skip(1).collect();
-    assert_eq!(blocks.len(), 2);
-    for block in blocks {
+    assert_eq!(blocks.len(), 3);
+    for (block, example) in blocks.into_iter().zip([START, START, LOGGER]) {
         let (code, _) = block.split_once("```").expect("the block ends");
-        assert!(EXAMPLE.contains(code), "{code}");
+        assert!(example.contains(code), "{code}");
+    }
+}
+
+/// What a card larger than memory takes, of files, extents and the sectors of their table.
+#[test]
+fn memory_of_the_logger() {
+    let (files, extents, table) = (255, 4_089, 32);
+    let list = longest_list(files, extents, 128, 9).length;
+    let rows = rows();
+    for (name, bytes) in [
+        ("front", (34 + files + table) * 512),
+        ("scratch", (4 * files + extents) * 4),
+        ("list", list),
+    ] {
+        let row = rows
+            .iter()
+            .find(|row| row.len() == 3 && row[0].split([',', ' ']).next() == Some(name));
+        let row = row.unwrap_or_else(|| panic!("no row of {name}"));
+        assert_eq!(row[2].replace(',', ""), bytes.to_string(), "{name}");
     }
 }
 

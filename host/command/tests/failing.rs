@@ -8,7 +8,7 @@ use std::io::{self, Write};
 use std::path::Path;
 use std::process::{Command, Stdio};
 
-use shared::{bad, formatted, good, goofs, on, run, start, with_limit, Folder, Said};
+use shared::{bad, formatted, good, goofs, on, run, shim, start, with_limit, Folder, Said};
 
 /// Runs the command with its standard output there.
 fn into(output: Stdio, command: &str, card: &Path, rest: &[&str]) -> Said {
@@ -508,4 +508,134 @@ fn a_put_from_the_standard_input() {
     assert!(File::open(&card).unwrap().try_lock().is_ok());
     let err = bad("put", &card, &["-"], 2);
     assert!(err.contains("--as NAME"), "{err}");
+}
+
+/// Sectors that the card does not give. Who needs one is told so, and ends with an error and not by a signal;
+/// then nothing is written. Who needs none of them does not notice.
+#[test]
+fn sectors_that_can_not_be_read() {
+    let folder = Folder::new("unreadable");
+    let whole = with_file(&folder);
+    let shim = shim(&folder);
+    let (card, medium) = (folder.file("faulty-card"), folder.file("medium"));
+    let copy = folder.file("copy");
+    let into = folder.file("into");
+    let [copy_word, into_word] = [&copy, &into].map(|path| path.to_str().unwrap());
+    let source = folder.write("source", &[b'y'; 1_000]);
+    let source = source.to_str().unwrap();
+    let held = fs::read(&whole).unwrap();
+    // f lies in sectors 290 to 417 and 418 to 485; the copies of a change are near the end.
+    let (first, second) = (290, 418);
+    let metadata = [0, 1, 2, 256, 288, 289];
+    let mut unreadable = 0;
+    for sector in [first, first + 3, second, 600].iter().chain(&metadata) {
+        let is_metadata = metadata.contains(sector);
+        let is_of = |sectors: &[u64]| is_metadata || sectors.contains(sector);
+        for (command, words, needs_it) in [
+            (
+                "get",
+                &["f", "--as", copy_word][..],
+                is_of(&[first, first + 3, second]),
+            ),
+            (
+                "get",
+                &["--all", into_word],
+                is_of(&[first, first + 3, second]),
+            ),
+            ("write", &["f", "1", source], is_of(&[first])),
+            ("write", &["f", "1536", source], is_of(&[])),
+            ("write", &["f", "512", source], is_of(&[])),
+            ("write", &["f", "65530", source], is_of(&[])),
+            ("put", &[source, "--as=f", "--in-place"], is_of(&[])),
+            ("put", &[source, "--as=g"], is_of(&[])),
+            ("resize", &["f", "7"], is_of(&[])),
+            ("rm", &["f"], is_of(&[])),
+            ("mv", &["f", "h"], is_of(&[])),
+            ("check", &[], is_of(&[])),
+            ("ls", &[], is_of(&[])),
+            ("info", &[], is_of(&[])),
+            ("map", &[], is_of(&[])),
+            ("recover", &[], is_of(&[])),
+            ("recover", &["--budget=3"], is_of(&[])),
+            ("repair", &["--yes"], is_of(&[])),
+            ("trial", &["rm", "f"], is_of(&[])),
+        ] {
+            for path in [&card, &medium] {
+                fs::write(path, &held).unwrap();
+            }
+            let _ = fs::remove_dir_all(&into);
+            let said = run(Command::new(env!("CARGO_BIN_EXE_goofs"))
+                .arg(command)
+                .arg(&card)
+                .args(words)
+                .env("CARD", &card)
+                .env("MEDIUM", &medium)
+                .env("UNREADABLE", sector.to_string())
+                .env("LD_PRELOAD", &shim));
+            let what = format!("{command} {words:?}, sector {sector}: {}", said.err);
+            assert_eq!(said.status, i32::from(needs_it), "{what}");
+            if needs_it {
+                unreadable += 1;
+                assert!(said.err.contains("the medium could not be read"), "{what}");
+                assert!(said.err.contains("Nothing was changed"), "{what}");
+                assert!(said.err.contains("Next: "), "{what}");
+                assert!(fs::read(&card).unwrap() == held, "{what}");
+            }
+        }
+    }
+    assert!(unreadable > 100, "{unreadable}");
+}
+
+/// A change was cut, and a copy of it can't be read: it is not finished, and salvage copies what there is.
+#[test]
+fn a_copy_that_can_not_be_read() {
+    let folder = Folder::new("unreadable-copy");
+    let card = with_file(&folder);
+    let shim = shim(&folder);
+    let mut image = goofs::image::Image::new(fs::read(&card).unwrap()).unwrap();
+    let list = image.list_of(&goofs::change::Change::Rename {
+        old: b"f",
+        new: b"g",
+        time: 9,
+    });
+    let list = list.unwrap();
+    let groups = list.groups();
+    for write in groups.iter().take(2).flatten() {
+        image.land(*write).unwrap();
+    }
+    let copy = groups[0][1].sector;
+    fs::write(&card, image.bytes()).unwrap();
+    let held = fs::read(&card).unwrap();
+    let medium = folder.write("medium", &held);
+    let into = folder.file("into");
+    let faulty = |command: &str, words: &[&str]| {
+        run(Command::new(env!("CARGO_BIN_EXE_goofs"))
+            .arg(command)
+            .arg(&card)
+            .args(words)
+            .env("CARD", &card)
+            .env("MEDIUM", &medium)
+            .env("UNREADABLE", copy.to_string())
+            .env("LD_PRELOAD", &shim))
+    };
+    for words in [&[][..], &["--budget=1"], &["--budget=9"]] {
+        let said = faulty("recover", words);
+        assert_eq!(said.status, 1, "{}", said.err);
+        assert!(
+            said.err.contains("the medium could not be read"),
+            "{}",
+            said.err
+        );
+        assert!(said.err.contains("Nothing was changed"), "{}", said.err);
+        assert!(fs::read(&card).unwrap() == held);
+    }
+    let said = faulty("salvage", &[into.to_str().unwrap()]);
+    assert_eq!(said.status, 0, "{}", said.err);
+    assert!(said
+        .text()
+        .starts_with("a change was cut, and its copies can't be read"));
+    assert!(fs::read(into.join("f")).unwrap() == [b'x'; 100_000]);
+    // A card that gives the copy again.
+    assert!(good("recover", &card, &[]).starts_with("recovered"));
+    good("get", &card, &["g"]);
 }

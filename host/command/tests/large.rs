@@ -1,4 +1,5 @@
-//! Volumes longer than the memory, as sparse files: all commands on one of 6 GiB and on one of 400 GiB.
+//! Volumes longer than the memory, as sparse files: all commands on one of 6 GiB, on one of 400 GiB and on one
+//! of 12 TiB, in some hundred MB of addresses.
 
 mod shared;
 
@@ -11,11 +12,27 @@ use goofs::device::Disk;
 use goofs::image::Image;
 use oracle::layout::Geometry;
 use oracle::testing::images::{blank, put_file};
-use shared::{good, on, with_limit, Folder};
+use shared::{with_limit, Folder, Said};
 
 /// Seconds of the processor's time, which a busy machine does not lengthen: far more than what takes it
 /// needs, far less than reading 300 GiB of zeros, or a judgement for each of 65,535 files.
 const WORK: &str = "-t 10";
+
+/// The addresses that a command may have, in KiB: far fewer than the volumes here have bytes. The system's
+/// library for memory takes some 130 MB of them for a thread, used or not.
+const MEMORY: &str = "-v 300000";
+
+/// Runs the command with little memory.
+fn on(command: &str, card: &Path, rest: &[&str]) -> Said {
+    with_limit(MEMORY, command, card, rest)
+}
+
+/// The same, which must succeed.
+fn good(command: &str, card: &Path, rest: &[&str]) -> String {
+    let said = on(command, card, rest);
+    assert_eq!(said.status, 0, "{command} {rest:?}: {}", said.err);
+    said.text()
+}
 
 /// The first bytes of a card, past its metadata. The whole of it is too long to be compared.
 fn start(card: &Path) -> Vec<u8> {
@@ -98,28 +115,58 @@ fn all_commands(gib: u64, extent_bytes: u64) {
         said.status == 1 && said.err.contains("refused (13)"),
         "{said:?}"
     );
-    // Where the memory is limited, the volume can be neither mapped nor read.
-    let said = with_limit("-v 2000000", "ls", &card, &[]);
-    assert_eq!(said.status, 1);
-    assert!(
-        said.err.contains("has no memory or addresses for so many") && said.err.contains("Next: "),
-        "{}",
-        said.err
-    );
     assert!(start(&card) == held);
 
-    cut_create(&card, b"c");
-    let said = on("ls", &card, &[]);
+    for budget in [None, Some("2")] {
+        cut_create(&card, b"c");
+        let said = on("ls", &card, &[]);
+        assert!(
+            said.status == 1 && said.err.contains("refused (5)"),
+            "{said:?}"
+        );
+        let words = budget.map_or(vec![], |budget| vec!["--budget", budget]);
+        // Two copies, and the end mark.
+        let slices = if budget.is_some() { 2 } else { 1 };
+        for slice in 1..=slices {
+            let said = good("recover", &card, &words);
+            assert_eq!(said.starts_with("recovered"), slice == slices, "{said}");
+        }
+        assert_eq!(good("check", &card, &[]), "sound, 2 files\n");
+        good("rm", &card, &["c"]);
+    }
+
+    // Files past the first 4 GiB of extents, and what a file's bytes cost.
+    good("put", &card, &[file, "--as", "b", "--in-place"]);
+    good("write", &card, &["b", "1000", file]);
+    good("mv", &card, &["b", "d"]);
+    let map = good("map", &card, &[]);
+    assert!(map.contains("d, 201000 bytes"), "{map}");
+    good("get", &card, &["d", "--as", copy.to_str().unwrap()]);
+    let expected = [&contents[..1_000], &contents].concat();
+    assert!(fs::read(&copy).unwrap() == expected);
+
+    // Extents of no file: check refuses, salvage copies what is whole, repair frees them.
+    let image = Image::load(&Disk::shared(File::open(&card).unwrap()).unwrap()).unwrap();
+    let summary = image.summary();
+    drop(image);
+    let last = summary.table_at() * 512 + 4 * (summary.extents - 1);
+    let leaky = OpenOptions::new().write(true).open(&card).unwrap();
+    leaky.write_all_at(&[0, 9, 0, 0], last).unwrap();
+    drop(leaky);
+    let said = on("check", &card, &[]);
     assert!(
-        said.status == 1 && said.err.contains("refused (5)"),
+        said.status == 1 && said.err.contains("fault 25"),
         "{said:?}"
     );
-    assert!(good("recover", &card, &[]).starts_with("recovered"));
-    assert_eq!(good("check", &card, &[]), "sound, 2 files\n");
+    let into = folder.file("salvaged");
+    good("salvage", &card, &[into.to_str().unwrap()]);
+    assert!(fs::read(into.join("d")).unwrap() == expected);
+    good("repair", &card, &["--yes"]);
+    assert_eq!(good("check", &card, &[]), "sound, 1 files\n");
 }
 
-/// A card of 4 GiB that one file fills. A trial takes little memory beside the map of the card, and
-/// not the time that reading the file would take.
+/// A card of 4 GiB that one file fills. A trial takes little memory, and not the time that reading the file
+/// would take. The file itself can't be held, and nothing is written of it.
 #[test]
 fn a_trial_on_a_full_card() {
     let folder = Folder::new("full-card");
@@ -149,12 +196,18 @@ fn a_trial_on_a_full_card() {
         &["resize", "f", &smaller],
         &["create", "g"],
     ] {
-        // The map needs 4,194,704 KiB of addresses.
-        let words = ["trial", card.to_str().unwrap()];
-        let said = with_limit("-v 4700000", words[0], Path::new(words[1]), change);
-        assert_eq!(said.status, 0, "{change:?}: {}", said.err);
-        assert!(said.text().contains("recoveries cut in "), "{change:?}");
+        let said = good("trial", &card, change);
+        assert!(said.contains("recoveries cut in "), "{change:?}");
     }
+    let copy = folder.file("copy");
+    let said = on("get", &card, &["f", "--as", copy.to_str().unwrap()]);
+    assert_eq!(said.status, 1);
+    assert!(
+        said.err.contains("has no memory or addresses for so many") && said.err.contains("Next: "),
+        "{}",
+        said.err
+    );
+    assert!(!copy.exists());
 }
 
 /// A card of 1 GiB that a goofs without rename has filled: of its 16,128 extents one is free, and two must
@@ -293,4 +346,9 @@ fn a_volume_of_6_gib() {
 #[test]
 fn a_volume_of_400_gib() {
     all_commands(400, 1 << 23);
+}
+
+#[test]
+fn a_volume_of_12_tib() {
+    all_commands(12 << 10, 1 << 28);
 }

@@ -1,12 +1,15 @@
 //! Changes of a volume and the write lists that they come to: what is to be done is a `Change`, how
 //! it is done a `List` of sector writes and barriers.
 
+use std::io;
+
 use crate::device::SECTOR;
-use crate::error::{Fault, Refusal};
+use crate::error::{Error, Fault, Refusal};
 use crate::image::{
-    claimed, number, Edition, Entry, Image, Summary, ENTRIES_IN_TABLE_SECTOR, LONGEST_NAME,
+    claimed, number, Edition, Entry, Image, State, Summary, ENTRIES_IN_TABLE_SECTOR, LONGEST_NAME,
     OCCUPIED,
 };
+use crate::lent::slice;
 use crate::ChangeAnswer;
 
 /// Bytes of a list's record: its position in the list, from 0 on, the sector number, the contents.
@@ -15,6 +18,10 @@ pub const RECORD: usize = CONTENTS + SECTOR;
 const NUMBER: usize = 8;
 const CONTENTS: usize = 16;
 const BARRIER: [u8; 8] = [255; 8];
+
+/// Bytes of a journal entry, and where its target stands in it.
+const JOURNAL_ENTRY: usize = 16;
+const JOURNAL_TARGET: usize = 8;
 
 /// Renames that one change may have.
 pub const MOST_RENAMES: usize = 8;
@@ -195,9 +202,9 @@ impl List {
 /// The list that a call fills.
 fn filled(
     mut bytes: Vec<u8>,
-    call: impl FnOnce(&mut [u8]) -> ChangeAnswer,
-) -> Result<List, Refusal> {
-    let answer = call(&mut bytes);
+    call: impl FnOnce(&mut [u8]) -> io::Result<ChangeAnswer>,
+) -> Result<List, Error> {
+    let answer = call(&mut bytes).map_err(Error::unreadable)?;
     Refusal::judge(answer.code, answer.fault, answer.place)?;
     bytes.truncate(answer.length as usize);
     Ok(List { bytes })
@@ -218,8 +225,8 @@ impl Image {
     }
 
     /// The list that does this change; empty if there is nothing to do.
-    pub fn list_of(&self, change: &Change) -> Result<List, Refusal> {
-        let image = &self.bytes;
+    pub fn list_of(&self, change: &Change) -> Result<List, Error> {
+        let calls = self.calls();
         let room = |call| self.room_for(call);
         match *change {
             Change::Create {
@@ -228,22 +235,22 @@ impl Image {
                 mode,
                 time,
             } => filled(room(Listing::Create), |list| {
-                crate::create(image, name, id, mode, time, list)
+                Ok(calls.create(name, id, mode, time, list))
             }),
             Change::Delete { name, time } => filled(room(Listing::Delete), |list| {
-                crate::delete(image, name, time, list)
+                Ok(calls.delete(name, time, list))
             }),
             Change::Rename { old, new, time } => filled(room(Listing::Rename), |list| {
-                crate::rename(image, old, new, time, list)
+                Ok(calls.rename(old, new, time, list))
             }),
             Change::RenameSet { renames, time } => {
                 let (names, lengths) = joined(renames);
                 filled(room(Listing::RenameSet), |list| {
-                    crate::rename_set(image, &names, &lengths, time, list)
+                    Ok(calls.rename_set(&names, &lengths, time, list))
                 })
             }
             Change::Resize { name, size, time } => filled(room(Listing::Resize), |list| {
-                crate::resize(image, name, size, time, list)
+                calls.resize(name, size, time, list)
             }),
             Change::Write {
                 name,
@@ -251,7 +258,7 @@ impl Image {
                 data,
                 time,
             } => filled(room(Listing::Write), |list| {
-                crate::write(image, name, offset, data, time, list)
+                calls.write(name, offset, data, time, list)
             }),
             Change::Touch { name, time } => Ok(self.read_touching(name, 0, &mut [], time)?.1),
             Change::TouchRoot { index, time } => Ok(self.list_touching(index, time)?.1),
@@ -261,7 +268,7 @@ impl Image {
     /// Which rename of a set is refused for its names, from 0 on; none where the set is not refused so.
     pub fn refused_rename(&self, renames: &[Rename], time: u64) -> Option<usize> {
         let (names, lengths) = joined(renames);
-        let answer = crate::rename_set(&self.bytes, &names, &lengths, time, &mut []);
+        let answer = self.calls().rename_set(&names, &lengths, time, &mut []);
         let is_fit = (1..=MOST_RENAMES).contains(&renames.len());
         let is_fit = is_fit && time <= self.summary().edition.latest_time();
         (is_fit && matches!(answer.code, 8 | 9)).then_some(answer.place as usize)
@@ -275,10 +282,12 @@ impl Image {
         offset: u64,
         output: &mut [u8],
         time: u64,
-    ) -> Result<(usize, List), Refusal> {
+    ) -> Result<(usize, List), Error> {
         let mut bytes = self.room_for(Listing::Access);
-        let count = output.len() as u64;
-        let answer = crate::read(&self.bytes, name, offset, count, time, output, &mut bytes);
+        let answer = self
+            .calls()
+            .read(name, offset, time, output, &mut bytes)
+            .map_err(Error::unreadable)?;
         Refusal::judge(answer.code, answer.fault, answer.place)?;
         bytes.truncate(answer.length as usize);
         Ok((answer.count as usize, List { bytes }))
@@ -289,7 +298,7 @@ impl Image {
     pub fn list_touching(&self, index: u64, time: u64) -> Result<(Entry, List), Refusal> {
         let mut bytes = self.room_for(Listing::Access);
         let mut name = vec![0; LONGEST_NAME];
-        let answer = crate::list(&self.bytes, index, time, &mut name, &mut bytes);
+        let answer = self.calls().list(index, time, &mut name, &mut bytes);
         Refusal::judge(answer.code, answer.fault, answer.place)?;
         name.truncate(answer.name_length as usize);
         bytes.truncate(answer.length as usize);
@@ -310,7 +319,7 @@ impl Image {
     /// where there is something to free and the volume is frozen: what would be freed doesn't count.
     pub fn repair(&self) -> Result<Repair, Refusal> {
         let mut bytes = self.room_for(Listing::Repair);
-        let answer = crate::repair(&self.bytes, &mut bytes);
+        let answer = self.calls().repair(&mut bytes);
         Refusal::judge(answer.code, answer.fault, answer.place)?;
         bytes.truncate(answer.length as usize);
         let list = List { bytes };
@@ -367,20 +376,48 @@ impl Image {
     }
 
     /// The list that finishes a change that was cut; empty if none was.
-    pub fn recovery(&self) -> Result<List, Refusal> {
+    pub fn recovery(&self) -> Result<List, Error> {
         let mut bytes = self.room_for(Listing::Recover);
-        let answer = crate::recover(&self.bytes, &mut bytes);
+        let answer = self
+            .calls()
+            .recover(&mut bytes)
+            .map_err(Error::unreadable)?;
         Refusal::judge(answer.code, 0, 0)?;
         bytes.truncate(answer.length as usize);
         Ok(List { bytes })
     }
 
     /// At most `budget` sector writes of a recovery; empty if no change was cut.
-    pub fn recovery_slice(&self, budget: u64) -> Result<List, Refusal> {
+    pub fn recovery_slice(&self, budget: u64) -> Result<List, Error> {
+        if self.card.is_some() {
+            return self.slice_of_recovery(budget);
+        }
         let mut bytes = self.room_for(Listing::RecoverSlice);
         let answer = crate::recover_slice(&self.bytes, budget, &mut bytes);
         Refusal::judge(answer.code, 0, 0)?;
         bytes.truncate(answer.length as usize);
+        Ok(List { bytes })
+    }
+
+    /// The same on a card: the call takes whole images only, so the slice is made of the recovery's list.
+    fn slice_of_recovery(&self, budget: u64) -> Result<List, Error> {
+        let recovery = self.recovery()?;
+        if budget == 0 {
+            return Err(Refusal::BadArgument.into());
+        }
+        let summary = self.summary();
+        let State::Waiting(entries) = summary.state else {
+            return Ok(recovery);
+        };
+        let journal = &self.bytes[summary.journal_at() as usize * SECTOR..];
+        let targets = journal
+            .chunks_exact(JOURNAL_ENTRY)
+            .take(entries as usize)
+            .map(|entry| number(&entry[JOURNAL_TARGET..]));
+        let holds = |target: u64, contents: &[u8]| {
+            &self.bytes[target as usize * SECTOR..][..SECTOR] == contents
+        };
+        let bytes = slice(&recovery.bytes, budget, targets, holds);
         Ok(List { bytes })
     }
 
@@ -391,17 +428,12 @@ impl Image {
         &mut self,
         changes: &[Change],
         progress: &mut dyn FnMut(usize),
-    ) -> Result<(), Refusal> {
-        let data_at = self.summary().data_at();
-        let metadata = 0..data_at as usize * SECTOR;
+    ) -> Result<(), Error> {
+        let metadata = 0..self.summary().data_at() as usize * SECTOR;
         let held = self.bytes[metadata.clone()].to_vec();
         let outcome = changes.iter().enumerate().try_for_each(|(tried, change)| {
             let list = self.list_of(change)?;
-            for write in list.groups().into_iter().flatten() {
-                if write.sector < data_at {
-                    self.land(write);
-                }
-            }
+            self.land_in(metadata.end, &list);
             progress(tried + 1);
             Ok(())
         });
@@ -409,20 +441,75 @@ impl Image {
         outcome
     }
 
-    /// Does the writes of a list on the image.
+    /// Does the writes of a list on the image, in memory.
     pub fn carry_out(&mut self, list: &List) -> Result<(), Refusal> {
-        Refusal::judge(crate::carry_out(&mut self.bytes, &list.bytes), 0, 0)
+        if self.card.is_none() {
+            return Refusal::judge(crate::carry_out(&mut self.bytes, &list.bytes), 0, 0);
+        }
+        self.fits(list)?;
+        self.land_in(self.bytes.len(), list);
+        let held_sectors = (self.bytes.len() / SECTOR) as u64;
+        for step in list.steps() {
+            if let (Step::Write(write), Some(card)) = (step, &mut self.card) {
+                if write.sector >= held_sectors {
+                    card.change(write.sector, *write.contents);
+                }
+            }
+        }
+        Ok(())
     }
 
-    /// Puts one sector in its place, as a power cut may leave it, and gives the one that was there.
-    pub fn land(&mut self, write: Write) -> Option<[u8; SECTOR]> {
-        let at = usize::try_from(write.sector).ok()?.checked_mul(SECTOR)?;
-        let place: &mut [u8; SECTOR] = self
-            .bytes
-            .get_mut(at..at.checked_add(SECTOR)?)?
-            .try_into()
-            .ok()?;
-        Some(std::mem::replace(place, *write.contents))
+    /// As `carry_out`, where the same list goes to the device: a card's data sectors are read from there.
+    pub(crate) fn follow(&mut self, list: &List) -> Result<(), Refusal> {
+        if self.card.is_none() {
+            return self.carry_out(list);
+        }
+        self.fits(list)?;
+        self.land_in(self.bytes.len(), list);
+        Ok(())
+    }
+
+    /// Refused as carrying out refuses it, if a sector is none of the volume's.
+    fn fits(&self, list: &List) -> Result<(), Refusal> {
+        let sectors = self.summary().sectors();
+        let fits = |step| match step {
+            Step::Write(write) => write.sector < sectors,
+            Step::Barrier => true,
+        };
+        match list.steps().all(fits) {
+            true => Ok(()),
+            false => Err(Refusal::BadArgument),
+        }
+    }
+
+    /// Does those writes of a list that lie in the first bytes.
+    fn land_in(&mut self, end: usize, list: &List) {
+        let end = (end / SECTOR) as u64;
+        for step in list.steps() {
+            if let Step::Write(write) = step {
+                if write.sector < end {
+                    let at = write.sector as usize * SECTOR;
+                    self.bytes[at..at + SECTOR].copy_from_slice(write.contents);
+                }
+            }
+        }
+    }
+
+    /// Puts one sector in its place, in memory, as a power cut may leave it, and gives the one that was
+    /// there. One that is none of the image's is a `BadArgument`.
+    pub fn land(&mut self, write: Write) -> Result<[u8; SECTOR], Error> {
+        let mut before = [0; SECTOR];
+        self.sectors(write.sector, &mut before)?;
+        let at = usize::try_from(write.sector)
+            .ok()
+            .and_then(|sector| sector.checked_mul(SECTOR));
+        let held = at.and_then(|at| self.bytes.get_mut(at..)?.get_mut(..SECTOR));
+        match (held, &mut self.card) {
+            (Some(held), _) => held.copy_from_slice(write.contents),
+            (None, Some(card)) => card.change(write.sector, *write.contents),
+            (None, None) => return Err(Refusal::BadArgument.into()),
+        }
+        Ok(before)
     }
 }
 

@@ -1,11 +1,12 @@
 //! What a volume can stand on: a `Device` reads and writes sectors and completes a barrier. Here are an
 //! image in memory and a file or block device.
 
+use std::fmt;
 use std::fs::{File, TryLockError};
 use std::io::{self, Seek, SeekFrom};
 use std::os::unix::fs::FileExt;
+use std::sync::Arc;
 
-use crate::map::Map;
 use crate::system;
 
 /// Bytes of a sector.
@@ -30,10 +31,17 @@ pub trait Device {
     /// now on show the medium itself.
     fn forget(&mut self) {}
 
-    /// A map of the first bytes into memory. A device that has none is read instead.
-    fn map(&self, _length: u64) -> Option<Map> {
+    /// What reads the device beside it. A volume on a device with a reader may be far longer than the
+    /// memory: its data sectors are read as they are asked for. One on a device without is held whole.
+    fn reader(&self) -> Option<Box<dyn Reader>> {
         None
     }
+}
+
+/// Reads a device that others write to.
+pub trait Reader: fmt::Debug + Send + Sync {
+    /// Fills whole sectors from this one on.
+    fn read(&self, first: u64, into: &mut [u8]) -> io::Result<()>;
 }
 
 /// A lent device: what is opened on it gives it back, also where the opening fails.
@@ -58,8 +66,8 @@ impl<D: Device> Device for &mut D {
         D::forget(self)
     }
 
-    fn map(&self, length: u64) -> Option<Map> {
-        D::map(self, length)
+    fn reader(&self) -> Option<Box<dyn Reader>> {
+        D::reader(self)
     }
 }
 
@@ -113,11 +121,11 @@ impl Device for Memory {
     }
 }
 
-/// A file or block device. It is locked as long as this value lives, so that no second program
-/// changes the volume between the reading of its image and the writing of a list.
+/// A file or block device. It is locked as long as this value lives, or a reader of it, so that no second
+/// program changes the volume between the reading of its image and the writing of a list.
 #[derive(Debug)]
 pub struct Disk {
-    file: File,
+    file: Arc<File>,
     length: u64,
 }
 
@@ -137,6 +145,7 @@ impl Disk {
     fn locked(mut file: File) -> io::Result<Disk> {
         // The metadata of a block device give the length 0; its end is found by seeking.
         let length = file.seek(SeekFrom::End(0))?;
+        let file = Arc::new(file);
         Ok(Disk { file, length })
     }
 
@@ -219,8 +228,7 @@ impl Device for Disk {
     }
 
     fn read(&self, first: u64, into: &mut [u8]) -> io::Result<()> {
-        let (start, _) = span(first, into.len(), self.length)?;
-        self.file.read_exact_at(into, start)
+        read_sectors(&self.file, self.length, first, into)
     }
 
     /// One positioned write. One that a signal interrupts is taken up again.
@@ -239,10 +247,32 @@ impl Device for Disk {
         system::forget_pages(&self.file);
     }
 
-    fn map(&self, length: u64) -> Option<Map> {
-        if length > self.length {
-            return None;
-        }
-        Map::new(&self.file, usize::try_from(length).ok()?)
+    fn reader(&self) -> Option<Box<dyn Reader>> {
+        let (file, length) = (self.file.clone(), self.length);
+        Some(Box::new(DiskReader { file, length }))
     }
+}
+
+/// Reads the file or block device of a `Disk`.
+#[derive(Debug)]
+struct DiskReader {
+    file: Arc<File>,
+    length: u64,
+}
+
+impl Reader for DiskReader {
+    fn read(&self, first: u64, into: &mut [u8]) -> io::Result<()> {
+        read_sectors(&self.file, self.length, first, into)
+    }
+}
+
+/// Positioned reads until all of it is there. One that a signal interrupts is taken up again; a file
+/// that was made shorter since it was opened gives an error.
+fn read_sectors(file: &File, length: u64, first: u64, into: &mut [u8]) -> io::Result<()> {
+    let (start, _) = span(first, into.len(), length)?;
+    file.read_exact_at(into, start)
+        .map_err(|error| match error.kind() {
+            io::ErrorKind::UnexpectedEof => past_the_end(),
+            _ => error,
+        })
 }

@@ -183,13 +183,17 @@ impl fmt::Display for Fault {
 pub enum Error {
     /// The volume code refused. Nothing was written.
     Refused(Refusal),
-    /// The volume can be neither mapped into memory nor held in it, or a file can't be held. Nothing
-    /// was written. The longest format has some 2^56 bytes, more than a process has addresses.
+    /// What is to be held does not go into memory: a file, or a volume of a device that has no reader, or
+    /// of one that has the sectors before its data area. Nothing was written. The longest format has some
+    /// 2^56 bytes, more than a process has addresses.
     TooLarge { bytes: u64 },
     /// The device has fewer bytes than the format asks for. Nothing was written.
     DeviceTooShort { needed: u64, present: u64 },
-    /// The device could not be read. Nothing was written.
-    Unreadable(io::Error),
+    /// The device could not be read. The changes before are done; nothing was written of others.
+    Unreadable {
+        changes_done: usize,
+        cause: io::Error,
+    },
     /// A write or barrier failed when the volume was opened, so it isn't known whether what the device
     /// shows is on the medium. No byte was changed.
     Unsettled(io::Error),
@@ -223,6 +227,35 @@ pub struct Interrupted {
     pub cause: io::Error,
 }
 
+impl Error {
+    /// Of a device that could not be read, before any change.
+    pub fn unreadable(cause: io::Error) -> Error {
+        Error::Unreadable {
+            changes_done: 0,
+            cause,
+        }
+    }
+
+    /// The refusal, if it is one.
+    pub fn refusal(&self) -> Option<Refusal> {
+        match self {
+            Error::Refused(refusal) => Some(*refusal),
+            _ => None,
+        }
+    }
+
+    /// The same when so many changes are done.
+    pub(crate) fn after(self, changes_done: usize) -> Error {
+        match self {
+            Error::Unreadable { cause, .. } => Error::Unreadable {
+                changes_done,
+                cause,
+            },
+            other => other,
+        }
+    }
+}
+
 impl fmt::Display for Error {
     fn fmt(&self, f: &mut fmt::Formatter) -> fmt::Result {
         match self {
@@ -235,7 +268,17 @@ impl fmt::Display for Error {
                 f,
                 "the medium has {present} bytes and the format needs {needed}"
             ),
-            Error::Unreadable(cause) => write!(f, "the medium could not be read: {cause}"),
+            Error::Unreadable {
+                changes_done: 0,
+                cause,
+            } => write!(f, "the medium could not be read: {cause}"),
+            Error::Unreadable {
+                changes_done,
+                cause,
+            } => write!(
+                f,
+                "the medium could not be read: {cause}; {changes_done} changes before went through whole"
+            ),
             Error::Unsettled(cause) => write!(
                 f,
                 "the medium failed at the opening ({cause}), so it is not known what stands on it"
@@ -270,8 +313,8 @@ impl std::error::Error for Error {
     fn source(&self) -> Option<&(dyn std::error::Error + 'static)> {
         match self {
             Error::Refused(refusal) => Some(refusal),
-            Error::Unreadable(cause) | Error::Unsettled(cause) => Some(cause),
-            Error::Unlogged { cause, .. } => Some(cause),
+            Error::Unsettled(cause) => Some(cause),
+            Error::Unreadable { cause, .. } | Error::Unlogged { cause, .. } => Some(cause),
             Error::Interrupted(cut) => Some(&cut.cause),
             _ => None,
         }

@@ -54,6 +54,31 @@ results! {
 
     /// The most bytes that a list can have.
     LongestAnswer { code, length }
+
+    /// A read that was lent the sectors before the data area. While `wanted` isn't 0, that sector is asked
+    /// for; when it is, the rest is a `ReadAnswer`.
+    Reading { code, fault, place, count, length, wanted, skip, done, edge, next }
+
+    /// A data sector that a write covers from one byte to before another; 0 stands for none.
+    Part { sector, from, to, position }
+
+    /// A recovery that was lent the sectors before the data area. While `wanted` isn't 0, that sector is
+    /// asked for, and `length` is 0; when it is, the rest is a `RecoverAnswer`.
+    Recovering { code, length, wanted, entry, full }
+}
+
+/// A write or resize that was lent the sectors before the data area. While `wanted.sector` isn't 0, that
+/// sector is asked for, and `length` is 0; when it is, the rest is a `ChangeAnswer`.
+#[repr(C)]
+#[derive(Clone, Copy, Debug, Default, PartialEq, Eq)]
+pub struct Writing {
+    pub code: u64,
+    pub fault: u64,
+    pub place: u64,
+    pub length: u64,
+    pub wanted: Part,
+    pub last: Part,
+    pub full: u64,
 }
 
 /// Declares a call and puts a safe function around it. In C a slice is a pointer and a length, which
@@ -204,6 +229,75 @@ calls! {
     carry_out is goofs_carry_out(image: buffer, list: bytes) -> u64;
 }
 
+// The forms that take only the sectors before the data area. Refusal 3 takes the count of sectors for the
+// image's, and refusal 1 looks at what is lent.
+calls! {
+    summary_lent is goofs_summary_lent(front: bytes, sectors: u64) -> SummaryAnswer;
+
+    check_lent is goofs_check_lent(front: bytes, sectors: u64) -> CheckAnswer;
+
+    check_with_lent is goofs_check_with_lent(
+        front: bytes, sectors: u64, scratch: numbers
+    ) -> CheckAnswer;
+
+    find_lent is goofs_find_lent(front: bytes, sectors: u64, name: bytes) -> FindAnswer;
+
+    list_lent is goofs_list_lent(
+        front: bytes, sectors: u64, index: u64, time: u64, output: buffer, list: buffer
+    ) -> ListAnswer;
+
+    /// Begins a read into an output of `room` bytes; the list is filled at once.
+    read_lent is goofs_read_lent(
+        front: bytes, sectors: u64, name: bytes, offset: u64, count: u64, time: u64, room: u64,
+        list: buffer
+    ) -> Reading;
+
+    /// Takes the bytes of the sector that is wanted. Other than 512 bytes, or an output shorter than
+    /// `count`, get 8 and change nothing else: the same sector can be supplied again.
+    read_step is goofs_read_step(reading: Reading, sector: bytes, output: buffer) -> Reading;
+
+    create_lent is goofs_create_lent(
+        front: bytes, sectors: u64, name: bytes, id: u64, mode: u32, time: u64, list: buffer
+    ) -> ChangeAnswer;
+
+    delete_lent is goofs_delete_lent(
+        front: bytes, sectors: u64, name: bytes, time: u64, list: buffer
+    ) -> ChangeAnswer;
+
+    rename_lent is goofs_rename_lent(
+        front: bytes, sectors: u64, old_name: bytes, new_name: bytes, time: u64, list: buffer
+    ) -> ChangeAnswer;
+
+    rename_set_lent is goofs_rename_set_lent(
+        front: bytes, sectors: u64, names: bytes, lengths: lengths, time: u64, list: buffer
+    ) -> ChangeAnswer;
+
+    /// Begins a resize. The list is whole when no sector is wanted any more.
+    resize_lent is goofs_resize_lent(
+        front: bytes, sectors: u64, name: bytes, size: u64, time: u64, list: buffer
+    ) -> Writing;
+
+    /// Begins a write. The list is whole when no sector is wanted any more.
+    write_lent is goofs_write_lent(
+        front: bytes, sectors: u64, name: bytes, offset: u64, data: bytes, time: u64, list: buffer
+    ) -> Writing;
+
+    /// Takes the bytes of the sector that is wanted, for the same list. Other than 512 bytes get 8 and
+    /// change nothing else.
+    write_step is goofs_write_step(writing: Writing, sector: bytes, list: buffer) -> Writing;
+
+    repair_lent is goofs_repair_lent(front: bytes, sectors: u64, list: buffer) -> RepairAnswer;
+
+    /// Begins a recovery. The list is whole when no sector is wanted any more.
+    recover_lent is goofs_recover_lent(front: bytes, sectors: u64, list: buffer) -> Recovering;
+
+    /// Takes the bytes of the sector that is wanted, for the same front and list. Other than 512 bytes get
+    /// 8 and change nothing else.
+    recover_step is goofs_recover_step(
+        recovering: Recovering, front: bytes, sector: bytes, list: buffer
+    ) -> Recovering;
+}
+
 #[cfg(test)]
 mod tests {
     use super::*;
@@ -250,6 +344,50 @@ mod tests {
             let too_short = goofs_format_record(1_313, 255, 1, 1, 0, 0, 0, null_mut(), 0);
             assert_eq!(too_short.code, 14);
             assert_eq!(goofs_carry_out(null_mut(), 0, null(), 0), one);
+        }
+    }
+
+    /// The same of the forms that are lent the sectors before the data area, and of their steps, which
+    /// nothing was asked for.
+    #[test]
+    fn null_pointers_of_empty_fronts() {
+        let one = 1;
+        unsafe {
+            assert_eq!(goofs_summary_lent(null(), 0, 9).code, one);
+            assert_eq!(goofs_check_lent(null(), 0, 9).code, one);
+            assert_eq!(goofs_check_with_lent(null(), 0, 9, null_mut(), 0).code, one);
+            assert_eq!(goofs_find_lent(null(), 0, 9, null(), 0).code, one);
+            let listed = goofs_list_lent(null(), 0, 9, 0, 0, null_mut(), 0, null_mut(), 0);
+            assert_eq!(listed.code, one);
+            let read = goofs_read_lent(null(), 0, 9, null(), 0, 0, 0, 0, 0, null_mut(), 0);
+            assert_eq!((read.code, read.wanted), (one, 0));
+            let stepped = goofs_read_step(Reading::default(), null(), 0, null_mut(), 0);
+            assert_eq!((stepped.code, stepped.wanted), (8, 0));
+            assert_eq!(
+                goofs_create_lent(null(), 0, 9, null(), 0, 1, 0, 0, null_mut(), 0).code,
+                one
+            );
+            assert_eq!(
+                goofs_delete_lent(null(), 0, 9, null(), 0, 0, null_mut(), 0).code,
+                one
+            );
+            assert_eq!(
+                goofs_rename_lent(null(), 0, 9, null(), 0, null(), 0, 0, null_mut(), 0).code,
+                one
+            );
+            let set = goofs_rename_set_lent(null(), 0, 9, null(), 0, null(), 0, 0, null_mut(), 0);
+            assert_eq!(set.code, one);
+            let resized = goofs_resize_lent(null(), 0, 9, null(), 0, 1, 0, null_mut(), 0);
+            assert_eq!((resized.code, resized.wanted.sector), (one, 0));
+            let written = goofs_write_lent(null(), 0, 9, null(), 0, 0, null(), 0, 0, null_mut(), 0);
+            assert_eq!((written.code, written.wanted.sector), (one, 0));
+            let stepped = goofs_write_step(Writing::default(), null(), 0, null_mut(), 0);
+            assert_eq!((stepped.code, stepped.wanted.sector), (8, 0));
+            assert_eq!(goofs_repair_lent(null(), 0, 9, null_mut(), 0).code, one);
+            assert_eq!(goofs_recover_lent(null(), 0, 9, null_mut(), 0).code, one);
+            let recovering = Recovering::default();
+            let stepped = goofs_recover_step(recovering, null(), 0, null(), 0, null_mut(), 0);
+            assert_eq!((stepped.code, stepped.wanted), (8, 0));
         }
     }
 }

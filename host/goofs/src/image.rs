@@ -1,12 +1,12 @@
-//! A volume's image in memory, read or mapped: the reading calls with Rust's types. An `Image` always
-//! has a valid geometry; whether it is clean and sound, each call finds out.
+//! A volume's image: the reading calls with Rust's types. It is held in memory whole, or, of a volume on a
+//! card, its sectors before the data area are, and the others are read from the card as they are asked
+//! for. An `Image` always has a valid geometry; whether it is clean and sound, each call finds out.
 
 use std::fmt;
-use std::ops::{Deref, DerefMut};
 
-use crate::device::{Device, SECTOR};
+use crate::device::{Device, Reader, SECTOR};
 use crate::error::{Error, Refusal};
-use crate::map::Map;
+use crate::lent::{Calls, Card};
 
 /// The longest name of either edition.
 pub const LONGEST_NAME: usize = Edition::First.longest_name();
@@ -25,41 +25,18 @@ pub(crate) const OCCUPIED: [u8; 2] = [255, 255];
 pub(crate) const FREE: [u8; 2] = [0, 0];
 
 /// It can't be cloned, as a volume may be far longer than the memory.
-#[derive(Debug)]
 pub struct Image {
-    pub(crate) bytes: Bytes,
+    /// The whole volume, or its sectors before the data area.
+    pub(crate) bytes: Vec<u8>,
+    /// Where its data sectors are, if they are not held.
+    pub(crate) card: Option<Card>,
 }
 
-/// The bytes of an image.
-pub(crate) enum Bytes {
-    Read(Vec<u8>),
-    Mapped(Map),
-}
-
-impl Deref for Bytes {
-    type Target = [u8];
-
-    fn deref(&self) -> &[u8] {
-        match self {
-            Bytes::Read(bytes) => bytes,
-            Bytes::Mapped(map) => map,
-        }
-    }
-}
-
-impl DerefMut for Bytes {
-    fn deref_mut(&mut self) -> &mut [u8] {
-        match self {
-            Bytes::Read(bytes) => bytes,
-            Bytes::Mapped(map) => map,
-        }
-    }
-}
-
-/// The length only.
-impl fmt::Debug for Bytes {
+/// The lengths only.
+impl fmt::Debug for Image {
     fn fmt(&self, f: &mut fmt::Formatter) -> fmt::Result {
-        write!(f, "{} bytes", self.len())
+        let (held, all) = (self.bytes.len(), self.summary().sectors() * SECTOR as u64);
+        write!(f, "Image of {all} bytes, of which {held} are held")
     }
 }
 
@@ -268,7 +245,7 @@ fn first_bytes(
     for piece in bytes.chunks_mut(PIECE) {
         device
             .read(done / SECTOR as u64, piece)
-            .map_err(Error::Unreadable)?;
+            .map_err(Error::unreadable)?;
         done += piece.len() as u64;
         progress(done, length);
     }
@@ -278,16 +255,17 @@ fn first_bytes(
 impl Image {
     /// An image of these bytes; refused with 1 to 3.
     pub fn new(bytes: Vec<u8>) -> Result<Image, Refusal> {
-        Image::judged(Bytes::Read(bytes))
+        Image::judged(bytes, None)
     }
 
-    fn judged(bytes: Bytes) -> Result<Image, Refusal> {
-        Refusal::judge(crate::summary(&bytes).code, 0, 0)?;
-        Ok(Image { bytes })
+    fn judged(bytes: Vec<u8>, card: Option<Card>) -> Result<Image, Refusal> {
+        let image = Image { bytes, card };
+        Refusal::judge(image.calls().summary().code, 0, 0)?;
+        Ok(image)
     }
 
-    /// The volume, and no more than it, from a device. If the device has a map, only the metadata
-    /// are read at once, and of the rest what a call looks at.
+    /// The volume, and no more than it, from a device. If the device has a reader, only the sectors before
+    /// the data area are read at once, and of the rest what a call asks for.
     pub fn load(device: &dyn Device) -> Result<Image, Error> {
         Image::load_telling(device, &mut |_, _| ())
     }
@@ -295,6 +273,22 @@ impl Image {
     /// As `load`. `progress` is given how many bytes are read, and how many are to be.
     pub fn load_telling(
         device: &dyn Device,
+        progress: &mut dyn FnMut(u64, u64),
+    ) -> Result<Image, Error> {
+        Image::loaded(device, device.reader(), progress)
+    }
+
+    /// As `load_telling`, all of it into memory; `bytes` are then the whole volume.
+    pub fn load_whole(
+        device: &dyn Device,
+        progress: &mut dyn FnMut(u64, u64),
+    ) -> Result<Image, Error> {
+        Image::loaded(device, None, progress)
+    }
+
+    fn loaded(
+        device: &dyn Device,
+        reader: Option<Box<dyn Reader>>,
         progress: &mut dyn FnMut(u64, u64),
     ) -> Result<Image, Error> {
         let length = device.length();
@@ -309,25 +303,52 @@ impl Image {
         if crate::summary(&superblock).code == Refusal::NotAVolume.number() || bytes > length {
             return Ok(Image::new(superblock)?);
         }
-        // Read the ordinary way, so that a card that can't be read gives an ordinary error. The
-        // map's soundness needs this copy, too.
-        let metadata = first_bytes(device, claimed.data_at() * SECTOR as u64, progress)?;
-        let bytes = match device.map(bytes) {
-            Some(mut map) => {
-                map[..metadata.len()].copy_from_slice(&metadata);
-                Bytes::Mapped(map)
-            }
-            None => Bytes::Read(first_bytes(device, bytes, progress)?),
+        let Some(reader) = reader else {
+            return Ok(Image::new(first_bytes(device, bytes, progress)?)?);
         };
-        Ok(Image::judged(bytes)?)
+        let front = first_bytes(device, claimed.data_at() * SECTOR as u64, progress)?;
+        let card = Card::new(length / SECTOR as u64, claimed.sectors(), reader);
+        Ok(Image::judged(front, Some(card))?)
     }
 
+    /// What is held in memory: the whole volume, or, of one on a card, its sectors before the data area.
     pub fn bytes(&self) -> &[u8] {
         &self.bytes
     }
 
+    pub(crate) fn calls(&self) -> Calls<'_> {
+        Calls {
+            bytes: &self.bytes,
+            card: self.card.as_ref(),
+        }
+    }
+
+    /// Fills whole sectors of the image from this one on, as it has them. Other than whole ones, and ones
+    /// past its end, are a `BadArgument`.
+    pub fn sectors(&self, first: u64, into: &mut [u8]) -> Result<(), Error> {
+        let held_sectors = (self.bytes.len() / SECTOR) as u64;
+        let all = match &self.card {
+            Some(card) => card.volume_sectors,
+            None => held_sectors,
+        };
+        let end = first.saturating_add((into.len() / SECTOR) as u64);
+        if !into.len().is_multiple_of(SECTOR) || end > all {
+            return Err(Refusal::BadArgument.into());
+        }
+        let held = held_sectors.clamp(first, end) - first;
+        let (held, rest) = into.split_at_mut(held as usize * SECTOR);
+        let start = first.min(held_sectors) as usize * SECTOR;
+        held.copy_from_slice(&self.bytes[start..start + held.len()]);
+        match &self.card {
+            Some(card) if !rest.is_empty() => card
+                .sectors(first.max(held_sectors), rest)
+                .map_err(Error::unreadable),
+            _ => Ok(()),
+        }
+    }
+
     pub fn summary(&self) -> Summary {
-        let answer = crate::summary(&self.bytes);
+        let answer = self.calls().summary();
         Summary {
             edition: Edition::of(answer.edition),
             files: answer.files,
@@ -344,7 +365,7 @@ impl Image {
 
     /// Whether the volume is clean and sound.
     pub fn check(&self) -> Result<(), Refusal> {
-        let answer = crate::check(&self.bytes);
+        let answer = self.calls().check();
         Refusal::judge(answer.code, answer.fault, answer.place)
     }
 
@@ -356,7 +377,7 @@ impl Image {
         if scratch.len() < needed {
             scratch.resize(needed, 0);
         }
-        let answer = crate::check_with(&self.bytes, scratch);
+        let answer = self.calls().check_with(scratch);
         Refusal::judge(answer.code, answer.fault, answer.place)
     }
 
@@ -397,7 +418,7 @@ impl Image {
     }
 
     pub fn find(&self, name: &[u8]) -> Result<Entry, Refusal> {
-        let answer = crate::find(&self.bytes, name);
+        let answer = self.calls().find(name);
         Refusal::judge(answer.code, answer.fault, answer.place)?;
         Ok(Entry {
             index: answer.index,
@@ -441,8 +462,8 @@ impl Image {
 
     /// Fills the start of the output with bytes of the file, and says how many. The file's access time
     /// stays: the list that would set it is dropped (`read_touching` gives it, `Volume::read` carries it
-    /// out).
-    pub fn read(&self, name: &[u8], offset: u64, output: &mut [u8]) -> Result<usize, Refusal> {
+    /// out). Where a card can't be read, a part of the output may be filled.
+    pub fn read(&self, name: &[u8], offset: u64, output: &mut [u8]) -> Result<usize, Error> {
         // A time that both editions store.
         let (count, _) = self.read_touching(name, offset, output, 0)?;
         Ok(count)

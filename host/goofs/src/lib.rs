@@ -10,6 +10,13 @@
 //! - `format_record` gives the records of a format one at a time;
 //! - `carry_out` does the writes of a list, and is the only call that changes an image.
 //!
+//! Every call on an image but `recover_slice` and `carry_out` has a form `.._lent` that takes only the
+//! sectors before the data area and the volume's sector count, and answers as the call does on the whole
+//! image. What a read, write, growing resize or recovery needs of the data area it asks for, one sector
+//! after the other (`Reading::wanted`, `Writing::wanted`, `Recovering::wanted`): each is supplied with
+//! `read_step`, `write_step` or `recover_step`, until none is wanted. `volume::Volume` uses these forms
+//! on a card, so that a card may be far larger than the memory.
+//!
 //! At least K = (T + 3) / S rounded up extents of a volume must stay free, T being the sectors of its
 //! allocation table and S those of an extent: the copies of a change are put in the K highest free ones.
 //! Volumes of other writers may have fewer free. Those are read as any other, and every call that would
@@ -34,9 +41,8 @@ pub mod change;
 pub mod device;
 pub mod error;
 pub mod image;
+mod lent;
 pub mod log;
-#[allow(unsafe_code)]
-pub mod map;
 pub mod names;
 pub mod salvage;
 pub mod save;
@@ -50,6 +56,12 @@ pub use ffi::{
     recover, recover_slice, rename, rename_set, repair, resize, summary, write,
 };
 pub use ffi::{
-    ChangeAnswer, CheckAnswer, FindAnswer, FormatRecordAnswer, ListAnswer, LongestAnswer,
-    ReadAnswer, RecoverAnswer, RepairAnswer, SliceAnswer, SummaryAnswer,
+    check_lent, check_with_lent, create_lent, delete_lent, find_lent, list_lent, read_lent,
+    read_step, recover_lent, recover_step, rename_lent, rename_set_lent, repair_lent, resize_lent,
+    summary_lent, write_lent, write_step,
+};
+pub use ffi::{
+    ChangeAnswer, CheckAnswer, FindAnswer, FormatRecordAnswer, ListAnswer, LongestAnswer, Part,
+    ReadAnswer, Reading, RecoverAnswer, Recovering, RepairAnswer, SliceAnswer, SummaryAnswer,
+    Writing,
 };

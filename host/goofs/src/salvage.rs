@@ -17,7 +17,7 @@ use std::collections::BTreeMap;
 use std::fmt;
 
 use crate::device::SECTOR;
-use crate::error::{Fault, FaultKind, Refusal};
+use crate::error::{Error, Fault, FaultKind, Refusal};
 use crate::image::{Entry, Image, State, DIRECTORY_AT};
 use crate::survey::Slot;
 
@@ -39,6 +39,8 @@ pub enum Journal {
     Finished,
     /// A change was cut, or the journal is damaged, and it can't be finished: it may be half done.
     Unknown,
+    /// A change was cut, and the card does not give the copies that would finish it: it may be half done.
+    Unreadable,
 }
 
 /// A directory entry that is not free and no whole file's.
@@ -178,7 +180,8 @@ impl Image {
                     self.carry_out(&list)?;
                     return Ok(Journal::Finished);
                 }
-                Err(_) => Journal::Unknown,
+                Err(Error::Refused(_)) => Journal::Unknown,
+                Err(_) => Journal::Unreadable,
             },
         };
         self.bytes[18..20].fill(0);

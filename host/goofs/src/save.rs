@@ -71,18 +71,18 @@ impl<'s> Save<'s> {
 
     /// Whether the volume refuses the name or the id for a new file, but for what the save itself
     /// clears away. Known before there are any contents.
-    pub fn judge(&self, image: &Image) -> Result<(), Refusal> {
+    pub fn judge(&self, image: &Image) -> Result<(), Error> {
         match image.list_of(&self.create(self.name)) {
             // The old file has the name; the directory may have an entry when the leftover is gone.
-            Ok(_) | Err(Refusal::AlreadyThere | Refusal::DirectoryFull) => (),
-            Err(refusal) => return Err(refusal),
+            Ok(_) | Err(Error::Refused(Refusal::AlreadyThere | Refusal::DirectoryFull)) => (),
+            Err(error) => return Err(error),
         }
         let leftover = self.leftover.as_ref().map(|entry| entry.id);
         let mut ids = image.entries()?.into_iter().map(|entry| entry.id);
         let is_taken =
             image.root().id == self.id || leftover != Some(self.id) && ids.any(|id| id == self.id);
         match is_taken {
-            true => Err(Refusal::AlreadyThere),
+            true => Err(Refusal::AlreadyThere.into()),
             false => Ok(()),
         }
     }

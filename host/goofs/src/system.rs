@@ -10,7 +10,7 @@ use std::os::unix::fs::MetadataExt;
 use std::ptr::null_mut;
 use std::sync::atomic::{AtomicI32, Ordering};
 
-pub(crate) const KNOWN: bool = cfg!(all(
+const KNOWN: bool = cfg!(all(
     target_os = "linux",
     any(
         target_arch = "x86_64",
@@ -38,7 +38,7 @@ extern "C" {
     fn posix_fallocate(file: c_int, offset: i64, length: i64) -> c_int;
     fn lseek(file: c_int, offset: i64, whence: c_int) -> i64;
     fn fstatvfs(file: c_int, about: *mut FileSystem) -> c_int;
-    pub(crate) fn signal(number: c_int, handler: usize) -> usize;
+    fn signal(number: c_int, handler: usize) -> usize;
     fn raise(number: c_int) -> c_int;
     fn pthread_sigmask(how: c_int, set: *const SignalSet, before: *mut SignalSet) -> c_int;
 }

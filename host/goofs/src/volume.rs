@@ -1,5 +1,6 @@
-//! A volume on a device: its image is loaded once and kept in step with what is written. Every change
-//! goes to the device group by group, and waits at each barrier until the medium has all of it.
+//! A volume on a device: its image is loaded once and kept in step with what is written; of a card that is
+//! the sectors before the data area (see `lent`). Every change goes to the device group by group, and
+//! waits at each barrier until the medium has all of it.
 
 use std::io;
 use std::ops::ControlFlow;
@@ -109,7 +110,8 @@ impl<D: Device> Volume<D> {
             if stopped {
                 return Err(Error::Stopped { changes_done: done });
             }
-            let list = self.image.list_of(change)?;
+            let list = self.image.list_of(change);
+            let list = list.map_err(|error| error.after(done))?;
             self.carry_out(&list, &|| change.into(), done)?;
             stopped = progress(Stage::Done, done + 1).is_break();
         }
@@ -227,7 +229,7 @@ impl<D: Device> Volume<D> {
             logged = Some(line);
         }
         // In memory first: a list that doesn't fit the image must not touch the device.
-        self.image.carry_out(list)?;
+        self.image.follow(list)?;
         self.unknown = true;
         let writes = list.steps().filter(|step| *step != Step::Barrier).count();
         let mut sending = Sending::new(&mut self.device);
@@ -530,7 +532,7 @@ mod tests {
 
         let image = volume.image().unwrap();
         let before = image.bytes().to_vec();
-        assert_eq!(image.read(b"f", 1, &mut output), Ok(5));
+        assert_eq!(image.read(b"f", 1, &mut output).unwrap(), 5);
         assert_eq!(image.contents(b"f").unwrap(), b"counts");
         let mut file = image.find(b"f").unwrap();
         assert_eq!(image.entries().unwrap(), [file.clone()]);

@@ -35,7 +35,8 @@ fn free_extents() {
                 true => Some(Refusal::NoRoom),
                 false => None,
             };
-            assert_eq!(removed.err(), expected);
+            let refused = removed.err().and_then(|error| error.refusal());
+            assert_eq!(refused, expected);
         }
     }
 }

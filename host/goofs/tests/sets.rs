@@ -1,6 +1,6 @@
 //! Sets of renames through the library: one change on a device, and which rename is refused.
 
-use goofs::change::{Change, MOST_RENAMES};
+use goofs::change::{Change, List, MOST_RENAMES};
 use goofs::device::Memory;
 use goofs::error::{Error, Refusal};
 use goofs::image::Image;
@@ -45,6 +45,13 @@ fn one_change() {
     }
 }
 
+/// The number of the refusal, if it was one.
+fn number(list: Result<List, Error>) -> Option<u64> {
+    list.err()
+        .and_then(|error| error.refusal())
+        .map(Refusal::number)
+}
+
 #[test]
 fn refusals() {
     for edition in Edition::BOTH {
@@ -55,7 +62,7 @@ fn refusals() {
                 renames,
                 time: TIME,
             });
-            assert_eq!(refused.map_err(Refusal::number), Err(code), "{renames:?}");
+            assert_eq!(number(refused), Some(code), "{renames:?}");
             assert_eq!(image.refused_rename(renames, TIME), Some(place as usize));
         }
         // None, one too many, and a time that edition 1 doesn't store: no rename is to blame.
@@ -69,7 +76,7 @@ fn refusals() {
             (good, wide, (edition == Edition::First).then_some(8)),
         ] {
             let list = image.list_of(&Change::RenameSet { renames, time });
-            assert_eq!(list.err().map(Refusal::number), expected, "{renames:?}");
+            assert_eq!(number(list), expected, "{renames:?}");
             assert_eq!(image.refused_rename(renames, time), None);
         }
         let memory = Memory {

@@ -100,37 +100,61 @@ pub fn read(
     output: &mut [u8],
     list: &mut [u8],
 ) -> ReadAnswer {
-    match read_file(image, name, offset, count, time, output, list) {
+    let read = open_sound(image).and_then(|sound| {
+        let span = Span {
+            name,
+            offset,
+            count,
+        };
+        let room = output.len();
+        read_file(&sound, span, time, room, list, |file, given| {
+            copy_span(&sound, file, offset, &mut output[..given])
+        })
+    });
+    match read {
         Ok(answer) => answer,
         Err(refusal) => refusal.into(),
     }
 }
 
-fn read_file(
-    image: &[u8],
-    name: &[u8],
-    offset: u64,
-    count: u64,
+/// What of a file is asked for.
+pub(crate) struct Span<'n> {
+    pub name: &'n [u8],
+    pub offset: u64,
+    pub count: u64,
+}
+
+/// A read of a sound volume into an output of `room` bytes; `copy` puts so many bytes of the file there.
+pub(crate) fn read_file(
+    sound: &SoundVolume,
+    span: Span,
     time: u64,
-    output: &mut [u8],
+    room: usize,
     list: &mut [u8],
+    copy: impl FnOnce(FileIndex, usize),
 ) -> Result<ReadAnswer, Refusal> {
-    let sound = open_sound(image)?;
-    judge_time(&sound, time)?;
+    let Span {
+        name,
+        offset,
+        count,
+    } = span;
+    judge_time(sound, time)?;
     if count > LONGEST_SPAN {
         return Err(Refusal::new(code::BAD_ARGUMENT));
     }
-    let (file, entry) = find_file(&sound, name)?;
+    let (file, entry) = find_file(sound, name)?;
     if offset > entry.size() {
         return Err(Refusal::new(code::PAST_THE_END));
     }
     let given = count.min(entry.size() - offset);
-    let output = start_of(output, given as usize)?;
+    if given as usize > room {
+        return Err(Refusal::new(code::BUFFER_TOO_SHORT));
+    }
     let volume = sound.volume();
     let entry_at = volume.geometry().entry_at(file);
     let entry = accessed(volume, entry_at, entry::ACCESS_TIME, time);
     let length = access_list(volume, entry, list)?;
-    copy_span(&sound, file, offset, output);
+    copy(file, given as usize);
     Ok(ReadAnswer {
         count: given,
         length,

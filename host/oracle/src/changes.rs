@@ -23,7 +23,7 @@ pub fn create(
     time: u64,
     list: &mut [u8],
 ) -> ChangeAnswer {
-    answer(create_file(image, name, id, mode, time, list))
+    answer(open_sound(image).and_then(|sound| create_file(&sound, name, id, mode, time, list)))
 }
 
 /// Frees the file's entry and its extents.
@@ -33,7 +33,10 @@ pub fn delete(image: &[u8], name: &[u8], time: u64, list: &mut [u8]) -> ChangeAn
 
 /// Gives the file another size; what is added at its end is zero.
 pub fn resize(image: &[u8], name: &[u8], size: u64, time: u64, list: &mut [u8]) -> ChangeAnswer {
-    answer(resize_file(image, name, size, time, list))
+    answer(open_sound(image).and_then(|sound| {
+        let volume = sound.volume();
+        resize_file(&sound, name, size, time, list, |s| volume.sector(s))
+    }))
 }
 
 /// Writes the data at an offset up to the size.
@@ -45,7 +48,10 @@ pub fn write(
     time: u64,
     list: &mut [u8],
 ) -> ChangeAnswer {
-    answer(write_file(image, name, offset, data, time, list))
+    answer(open_sound(image).and_then(|sound| {
+        let volume = sound.volume();
+        write_file(&sound, name, offset, data, time, list, |s| volume.sector(s))
+    }))
 }
 
 pub(crate) fn answer(length: Result<u64, Refusal>) -> ChangeAnswer {
@@ -58,15 +64,14 @@ pub(crate) fn answer(length: Result<u64, Refusal>) -> ChangeAnswer {
     }
 }
 
-fn create_file(
-    image: &[u8],
+pub(crate) fn create_file(
+    sound: &SoundVolume,
     name: &[u8],
     id: u64,
     mode: u32,
     time: u64,
     list: &mut [u8],
 ) -> Result<u64, Refusal> {
-    let sound = open_sound(image)?;
     let volume = sound.volume();
     let edition = sound.edition();
     if !edition.new_name_is_good(name) || id == 0 || !edition.time_fits(time) {
@@ -109,28 +114,30 @@ fn delete_file(image: &[u8], name: &[u8], time: u64, list: &mut [u8]) -> Result<
     transaction(volume, &targets, list)
 }
 
-fn resize_file(
-    image: &[u8],
+/// A resize of a sound volume; `old` gives a data sector's bytes.
+pub(crate) fn resize_file<'s>(
+    sound: &SoundVolume,
     name: &[u8],
     size: u64,
     time: u64,
     list: &mut [u8],
+    old: impl FnMut(Sector) -> &'s [u8; SECTOR],
 ) -> Result<u64, Refusal> {
-    let sound = open_sound(image)?;
-    judge_time(&sound, time)?;
-    let (file, entry) = find_file(&sound, name)?;
+    judge_time(sound, time)?;
+    let (file, entry) = find_file(sound, name)?;
     if size > entry.size() {
         let growth = size - entry.size();
         if growth > LONGEST_SPAN {
             return Err(Refusal::new(code::BAD_ARGUMENT));
         }
         return write_span(
-            &sound,
+            sound,
             file,
             entry.size(),
             &ZEROS[..growth as usize],
             time,
             list,
+            old,
         );
     }
     if size == entry.size() {
@@ -143,37 +150,39 @@ fn resize_file(
     transaction(volume, &targets, list)
 }
 
-fn write_file(
-    image: &[u8],
+/// A write to a sound volume; `old` gives a data sector's bytes.
+pub(crate) fn write_file<'s>(
+    sound: &SoundVolume,
     name: &[u8],
     offset: u64,
     data: &[u8],
     time: u64,
     list: &mut [u8],
+    old: impl FnMut(Sector) -> &'s [u8; SECTOR],
 ) -> Result<u64, Refusal> {
-    let sound = open_sound(image)?;
-    judge_time(&sound, time)?;
+    judge_time(sound, time)?;
     if data.len() as u64 > LONGEST_SPAN {
         return Err(Refusal::new(code::BAD_ARGUMENT));
     }
-    let (file, entry) = find_file(&sound, name)?;
+    let (file, entry) = find_file(sound, name)?;
     if offset > entry.size() {
         return Err(Refusal::new(code::PAST_THE_END));
     }
     if data.is_empty() {
         return Ok(0);
     }
-    write_span(&sound, file, offset, data, time, list)
+    write_span(sound, file, offset, data, time, list, old)
 }
 
 /// Writes data that is not empty at an offset up to the size: refusals 13 and 14, else the list.
-fn write_span(
+fn write_span<'s>(
     sound: &SoundVolume,
     file: FileIndex,
     offset: u64,
     data: &[u8],
     time: u64,
     list: &mut [u8],
+    mut old: impl FnMut(Sector) -> &'s [u8; SECTOR],
 ) -> Result<u64, Refusal> {
     let volume = sound.volume();
     let geometry = volume.geometry();
@@ -219,7 +228,7 @@ fn write_span(
         let from = offset.max(sector_start);
         let to = end.min(sector_start + sector_bytes);
         if to - from < sector_bytes {
-            contents.copy_from_slice(volume.sector(sector));
+            contents.copy_from_slice(old(sector));
         }
         let new_bytes = &data[(from - offset) as usize..(to - offset) as usize];
         contents[(from - sector_start) as usize..(to - sector_start) as usize]

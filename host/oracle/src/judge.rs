@@ -143,19 +143,26 @@ pub fn read_superblock(sector: &[u8; SECTOR]) -> Result<Superblock, Refusal> {
 
 /// Opens an image as a volume of any state: refusals 1 to 3.
 pub fn open(image: &[u8]) -> Result<(Volume<'_>, State), Refusal> {
-    if image.is_empty() || !image.len().is_multiple_of(SECTOR) {
+    open_front(image, (image.len() / SECTOR) as u64)
+}
+
+/// The same of the sectors before the data area, on a medium of so many sectors. Lent sectors that end before
+/// the data area get 3.
+pub fn open_front(front: &[u8], sectors: u64) -> Result<(Volume<'_>, State), Refusal> {
+    if front.is_empty() || !front.len().is_multiple_of(SECTOR) {
         return Err(Refusal::new(code::NOT_WHOLE_SECTORS));
     }
     let Superblock {
         edition,
         geometry,
         state,
-    } = read_superblock(layout::sector(image, Sector(0)))?;
-    if geometry.end().0 > (image.len() / SECTOR) as u64 {
+    } = read_superblock(layout::sector(front, Sector(0)))?;
+    let lent = (front.len() / SECTOR) as u64;
+    if geometry.end().0 > sectors || geometry.data_at().0 > lent {
         return Err(Refusal::new(code::OUT_OF_BOUNDS));
     }
     let volume = Volume {
-        image,
+        image: front,
         edition,
         geometry,
     };
@@ -165,8 +172,13 @@ pub fn open(image: &[u8]) -> Result<(Volume<'_>, State), Refusal> {
 /// Opens an image as a clean volume: refusals 1 to 6.
 pub fn open_clean(image: &[u8]) -> Result<Volume<'_>, Refusal> {
     let (volume, state) = open(image)?;
+    require_clean(state).map(|()| volume)
+}
+
+/// Refusals 4 to 6.
+pub(crate) fn require_clean(state: State) -> Result<(), Refusal> {
     match state {
-        State::Clean => Ok(volume),
+        State::Clean => Ok(()),
         State::Unfinished => Err(Refusal::new(code::UNFINISHED)),
         State::Waiting(_) => Err(Refusal::new(code::WAITING)),
         State::Damaged => Err(Refusal::new(code::DAMAGED)),
@@ -176,6 +188,13 @@ pub fn open_clean(image: &[u8]) -> Result<Volume<'_>, Refusal> {
 /// Opens an image as a sound volume: refusals 1 to 7.
 pub fn open_sound(image: &[u8]) -> Result<SoundVolume<'_>, Refusal> {
     judge(open_clean(image)?)
+}
+
+/// The same of the sectors before the data area.
+pub fn open_sound_front(front: &[u8], sectors: u64) -> Result<SoundVolume<'_>, Refusal> {
+    let (volume, state) = open_front(front, sectors)?;
+    require_clean(state)?;
+    judge(volume)
 }
 
 /// Refusal 7 of a clean volume.
@@ -237,12 +256,16 @@ pub(crate) fn judge_marks(volume: Volume) -> Result<(), Refusal> {
 }
 
 pub(crate) fn judge_names_and_sizes(volume: Volume) -> Result<(), Refusal> {
-    let largest = volume.geometry.largest_size();
-    let wrong = |entry: Entry| match entry.name() {
-        None => true,
-        Some(name) => name.contains(&0) || entry.size() > largest,
-    };
+    let wrong = |entry| name_or_size_is_bad(entry, volume.geometry);
     lowest_file(fault::NAME_OR_SIZE, volume.occupied_entries(), wrong)
+}
+
+/// Fault 22 of an occupied entry, by its own sector and the geometry.
+pub(crate) fn name_or_size_is_bad(entry: Entry, geometry: Geometry) -> bool {
+    match entry.name() {
+        None => true,
+        Some(name) => name.contains(&0) || entry.size() > geometry.largest_size(),
+    }
 }
 
 fn judge_same_names(volume: Volume) -> Result<(), Refusal> {

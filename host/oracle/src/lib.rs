@@ -12,10 +12,12 @@
 //! - `rename_set`: several renames in one transaction;
 //! - `repair`: freeing extents that belong to no file;
 //! - `recovery`: finishing a transaction that a power cut interrupted, at once or in slices;
+//! - `lent`: calls on the sectors before the data area, which ask for the data sectors that they need;
 //! - `format`: the geometry for a sector count, and the format's records;
 //! - `lists`: write lists and carrying them out;
 //! - `staging`: where a list's copies stand;
-//! - `report`: the text of the small program that describes a superblock.
+//! - `report`: the text of the small program that describes a superblock;
+//! - `listing`: the output of the program that lists a volume sector by sector.
 //!
 //! What a run of calls must answer is told a second time, without image and list, by `ledger`,
 //! which is fed the `request`s; `compare` holds an image against it, and `described` makes one of an image. `power` cuts lists, and `draw`
@@ -34,6 +36,8 @@ pub mod format;
 pub mod judge;
 pub mod layout;
 pub mod ledger;
+pub mod lent;
+pub mod listing;
 pub mod lists;
 pub mod power;
 pub mod recovery;

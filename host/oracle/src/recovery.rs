@@ -20,7 +20,7 @@ pub fn recover(image: &[u8], list: &mut [u8]) -> RecoverAnswer {
 }
 
 fn recover_volume(image: &[u8], list: &mut [u8]) -> Result<u64, Refusal> {
-    let (volume, journal) = open_journal(image)?;
+    let (volume, journal) = with_journal(open(image)?)?;
     let Some(mut copies) = journal else {
         return Ok(0);
     };
@@ -44,7 +44,7 @@ pub fn recover_slice(image: &[u8], budget: u64, list: &mut [u8]) -> SliceAnswer 
 }
 
 fn slice_of_recovery(image: &[u8], budget: u64, list: &mut [u8]) -> Result<SliceAnswer, Refusal> {
-    let (volume, journal) = open_journal(image)?;
+    let (volume, journal) = with_journal(open(image)?)?;
     if budget == 0 {
         return Err(Refusal::new(code::BAD_ARGUMENT));
     }
@@ -78,9 +78,10 @@ fn put_copies(volume: Volume, copies: &[Copy], writer: &mut ListWriter) {
     writer.barrier();
 }
 
-/// The journal of a waiting volume, or nothing for a clean one: refusals 1 to 4 and 6.
-fn open_journal(image: &[u8]) -> Result<(Volume<'_>, Option<Vec<Copy>>), Refusal> {
-    let (volume, state) = open(image)?;
+/// With the journal of a waiting volume, or nothing for a clean one: refusals 4 and 6.
+pub(crate) fn with_journal(
+    (volume, state): (Volume, State),
+) -> Result<(Volume, Option<Vec<Copy>>), Refusal> {
     match state {
         State::Clean => Ok((volume, None)),
         State::Unfinished => Err(Refusal::new(code::UNFINISHED)),
@@ -93,9 +94,9 @@ fn open_journal(image: &[u8]) -> Result<(Volume<'_>, Option<Vec<Copy>>), Refusal
     }
 }
 
-struct Copy {
-    target: Sector,
-    source: Sector,
+pub(crate) struct Copy {
+    pub target: Sector,
+    pub source: Sector,
 }
 
 /// The journal's first entries in their order, or nothing if one is bad.

@@ -8,6 +8,8 @@ use oracle::testing::beside::{Beside, Calls};
 use oracle::testing::runs::{random_run, Cutting};
 use oracle::testing::Compared;
 
+use crate::also_lent::AlsoLent;
+use crate::lent::LentForms;
 use crate::sums::Counts;
 use crate::{damage, edges, formats};
 
@@ -58,15 +60,15 @@ pub struct Case {
 
 /// The proved library, or what stands for it in a test, beside the second program.
 struct Both<'c, C> {
-    calls: &'c C,
+    calls: AlsoLent<'c, C>,
     counts: &'c Counts,
 }
 
-impl<C: Calls> Beside for Both<'_, C> {
-    type Other = C;
+impl<'c, C: Calls + LentForms> Beside for Both<'c, C> {
+    type Other = AlsoLent<'c, C>;
 
-    fn other(&self) -> &C {
-        self.calls
+    fn other(&self) -> &AlsoLent<'c, C> {
+        &self.calls
     }
 
     fn count(&self, compared: Compared, times: usize) {
@@ -91,7 +93,8 @@ impl Case {
     }
 
     /// Puts the case to both sides; panics at a difference.
-    pub fn put(&self, calls: &impl Calls, counts: &Counts) {
+    pub fn put(&self, calls: &(impl Calls + LentForms), counts: &Counts) {
+        let calls = AlsoLent::new(calls, counts, self.seed);
         let both = &Both { calls, counts };
         let mut draw = Draw::new(self.seed);
         match self.kind {

@@ -11,6 +11,7 @@ macro_rules! as_oracle {
         oracle::answers::$kind { $($field),* }
     }};
 }
+pub(crate) use as_oracle;
 
 pub struct Proved;
 

@@ -11,6 +11,7 @@ use std::time::{Duration, Instant};
 use oracle::testing::beside::Calls;
 
 use crate::case::Case;
+use crate::lent::LentForms;
 use crate::sums::{Counts, Sums};
 
 pub enum Limit {
@@ -40,7 +41,11 @@ pub struct Outcome {
 }
 
 /// Puts one case to both sides, and tells what differs.
-pub fn put(case: Case, calls: &impl Calls, counts: &Counts) -> Result<(), Difference> {
+pub fn put(
+    case: Case,
+    calls: &(impl Calls + LentForms),
+    counts: &Counts,
+) -> Result<(), Difference> {
     let unwound = catch_unwind(AssertUnwindSafe(|| case.put(calls, counts)));
     unwound.map_err(|panic| Difference {
         case,
@@ -60,7 +65,7 @@ fn message(panic: &(dyn Any + Send)) -> String {
 /// Puts cases to both sides. `shown` is called now and then with the sums so far.
 pub fn soak(
     settings: &Settings,
-    calls: &(impl Calls + Sync),
+    calls: &(impl Calls + LentForms + Sync),
     mut shown: impl FnMut(&Sums, Duration),
 ) -> Outcome {
     let started = Instant::now();

@@ -5,15 +5,17 @@ use std::process::{Command, Output};
 use oracle::answers::{
     code, CheckAnswer, FormatRecordAnswer, RecoverAnswer, RepairAnswer, SliceAnswer,
 };
+use oracle::layout::SECTOR;
 use oracle::testing::beside::Calls;
 use oracle::testing::Compared;
 use oracle::{Answer, FormatRequest, Request};
 use soak::case::Case;
+use soak::lent::{geometry, Front, LentForms};
 use soak::proved::Proved;
 use soak::soaking::{put, soak, Limit, Outcome, Settings};
 use soak::sums::Counts;
 
-fn soaked(calls: &(impl Calls + Sync), cases: u64, threads: usize) -> Outcome {
+fn soaked(calls: &(impl Calls + LentForms + Sync), cases: u64, threads: usize) -> Outcome {
     let settings = Settings {
         seed: 1,
         threads,
@@ -57,6 +59,15 @@ enum Planted {
     FormattedRoot,
     /// A byte of the image.
     CarriedOutElsewhere,
+    /// In lent forms only: numbers, bytes, a sector asked for, and refusals of one sector too few.
+    LentRenameIsDone,
+    LentLastByteRead,
+    LentListOfRecovery,
+    LentSectorTwice,
+    LentRepairFreedOneMore,
+    LentCheckOfAnotherPlace,
+    ShortFrontIsOther,
+    FewerSectorsAreOther,
     /// So that what is found is what was planted.
     Nothing,
 }
@@ -139,6 +150,70 @@ impl Calls for Planted {
     }
 }
 
+impl LentForms for Planted {
+    fn ask_lent(
+        &self,
+        request: &Request,
+        front: &Front,
+        output: &mut [u8],
+        list: &mut [u8],
+    ) -> (Answer, Vec<u64>) {
+        let (mut answer, mut asked) = Proved.ask_lent(request, front, output, list);
+        match (self, request, &mut answer) {
+            (Planted::LentRenameIsDone, Request::Rename { .. }, Answer::Change(answer))
+                if answer.code == code::NOT_THERE =>
+            {
+                answer.code = code::DONE
+            }
+            (Planted::LentLastByteRead, Request::Read { .. }, Answer::Read(answer))
+                if answer.count > 512 =>
+            {
+                output[answer.count as usize - 1] ^= 128
+            }
+            (Planted::LentSectorTwice, Request::Write { .. }, Answer::Change(_)) => {
+                asked.extend(asked.last().copied())
+            }
+            (Planted::ShortFrontIsOther, Request::Check, Answer::Check(answer))
+                if answer.code == 3 && front.count as usize * SECTOR > front.image.len() =>
+            {
+                answer.code = 2
+            }
+            (Planted::FewerSectorsAreOther, Request::Check, Answer::Check(answer))
+                if answer.code == 3
+                    && geometry(front.image).is_some_and(|it| it.end().0 == front.count + 1) =>
+            {
+                answer.code = 2
+            }
+            _ => {}
+        }
+        (answer, asked)
+    }
+
+    fn recover_lent(&self, front: &Front, list: &mut [u8]) -> (RecoverAnswer, Vec<u64>) {
+        let (answer, asked) = Proved.recover_lent(front, list);
+        if *self == Planted::LentListOfRecovery && answer.length > 0 {
+            list[16] ^= 1;
+        }
+        (answer, asked)
+    }
+
+    fn repair_lent(&self, front: &Front, list: &mut [u8]) -> RepairAnswer {
+        let mut answer = Proved.repair_lent(front, list);
+        if *self == Planted::LentRepairFreedOneMore && answer.freed == 2 {
+            answer.freed = 3;
+        }
+        answer
+    }
+
+    fn check_with_lent(&self, front: &Front, scratch: &mut [u32]) -> CheckAnswer {
+        let mut answer = Proved.check_with_lent(front, scratch);
+        if *self == Planted::LentCheckOfAnotherPlace && answer.fault == 26 {
+            answer.place += 1;
+        }
+        answer
+    }
+}
+
 /// Each is found, its case as told replays it, and the proved side alone has no difference there.
 #[test]
 fn planted_differences_are_found_and_replayed() {
@@ -152,6 +227,14 @@ fn planted_differences_are_found_and_replayed() {
         Planted::ByteBehindRecovery,
         Planted::FormattedRoot,
         Planted::CarriedOutElsewhere,
+        Planted::LentRenameIsDone,
+        Planted::LentLastByteRead,
+        Planted::LentListOfRecovery,
+        Planted::LentSectorTwice,
+        Planted::LentRepairFreedOneMore,
+        Planted::LentCheckOfAnotherPlace,
+        Planted::ShortFrontIsOther,
+        Planted::FewerSectorsAreOther,
     ] {
         let outcome = soaked(&planted, 36, 1);
         let difference = outcome.difference.expect("it is found");

@@ -1,11 +1,12 @@
 -- `changes::rename_set` meets its contract. The judgement refuses, or `rename_set::rename_set_in` gives the answer and the list.
 use Prim.Native.Nat.{_/_}
-use mathlib.Core.Path.{sym, ap, _∙_}
+use mathlib.Core.Path.{_∙_}
 use lib.ListN.{length}
-use Rattle.model.specs.declared.Verdict.{Verdict}
 use Rattle.model.specs.Disk.{view}
 use Rattle.model.specs.RenameSet.{renameSetConditions, setPlanned, renameSetDecision, renameSetAnswer, renameSetList}
+use Rattle.laws.proofs.Judged.{accepted}
 use Rattle.commit.proofs.Decided.{refused-as-judged}
+use Rattle.changes.proofs.Lengths.{number-is, comes-by}
 use borrow.Author.Needs.{needs}
 use Rattle.changes.proofs.rename_set.Statement.{statement}
 use Rattle.changes.proofs.rename_set.Tie as tie
@@ -14,13 +15,23 @@ judge-requires : tie.Need-judge-requires
 judge-requires c κs = search needs
 
 rename-set-in-requires : tie.Need-rename-set-in-requires
-rename-set-in-requires c κs = ap (λ (v : Verdict). v .number) (sym (c .before .before .before .judge .ensures)) ∙ c .before .if1 .taken
+rename-set-in-requires c κs =
+    let a = c .before .before .before .before .before .before .before .before .args in
+    accepted (a .img .now) (number-is (c .before .before .before .judge .ensures) (c .before .if1 .taken))
 
 same-length : tie.Need-same-length
 same-length c = search needs
 
 returns : tie.Need-returns
-returns c = search needs
+unfolding renameSetAnswer renameSetList renameSetDecision
+returns c =
+    let j = c .before .before in
+    let a = j .before .before .before .before .before .before .before .before .before .args in
+    let d = view (a .img .now) in
+    let ok = number-is (j .before .before .before .before .judge .ensures) (j .before .before .if1 .taken) in
+    comes-by (length (a .img .now)) d (renameSetConditions d (a .names .now) (a .lengths .now) (a .time))
+    (setPlanned d (a .names .now) (a .lengths .now) (a .time) (length (a .lengths .now) / 2))
+    (a .list .now) ok (j .rename-set-in .ensures)
 
 refused-requires : tie.Need-refused-requires
 refused-requires c κs = search needs
@@ -30,9 +41,10 @@ unfolding renameSetAnswer renameSetList renameSetDecision
 returns-2 c =
     let a = c .before .before .before .before .before .before .before .before .args in
     let d = view (a .img .now) in
-    let h = refused-as-judged (length (a .img .now)) d (renameSetConditions d (a .names .now) (a .lengths .now) (a .time))
-    (setPlanned d (a .names .now) (a .lengths .now) (a .time) (length (a .lengths .now) / 2)) (a .list .now)
-    (c .before .before .before .judge .result) (c .before .before .before .judge .ensures) (c .before .if1 .left) in
+    let h =
+    refused-as-judged (length (a .img .now)) d (renameSetConditions d (a .names .now) (a .lengths .now) (a .time))
+    (setPlanned d (a .names .now) (a .lengths .now) (a .time) (length (a .lengths .now) / 2))
+    (a .list .now) (c .before .before .before .judge .result) (c .before .before .before .judge .ensures) (c .before .if1 .left) in
     (c .refused .ensures ∙ h .0, h .1)
 
 pub rename-set-spec : {M : Type 1} → statement M

@@ -3,8 +3,7 @@ use mathlib.Core.Path.{sym, ap, _∙_}
 use native.Mathlib.Omega.{arith}
 use Rattle.model.specs.declared.Geometry.{Geometry}
 use Rattle.model.specs.Disk.{view}
-use Rattle.laws.proofs.Refusals.{image-length}
-use Rattle.laws.proofs.Judged.{judged-image, judged-opened}
+use Rattle.laws.proofs.Judged.{accepted-length, accepted-opened}
 use Rattle.laws.proofs.Named.{named-at}
 use Rattle.commit.proofs.Decided.{named-short}
 use Rattle.delete.proofs.Decisions.{delete-bad, delete-missing, delete-found}
@@ -13,7 +12,7 @@ use Rattle.delete.proofs.delete_in.Statement.{statement}
 use Rattle.delete.proofs.delete_in.Tie as tie
 
 geometry-in-requires : tie.Need-geometry-in-requires
-geometry-in-requires c κs = image-length _ _ (judged-image _ _ (c .before .before .before .pre))
+geometry-in-requires c κs = accepted-length _ (c .before .before .before .pre)
 
 bad-name-or-time-requires : tie.Need-bad-name-or-time-requires
 bad-name-or-time-requires c κs = search needs
@@ -30,7 +29,7 @@ returns c =
     let s = f .before .before .before .before .before in
     let a = s .args in
     rw (c .refused .ensures, c .before .refusal .ensures)
-    (delete-bad (a .img .now) (a .list .now) (a .name .now) (a .time) (s .pre)
+    (delete-bad (a .img .now) (a .list .now) (a .name .now) (a .time) (s .pre .verdict)
     (rw (f .before .geometry-in .ensures) at (sym (f .bad-name-or-time .ensures) ∙ c .before .before .if1 .taken)))
 
 file-named-requires : tie.Need-file-named-requires
@@ -38,7 +37,7 @@ file-named-requires c κs =
     let f = c .before in
     let s = f .before .before .before .before .before in
     let e = f .before .geometry-in .result .edition in
-    (judged-opened _ _ (f .before .geometry-in .ensures) (omega arith) (s .pre), named-short e _ (s .args .time) (sym (f .bad-name-or-time .ensures) ∙ c .if1 .left))
+    (accepted-opened _ _ (f .before .geometry-in .ensures) (omega arith) (s .pre), named-short e _ (s .args .time) (sym (f .bad-name-or-time .ensures) ∙ c .if1 .left))
 
 enum-known-i : tie.Need-enum-known-i
 enum-known-i c = search needs
@@ -48,7 +47,7 @@ delete-file-requires c κs =
     let f = c .before .before .before .before in
     let s = f .before .before .before .before .before .before .before in
     let a = s .args in
-    let o = judged-opened _ _ (f .before .before .before .geometry-in .ensures) (omega (arith, f .before .before .before .geometry-in .ok)) (s .pre) in
+    let o = accepted-opened _ _ (f .before .before .before .geometry-in .ensures) (omega (arith, f .before .before .before .geometry-in .ok)) (s .pre) in
     let found = sym (f .file-named .ensures) ∙ c .before .before .i .given .1 in
     let low = named-at (view (a .img .now)) (a .name .now) (c .before .before .i .given .0 .0) (sym found) in
     let e = ap (λ (x : Geometry). x .files) (o .is) in
@@ -65,7 +64,7 @@ returns-2 c =
     let a = s .args in
     let good = rw (f .before .before .before .geometry-in .ensures) at (sym (f .before .before .bad-name-or-time .ensures) ∙ f .before .if1 .left) in
     let found = sym (f .file-named .ensures) ∙ k .before .before .before .i .given .1 in
-    delete-found (a .img .now) (a .list .now) (a .name .now) (a .time) (s .pre) (k .before .before .before .i .given .0 .0) good found (k .delete-file .ensures)
+    delete-found (a .img .now) (a .list .now) (a .name .now) (a .time) (s .pre .verdict) (k .before .before .before .i .given .0 .0) good found (k .delete-file .ensures)
 
 enum-told : tie.Need-enum-told
 enum-told c = search needs
@@ -83,7 +82,7 @@ returns-3 c =
     let a = s .args in
     let good = rw (f .before .before .before .geometry-in .ensures) at (sym (f .before .before .bad-name-or-time .ensures) ∙ f .before .if1 .left) in
     let none = sym (f .file-named .ensures) ∙ c .before .before .enum-told .given .1 in
-    rw (c .refused2 .ensures, c .before .refusal2 .ensures) (delete-missing (a .img .now) (a .list .now) (a .name .now) (a .time) (s .pre) good none)
+    rw (c .refused2 .ensures, c .before .refusal2 .ensures) (delete-missing (a .img .now) (a .list .now) (a .name .now) (a .time) (s .pre .verdict) good none)
 
 pub delete-in-spec : {M : Type 1} → statement M
 delete-in-spec =

@@ -3,6 +3,7 @@ use mathlib.Core.Path.{sym, ap, _∙_}
 use borrow.Author.Tests.{eq-eqb, ne-eqb}
 use Rattle.model.specs.declared.Verdict.{Verdict}
 use Rattle.model.specs.Find.{foundBy, findAnswer}
+use Rattle.laws.proofs.Judged.{accepted}
 use borrow.Author.Needs.{needs}
 use Rattle.queries.proofs.find.Statement.{statement}
 use Rattle.queries.proofs.find.Tie as tie
@@ -11,7 +12,7 @@ judge-requires : tie.Need-judge-requires
 judge-requires c κs = search needs
 
 find-in-requires : tie.Need-find-in-requires
-find-in-requires c κs = ap (λ (v : Verdict). v .number) (sym (c .before .before .judge .ensures)) ∙ c .if1 .taken
+find-in-requires c κs = accepted _ (ap (λ (v : Verdict). v .number) (sym (c .before .before .judge .ensures)) ∙ c .if1 .taken)
 
 returns : tie.Need-returns
 unfolding findAnswer

@@ -1,7 +1,12 @@
 -- `queries::read` meets its contract. The judgement refuses, or `reading::read_in` gives the answer, the output and the list.
 use mathlib.Core.Path.{sym, ap, _∙_}
+use native.Mathlib.Omega.{arith}
+use lib.ListN.{length}
 use Rattle.model.specs.declared.Verdict.{Verdict}
-use Rattle.reading.proofs.ReadAnswers.{read-judged}
+use Rattle.model.specs.Disk.{view}
+use Rattle.laws.proofs.Refusals.{image-fits}
+use Rattle.laws.proofs.Judged.{judged-image, accepted, judged-own}
+use Rattle.reading.proofs.ReadAnswers.{read-judged, gives-none, gives-same}
 use borrow.Author.Needs.{needs}
 use Rattle.queries.proofs.read.Statement.{statement}
 use Rattle.queries.proofs.read.Tie as tie
@@ -10,7 +15,10 @@ judge-requires : tie.Need-judge-requires
 judge-requires c κs = search needs
 
 read-in-requires : tie.Need-read-in-requires
-read-in-requires c κs = ap (λ (v : Verdict). v .number) (sym (c .before .before .before .before .judge .ensures)) ∙ c .before .before .if1 .taken
+read-in-requires c κs =
+    let ok = ap (λ (v : Verdict). v .number) (sym (c .before .before .before .before .judge .ensures)) ∙ c .before .before .if1 .taken in
+    let f = image-fits _ _ (judged-image _ _ ok) in
+    (accepted _ ok, omega (arith, f .1))
 
 same-length : tie.Need-same-length
 same-length c = search needs
@@ -19,7 +27,14 @@ same-length-2 : tie.Need-same-length-2
 same-length-2 c = search needs
 
 returns : tie.Need-returns
-returns c = search needs
+returns c =
+    let l = c .before .before .before .before in
+    let k = l .before .before .before in
+    let j = k .before .before in
+    let a = j .before .before .before .before .before .args in
+    let ok = ap (λ (v : Verdict). v .number) (sym (j .judge .ensures)) ∙ k .if1 .taken in
+    gives-same (length (a .img .now)) (a .img .now) (a .out .now) (a .list .now) (a .name .now) (a .offset) (a .count) (a .time) _
+    (judged-own (length (a .img .now)) (view (a .img .now)) ok) (l .read-in .ensures)
 
 not-read-requires : tie.Need-not-read-requires
 not-read-requires c κs = search needs
@@ -29,7 +44,9 @@ returns-2 c =
     let j = c .before .before .before in
     let a = j .before .before .before .before .before .args in
     rw (c .not-read .ensures)
-    (read-judged (a .img .now) (a .out .now) (a .list .now) (a .name .now) (a .offset) (a .count) (a .time) (j .judge .result) (j .judge .ensures) (c .before .if1 .left))
+    (gives-none (length (a .img .now)) (a .img .now) (a .out .now) (a .list .now) (a .name .now) (a .offset) (a .count) (a .time) (j .judge .result)
+    (read-judged (length (a .img .now)) (a .img .now) (a .list .now) (a .name .now) (a .offset) (a .count) (a .time) (length (a .out .now)) (j .judge .result) (j .judge .ensures)
+    (c .before .if1 .left)))
 
 pub read-spec : {M : Type 1} → statement M
 read-spec =

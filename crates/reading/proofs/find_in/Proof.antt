@@ -4,8 +4,7 @@ use native.Mathlib.Omega.{arith}
 use Rattle.model.specs.declared.Geometry.{Geometry}
 use Rattle.model.specs.Disk.{view}
 use Rattle.model.specs.Find.{foundBy}
-use Rattle.laws.proofs.Refusals.{image-length}
-use Rattle.laws.proofs.Judged.{judged-image, judged-opened}
+use Rattle.laws.proofs.Judged.{accepted-length, accepted-opened}
 use Rattle.laws.proofs.Named.{named-at, named-entry, short-name}
 use Rattle.reading.proofs.Verdicts.{find-bad, find-missing, find-done}
 use borrow.Author.Needs.{needs}
@@ -13,7 +12,7 @@ use Rattle.reading.proofs.find_in.Statement.{statement}
 use Rattle.reading.proofs.find_in.Tie as tie
 
 geometry-in-requires : tie.Need-geometry-in-requires
-geometry-in-requires c κs = image-length _ _ (judged-image _ _ (c .before .before .pre))
+geometry-in-requires c κs = accepted-length _ (c .before .before .pre)
 
 bad-name-requires : tie.Need-bad-name-requires
 bad-name-requires c κs = search needs
@@ -35,7 +34,7 @@ returns c =
 file-named-requires : tie.Need-file-named-requires
 file-named-requires c κs =
     let b = c .before in
-    (judged-opened _ _ (b .before .geometry-in .ensures) (omega arith) (b .before .before .before .before .pre), short-name _ _ (sym (b .bad-name .ensures) ∙ c .if1 .left))
+    (accepted-opened _ _ (b .before .geometry-in .ensures) (omega arith) (b .before .before .before .before .pre), short-name _ _ (sym (b .bad-name .ensures) ∙ c .if1 .left))
 
 enum-known-i : tie.Need-enum-known-i
 enum-known-i c = search needs
@@ -45,7 +44,7 @@ fields-at-requires c κs =
     let f = c .before .before .before in
     let g = f .before .before .before in
     let s = g .before .before .before in
-    let o = judged-opened _ _ (g .geometry-in .ensures) (omega (arith, g .geometry-in .ok)) (s .pre) in
+    let o = accepted-opened _ _ (g .geometry-in .ensures) (omega (arith, g .geometry-in .ok)) (s .pre) in
     let h = named-at (view (s .args .img .now)) (s .args .name .now) (c .before .i .given .0 .0) (sym (sym (f .file-named .ensures) ∙ c .before .i .given .1)) in
     let e = ap (λ (x : Geometry). x .files) (o .is) in
     omega arith

@@ -70,7 +70,8 @@ returns c =
     rw (z .ensures)
     (entry-done (a .img .now) (a .out .now) (a .list .now) (a .i .0) (a .time) (a .g) (s .pre .0 .is) (s .pre .1 .0) (s .pre .1 .1) (f .result) (f .ensures)
     (not (t .result)) (t .ensures .0) (v .lent-verdict .result)
-    (v .lent-verdict .ensures ∙ ap (λ n. lentVerdict (f .result .«name_length») (length (a .out .now)) n (length (a .list .now))) (z .ensures)) (k .if1 .taken) (r .before .before .before .copy-name .ensures) (r .accessed-root .ensures)
+    (v .lent-verdict .ensures ∙ ap (λ n. lentVerdict (f .result .«name_length») (length (a .out .now)) n (length (a .list .now))) (z .ensures))
+    (k .if1 .taken) (r .before .before .before .copy-name .ensures) (r .accessed-root .ensures)
     (c .before .before .put-access .ensures))
 
 not-listed-requires : tie.Need-not-listed-requires
@@ -85,7 +86,8 @@ returns-2 c =
     let a = s .args in
     rw (c .not-listed .ensures)
     (entry-refused (a .img .now) (a .out .now) (a .list .now) (a .i .0) (a .time) (a .g) (s .pre .0 .is) (s .pre .1 .0) (s .pre .1 .1) (f .result) (f .ensures)
-    (not (t .result)) (t .ensures .0) (v .lent-verdict .result) (v .lent-verdict .ensures ∙ ap (λ n. lentVerdict (f .result .«name_length») (length (a .out .now)) n (length (a .list .now))) (v .before .access-size .ensures)) (c .before .if1 .left))
+    (not (t .result)) (t .ensures .0) (v .lent-verdict .result)
+    (v .lent-verdict .ensures ∙ ap (λ n. lentVerdict (f .result .«name_length») (length (a .out .now)) n (length (a .list .now))) (v .before .access-size .ensures)) (c .before .if1 .left))
 
 pub list-entry-spec : {M : Type 1} → statement M
 list-entry-spec =

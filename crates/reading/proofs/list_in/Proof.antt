@@ -3,8 +3,7 @@ use mathlib.Core.Path.{sym, ap, _∙_}
 use native.Mathlib.Omega.{arith}
 use Rattle.model.specs.declared.Geometry.{Geometry}
 use Rattle.model.specs.Disk.{view}
-use Rattle.laws.proofs.Refusals.{image-length}
-use Rattle.laws.proofs.Judged.{judged-image, judged-sound, judged-opened}
+use Rattle.laws.proofs.Judged.{accepted-length, accepted-opened, judged-sound}
 use Rattle.laws.proofs.Named.{sound-name}
 use Rattle.reading.proofs.ListAnswers.{list-wide, list-past, list-free, list-found}
 use borrow.Author.Needs.{needs}
@@ -12,7 +11,7 @@ use Rattle.reading.proofs.list_in.Statement.{statement}
 use Rattle.reading.proofs.list_in.Tie as tie
 
 geometry-in-requires : tie.Need-geometry-in-requires
-geometry-in-requires c κs = image-length _ _ (judged-image _ _ (c .before .before .before .pre))
+geometry-in-requires c κs = accepted-length _ (c .before .before .before .pre)
 
 bad-time-requires : tie.Need-bad-time-requires
 bad-time-requires c κs = search needs
@@ -29,23 +28,23 @@ returns c =
     let s = t .before .before .before .before .before in
     let a = s .args in
     rw (c .not-listed .ensures, c .before .refusal .ensures)
-    (list-wide (a .img .now) (a .out .now) (a .list .now) (a .index) (a .time) (s .pre) (t .before .geometry-in .result) (t .before .geometry-in .ensures)
+    (list-wide _ (a .img .now) (a .out .now) (a .list .now) (a .index) (a .time) (s .pre .verdict) (t .before .geometry-in .result) (t .before .geometry-in .ensures)
     (sym (t .bad-time .ensures) ∙ c .before .before .if1 .taken))
 
 is-occupied-requires : tie.Need-is-occupied-requires
 is-occupied-requires c κs =
     let g = c .before .before .before .before in
-    let o = judged-opened _ _ (g .geometry-in .ensures) (omega (arith, g .geometry-in .ok)) (g .before .before .before .before .pre) in
+    let o = accepted-opened _ _ (g .geometry-in .ensures) (omega (arith, g .geometry-in .ok)) (g .before .before .before .before .pre) in
     omega arith
 
 list-entry-requires : tie.Need-list-entry-requires
 list-entry-requires c κs =
     let g = c .before .before .before .before .before .before .before .before in
     let s = g .before .before .before .before in
-    let o = judged-opened _ _ (g .geometry-in .ensures) (omega (arith, g .geometry-in .ok)) (s .pre) in
+    let o = accepted-opened _ _ (g .geometry-in .ensures) (omega (arith, g .geometry-in .ok)) (s .pre) in
     let e = ap (λ (x : Geometry). x .files) (g .geometry-in .ensures) in
     let occupied = sym (c .before .before .before .is-occupied .ensures) ∙ c .before .before .if3 .taken in
-    let n = sound-name (view (s .args .img .now)) (judged-sound _ _ (s .pre)) (s .args .index) (omega arith) occupied in
+    let n = sound-name (view (s .args .img .now)) (judged-sound _ _ (s .pre .verdict)) (s .args .index) (omega arith) occupied in
     (o, (c .before .before .before .before .if2 .taken, occupied, rw (g .geometry-in .ensures) n))
 
 same-length : tie.Need-same-length
@@ -61,7 +60,7 @@ returns-2 c =
     let t = k .before .before .before in
     let s = t .before .before .before .before .before in
     let a = s .args in
-    list-found (a .img .now) (a .out .now) (a .list .now) (a .index) (a .time) (s .pre) (t .before .geometry-in .result) (t .before .geometry-in .ensures)
+    list-found _ (a .img .now) (a .out .now) (a .list .now) (a .index) (a .time) (s .pre .verdict) (t .before .geometry-in .result) (t .before .geometry-in .ensures)
     (sym (t .bad-time .ensures) ∙ k .before .before .if1 .left) (k .if2 .taken)
     (sym (l .before .before .before .before .is-occupied .ensures) ∙ l .before .before .before .if3 .taken) (l .list-entry .ensures)
 
@@ -78,7 +77,7 @@ returns-3 c =
     let s = t .before .before .before .before .before in
     let a = s .args in
     rw (c .not-listed2 .ensures, c .before .refusal2 .ensures)
-    (list-free (a .img .now) (a .out .now) (a .list .now) (a .index) (a .time) (s .pre) (t .before .geometry-in .result) (t .before .geometry-in .ensures)
+    (list-free _ (a .img .now) (a .out .now) (a .list .now) (a .index) (a .time) (s .pre .verdict) (t .before .geometry-in .result) (t .before .geometry-in .ensures)
     (sym (t .bad-time .ensures) ∙ k .before .before .if1 .left) (k .if2 .taken)
     (sym (c .before .before .before .is-occupied .ensures) ∙ c .before .before .if3 .left))
 
@@ -95,7 +94,7 @@ returns-4 c =
     let s = t .before .before .before .before .before in
     let a = s .args in
     rw (c .not-listed3 .ensures, c .before .refusal3 .ensures)
-    (list-past (a .img .now) (a .out .now) (a .list .now) (a .index) (a .time) (s .pre) (t .before .geometry-in .result) (t .before .geometry-in .ensures)
+    (list-past _ (a .img .now) (a .out .now) (a .list .now) (a .index) (a .time) (s .pre .verdict) (t .before .geometry-in .result) (t .before .geometry-in .ensures)
     (sym (t .bad-time .ensures) ∙ k .before .before .if1 .left) (k .if2 .left))
 
 pub list-in-spec : {M : Type 1} → statement M

@@ -1,9 +1,8 @@
 -- `reading::put_access` meets its contract. The one target's list, or an empty one.
-use mathlib.Core.Path.{_≡_, refl, sym, ap, _∙_, subst}
-use mathlib.Core.Bool.{Bool, true, false, cond, not}
-use mathlib.Core.Option.{none, some}
+use mathlib.Core.Path.{sym, ap}
+use mathlib.Core.Bool.{Bool, not}
 use native.Mathlib.Omega.{arith}
-use Rattle.model.specs.WriteList.{oneTarget, emit, groupsFor, closed}
+use Rattle.model.specs.WriteList.{groupsFor}
 use Rattle.laws.proofs.WriteList.{emit-nil}
 use Rattle.reading.specs.Given.{accessSize}
 use borrow.Author.Needs.{needs}

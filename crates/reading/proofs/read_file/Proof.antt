@@ -1,119 +1,53 @@
--- `reading::read_file` meets its contract. Refused by the file's size or by what is lent, or read with the entry's access time set, where the reserve
--- is there.
-use mathlib.Core.Path.{sym, ap, _∙_, refl}
-use mathlib.Core.Bool.{not}
+-- `reading::read_file` meets its contract. No byte is given, or the span is copied out.
 use native.Mathlib.Omega.{arith}
 use lib.ListN.{length}
-use Rattle.model.specs.declared.Verdict.{Verdict}
-use Rattle.reading.specs.Given.{fileVerdict}
-use Rattle.reading.proofs.Verdicts.{file-enough}
-use Rattle.reading.proofs.ReadAnswers.{file-refused, file-done}
+use Rattle.model.specs.Disk.{view}
+use Rattle.model.specs.Catalogue.{catalogueOf}
+use Rattle.reading.proofs.Verdicts.{size-is}
+use Rattle.reading.proofs.ReadAnswers.{file-count, nothing-given}
 use borrow.Author.Needs.{needs}
 use Rattle.reading.proofs.read_file.Statement.{statement}
 use Rattle.reading.proofs.read_file.Tie as tie
 
-size-at-requires : tie.Need-size-at-requires
-size-at-requires c κs = search needs
-
-slice-aggregate-staging : tie.Need-slice-aggregate-staging
-slice-aggregate-staging c = search needs
-
-staging-requires : tie.Need-staging-requires
-staging-requires c κs = (c .before .before .before .before .before .pre .0, refl)
-
-access-size-requires : tie.Need-access-size-requires
-access-size-requires c κs = search needs
-
-file-verdict-requires : tie.Need-file-verdict-requires
-file-verdict-requires c κs = search needs
-
-sub-least : tie.Need-sub-least
-sub-least c = file-enough _ _ _ _ _ _ (ap (λ (v : Verdict). v .number) (sym (c .before .before .file-verdict .ensures)) ∙ c .if1 .taken) .0
-
-least-requires : tie.Need-least-requires
-least-requires c κs = search needs
-
-read-span-requires : tie.Need-read-span-requires
-read-span-requires c κs =
-    let k = c .before .before in
-    let v = k .before .before in
-    let s = v .before .before .before .before .before .before .before .before .before in
-    let room = file-enough _ _ _ _ _ _ (ap (λ (v : Verdict). v .number) (sym (v .file-verdict .ensures)) ∙ k .if1 .taken) in
-    let n = c .before .least .ensures in
-    let z = v .before .before .before .before .before .size-at .ensures in
-    (s .pre .0, (omega arith, omega (arith, n, room .0, room .1, z, s .pre .1 .2)))
-
-accessed-entry-requires : tie.Need-accessed-entry-requires
-accessed-entry-requires c κs = search needs
-
-sector-requires : tie.Need-sector-requires
-sector-requires c κs = let s = c .before .before .before .before .before .before .before .before .before .before .before .before .before .before .before .before .before in omega (arith, s .pre .1 .0)
-
-slice-aggregate-put-access : tie.Need-slice-aggregate-put-access
-slice-aggregate-put-access c = search needs
-
-put-access-requires : tie.Need-put-access-requires
-put-access-requires c κs =
-    let k = c .before .before .before .before .before .before .before .before .before in
-    let v = k .before .before in
-    let room = file-enough _ _ _ _ _ _ (ap (λ (v : Verdict). v .number) (sym (v .file-verdict .ensures)) ∙ k .if1 .taken) in
-    (v .before .before .before .staging .ensures .1, (omega (arith, room .2, v .before .access-size .ensures), v .before .before .before .before .before .before .before .before .before .pre .0))
+decide-read-requires : tie.Need-decide-read-requires
+decide-read-requires c κs = let s = c .before .before .before .before in (s .pre .0, (s .pre .1 .1 .0, s .pre .1 .1 .1, s .pre .1 .1 .3))
 
 same-length : tie.Need-same-length
 same-length c = search needs
 
+returns : tie.Need-returns
+returns c =
+    let d = c .before .before .before .before .decide-read in
+    let x = c .before .before .before .before .before .before .before .before .before .args in
+    (d .ensures .0, (nothing-given (catalogueOf (view (x .img .now))) (view (x .img .now)) (x .out .now) (x .i .0) (x .offset) (d .result .count) (c .if1 .taken), d .ensures .1))
+
+read-span-requires : tie.Need-read-span-requires
+read-span-requires c κs =
+    let d = c .before .before .before .before .before .decide-read in
+    let s = c .before .before .before .before .before .before .before .before .before .before in
+    let x = s .args in
+    let p = s .pre .1 .1 in
+    let f = file-count (view (x .img .now)) (x .i .0) (x .offset) (x .asked) (x .time) (length (x .out .now)) (length (x .list .now)) (d .result) (d .ensures .0) (c .before .if1 .left) in
+    let z = size-is (x .img .now) (x .g) (x .i .0) (s .pre .0 .is) (p .0) (p .1) in
+    (s .pre .0, (s .pre .1 .0, ((omega (arith, p .0, s .pre .0 .bounded .files-high), omega (arith, f .0, z, p .2)), omega (arith, f .1))))
+
 same-length-2 : tie.Need-same-length-2
 same-length-2 c = search needs
 
-returns : tie.Need-returns
-returns c =
-    let q = c .before .before .before .before .before in
-    let r = q .before in
-    let l = r .before .before .before .before .before in
-    let k = l .before in
-    let v = k .before .before in
-    let z = v .before .before .before .before .before .size-at in
-    let t = v .before .before .before .staging in
-    let a = v .before .access-size in
-    let s = v .before .before .before .before .before .before .before .before .before in
-    let x = s .args in
-    rw (a .ensures)
-    (file-done (x .img .now) (x .out .now) (x .list .now) (x .i .0) (x .offset) (x .asked) (x .time) (x .g) (s .pre .0 .is) (s .pre .1 .0) (s .pre .1 .1) (z .result) (z .ensures)
-    (not (t .result)) (t .ensures .0) (v .file-verdict .result) (v .file-verdict .ensures ∙ ap (λ n. fileVerdict (z .result) (x .offset) (x .asked) (length (x .out .now)) n (length (x .list .now))) (a .ensures)) (l .least .result) (q .sector .result .0)
-    (k .if1 .taken) (l .least .ensures) (r .before .before .before .read-span .ensures) (r .accessed-entry .ensures) (q .sector .ensures) (c .before .before .put-access .ensures))
-
-not-read-requires : tie.Need-not-read-requires
-not-read-requires c κs = search needs
+same-length-3 : tie.Need-same-length-3
+same-length-3 c = search needs
 
 returns-2 : tie.Need-returns-2
-returns-2 c =
-    let v = c .before .before .before in
-    let z = v .before .before .before .before .before .size-at in
-    let t = v .before .before .before .staging in
-    let s = v .before .before .before .before .before .before .before .before .before in
-    let x = s .args in
-    rw (c .not-read .ensures)
-    (file-refused (x .img .now) (x .out .now) (x .list .now) (x .i .0) (x .offset) (x .asked) (x .time) (x .g) (s .pre .0 .is) (s .pre .1 .0) (s .pre .1 .1) (z .result) (z .ensures)
-    (not (t .result)) (t .ensures .0) (v .file-verdict .result) (v .file-verdict .ensures ∙ ap (λ n. fileVerdict (z .result) (x .offset) (x .asked) (length (x .out .now)) n (length (x .list .now))) (v .before .access-size .ensures)) (c .before .if1 .left))
+returns-2 c = let d = c .before .before .before .before .before .before .before .before .decide-read in (d .ensures .0, (c .before .before .read-span .ensures, d .ensures .1))
 
 pub read-file-spec : {M : Type 1} → statement M
 read-file-spec =
     tie.close
     (tie.spec
-    size-at-requires
-    slice-aggregate-staging
-    staging-requires
-    access-size-requires
-    file-verdict-requires
-    sub-least
-    least-requires
-    read-span-requires
-    accessed-entry-requires
-    sector-requires
-    slice-aggregate-put-access
-    put-access-requires
+    decide-read-requires
     same-length
-    same-length-2
     returns
-    not-read-requires
+    read-span-requires
+    same-length-2
+    same-length-3
     returns-2)

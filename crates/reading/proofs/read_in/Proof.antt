@@ -1,25 +1,19 @@
 -- `reading::read_in` meets its contract. An argument is bad, the file is read, or no file has the name.
 use mathlib.Core.Path.{sym, ap, _∙_}
-use mathlib.Core.Bool.{_||_}
 use native.Mathlib.Omega.{arith}
-use lib.Dec.{ltb}
-use borrow.Author.Tests.{ltb-false}
+use lib.ListN.{length}
 use Rattle.model.specs.declared.Geometry.{Geometry}
 use Rattle.model.specs.Disk.{view}
-use Rattle.model.specs.Edition.{badTime}
-use Rattle.model.specs.Entry.{badName}
-use Rattle.model.specs.Read.{longestTransfer}
-use Rattle.laws.proofs.Booleans.{or-none}
-use Rattle.laws.proofs.Refusals.{image-length}
-use Rattle.laws.proofs.Judged.{judged-image, judged-sound, judged-opened}
-use Rattle.laws.proofs.Named.{named-at, short-name, size-fits}
-use Rattle.reading.proofs.ReadAnswers.{read-bad, read-missing, read-found}
+use Rattle.model.specs.Refusals.{refusal}
+use Rattle.laws.proofs.Judged.{accepted-length, accepted-opened, judged-sound}
+use Rattle.laws.proofs.Named.{named-at, size-fits}
+use Rattle.reading.proofs.ReadAnswers.{good-arguments, read-bad, read-missing, read-found, gives-none, gives-found}
 use borrow.Author.Needs.{needs}
 use Rattle.reading.proofs.read_in.Statement.{statement}
 use Rattle.reading.proofs.read_in.Tie as tie
 
 geometry-in-requires : tie.Need-geometry-in-requires
-geometry-in-requires c κs = image-length _ _ (judged-image _ _ (c .before .before .before .before .pre))
+geometry-in-requires c κs = accepted-length _ (c .before .before .before .before .pre .0)
 
 bad-argument-requires : tie.Need-bad-argument-requires
 bad-argument-requires c κs = search needs
@@ -36,18 +30,16 @@ returns c =
     let s = t .before .before .before .before .before .before in
     let a = s .args in
     rw (c .not-read .ensures, c .before .refusal .ensures)
-    (read-bad (a .img .now) (a .out .now) (a .list .now) (a .name .now) (a .offset) (a .asked) (a .time) (s .pre) (t .before .geometry-in .result) (t .before .geometry-in .ensures)
-    (sym (t .bad-argument .ensures) ∙ c .before .before .if1 .taken))
+    (gives-none _ (a .img .now) (a .out .now) (a .list .now) (a .name .now) (a .offset) (a .asked) (a .time) (refusal 8)
+    (read-bad _ (a .img .now) (a .list .now) (a .name .now) (a .offset) (a .asked) (a .time) (length (a .out .now)) (s .pre .0 .verdict) (t .before .geometry-in .result)
+    (t .before .geometry-in .ensures) (sym (t .bad-argument .ensures) ∙ c .before .before .if1 .taken)))
 
 file-named-requires : tie.Need-file-named-requires
 file-named-requires c κs =
     let g = c .before .before in
     let s = g .before .before .before .before .before in
-    let n = g .geometry-in .result .edition in
-    let good = or-none (badTime n (s .args .time)) (badName n (s .args .name .now) || ltb longestTransfer (s .args .asked)) (sym (c .before .bad-argument .ensures) ∙ c .if1 .left) .1 in (
-      judged-opened _ _ (g .geometry-in .ensures) (omega (arith, g .geometry-in .ok)) (s .pre),
-      short-name _ _ (or-none (badName n (s .args .name .now)) (ltb longestTransfer (s .args .asked)) good .0),
-    )
+    let good = good-arguments (g .geometry-in .result .edition) (s .args .name .now) (s .args .asked) (s .args .time) (sym (c .before .bad-argument .ensures) ∙ c .if1 .left) in
+    (accepted-opened _ _ (g .geometry-in .ensures) (omega (arith, g .geometry-in .ok)) (s .pre .0), good .0)
 
 enum-known-i : tie.Need-enum-known-i
 enum-known-i c = search needs
@@ -59,14 +51,12 @@ read-file-requires c κs =
     let b = f .before in
     let g = b .before .before in
     let s = g .before .before .before .before .before in
-    let n = g .geometry-in .result .edition in
-    let good = or-none (badTime n (s .args .time)) (badName n (s .args .name .now) || ltb longestTransfer (s .args .asked)) (sym (b .before .bad-argument .ensures) ∙ b .if1 .left) .1 in
-    let most = ltb-false longestTransfer (s .args .asked) (or-none (badName n (s .args .name .now)) (ltb longestTransfer (s .args .asked)) good .1) in
-    let o = judged-opened _ _ (g .geometry-in .ensures) (omega (arith, g .geometry-in .ok)) (s .pre) in
+    let good = good-arguments (g .geometry-in .result .edition) (s .args .name .now) (s .args .asked) (s .args .time) (sym (b .before .bad-argument .ensures) ∙ b .if1 .left) in
+    let o = accepted-opened _ _ (g .geometry-in .ensures) (omega (arith, g .geometry-in .ok)) (s .pre .0) in
     let h = named-at (view (s .args .img .now)) (s .args .name .now) (i .i .given .0 .0) (sym (sym (f .file-named .ensures) ∙ i .i .given .1)) in
     let e = ap (λ (x : Geometry). x .files) (g .geometry-in .ensures) in
-    let z = size-fits (s .args .img .now) (g .geometry-in .result) o (judged-sound _ _ (s .pre)) (i .i .given .0 .0) (h .0) (h .1) in
-    (o, (omega arith, h .1, z, most))
+    let z = size-fits (s .args .img .now) (g .geometry-in .result) o (judged-sound _ _ (s .pre .0 .verdict)) (i .i .given .0 .0) (h .0) (h .1) in
+    (o, (rw (g .geometry-in .ensures) (s .pre .1), (omega arith, h .1, z, good .1)))
 
 same-length : tie.Need-same-length
 same-length c = search needs
@@ -83,8 +73,11 @@ returns-2 c =
     let g = b .before .before in
     let s = g .before .before .before .before .before in
     let a = s .args in
-    read-found (a .img .now) (a .out .now) (a .list .now) (a .name .now) (a .offset) (a .asked) (a .time) (s .pre) (g .geometry-in .result) (g .geometry-in .ensures)
-    (sym (b .before .bad-argument .ensures) ∙ b .if1 .left) (i .i .given .0 .0) (sym (f .file-named .ensures) ∙ i .i .given .1) (l .read-file .ensures)
+    let found = sym (f .file-named .ensures) ∙ i .i .given .1 in
+    let e = l .read-file .ensures in
+    gives-found _ (a .img .now) (a .out .now) (a .list .now) (a .name .now) (a .offset) (a .asked) (a .time) (i .i .given .0 .0) found
+    (read-found _ (a .img .now) (a .list .now) (a .name .now) (a .offset) (a .asked) (a .time) (length (a .out .now)) (s .pre .0 .verdict) (g .geometry-in .result) (g .geometry-in .ensures)
+    (sym (b .before .bad-argument .ensures) ∙ b .if1 .left) (i .i .given .0 .0) found (e .0, e .1 .1)) (e .1 .0)
 
 enum-told : tie.Need-enum-told
 enum-told c = search needs
@@ -103,8 +96,9 @@ returns-3 c =
     let s = g .before .before .before .before .before in
     let a = s .args in
     rw (c .not-read2 .ensures, c .before .refusal2 .ensures)
-    (read-missing (a .img .now) (a .out .now) (a .list .now) (a .name .now) (a .offset) (a .asked) (a .time) (s .pre) (g .geometry-in .result) (g .geometry-in .ensures)
-    (sym (b .before .bad-argument .ensures) ∙ b .if1 .left) (sym (f .file-named .ensures) ∙ c .before .before .enum-told .given .1))
+    (gives-none _ (a .img .now) (a .out .now) (a .list .now) (a .name .now) (a .offset) (a .asked) (a .time) (refusal 9)
+    (read-missing _ (a .img .now) (a .list .now) (a .name .now) (a .offset) (a .asked) (a .time) (length (a .out .now)) (s .pre .0 .verdict) (g .geometry-in .result)
+    (g .geometry-in .ensures) (sym (b .before .bad-argument .ensures) ∙ b .if1 .left) (sym (f .file-named .ensures) ∙ c .before .before .enum-told .given .1)))
 
 pub read-in-spec : {M : Type 1} → statement M
 read-in-spec =

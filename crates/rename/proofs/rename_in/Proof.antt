@@ -7,8 +7,7 @@ use Rattle.model.specs.Disk.{view}
 use Rattle.model.specs.Edition.{badTime}
 use Rattle.model.specs.Entry.{badName, badNewName}
 use Rattle.laws.proofs.Booleans.{or-none}
-use Rattle.laws.proofs.Refusals.{image-length}
-use Rattle.laws.proofs.Judged.{judged-image, judged-opened}
+use Rattle.laws.proofs.Judged.{accepted-length, accepted-opened}
 use Rattle.laws.proofs.Named.{named-at, short-name}
 use Rattle.laws.proofs.Entry.{new-name-good}
 use Rattle.commit.proofs.Decided.{named-short}
@@ -18,7 +17,7 @@ use Rattle.rename.proofs.rename_in.Statement.{statement}
 use Rattle.rename.proofs.rename_in.Tie as tie
 
 geometry-in-requires : tie.Need-geometry-in-requires
-geometry-in-requires c κs = image-length _ _ (judged-image _ _ (c .before .before .before .before .pre))
+geometry-in-requires c κs = accepted-length _ (c .before .before .before .before .pre)
 
 bad-argument-requires : tie.Need-bad-argument-requires
 bad-argument-requires c κs = search needs
@@ -35,7 +34,7 @@ returns c =
     let s = b .before .before .before .before .before .before in
     let a = s .args in
     rw (c .refused .ensures, c .before .refusal .ensures)
-    (rename-bad (a .img .now) (a .list .now) (a .old .now) (a .new .now) (a .time) (s .pre)
+    (rename-bad (a .img .now) (a .list .now) (a .old .now) (a .new .now) (a .time) (s .pre .verdict)
     (rw (b .before .geometry-in .ensures) at (sym (b .bad-argument .ensures) ∙ c .before .before .if1 .taken)))
 
 file-named-requires : tie.Need-file-named-requires
@@ -44,7 +43,7 @@ file-named-requires c κs =
     let s = b .before .before .before .before .before .before in
     let e = b .before .geometry-in .result .edition in
     let good = or-none (badTime e (s .args .time) || badName e (s .args .old .now)) (badNewName e (s .args .new .now)) (sym (b .bad-argument .ensures) ∙ c .if1 .left) in
-    (judged-opened _ _ (b .before .geometry-in .ensures) (omega arith) (s .pre), named-short e (s .args .old .now) (s .args .time) (good .0))
+    (accepted-opened _ _ (b .before .geometry-in .ensures) (omega arith) (s .pre), named-short e (s .args .old .now) (s .args .time) (good .0))
 
 enum-known-i : tie.Need-enum-known-i
 enum-known-i c = search needs
@@ -66,7 +65,7 @@ returns-2 c =
     let good = rw (f .before .before .before .geometry-in .ensures) at (sym (f .before .before .bad-argument .ensures) ∙ f .before .if1 .left) in
     let found = sym (f .file-named .ensures) ∙ c .before .before .before .before .before .i .given .1 in
     rw (c .refused2 .ensures, c .before .refusal2 .ensures)
-    (rename-itself (a .img .now) (a .list .now) (a .old .now) (a .new .now) (a .time) (s .pre) (c .before .before .before .before .before .i .given .0 .0) good found
+    (rename-itself (a .img .now) (a .list .now) (a .old .now) (a .new .now) (a .time) (s .pre .verdict) (c .before .before .before .before .before .i .given .0 .0) good found
     (sym (c .before .before .before .is-same .ensures) ∙ c .before .before .if2 .taken))
 
 rename-file-requires : tie.Need-rename-file-requires
@@ -77,7 +76,7 @@ rename-file-requires c κs =
     let a = s .args in
     let e = g .result .edition in
     let good = or-none (badTime e (a .time) || badName e (a .old .now)) (badNewName e (a .new .now)) (sym (f .before .before .bad-argument .ensures) ∙ f .before .if1 .left) in
-    let o = judged-opened _ _ (g .ensures) (omega (arith, g .ok)) (s .pre) in
+    let o = accepted-opened _ _ (g .ensures) (omega (arith, g .ok)) (s .pre) in
     let found = sym (f .file-named .ensures) ∙ c .before .before .before .before .i .given .1 in
     let low = named-at (view (a .img .now)) (a .old .now) (c .before .before .before .before .i .given .0 .0) (sym found) in
     let h = ap (λ (x : Geometry). x .files) (o .is) in
@@ -93,7 +92,7 @@ returns-3 c =
     let a = s .args in
     let good = rw (f .before .before .before .geometry-in .ensures) at (sym (f .before .before .bad-argument .ensures) ∙ f .before .if1 .left) in
     let found = sym (f .file-named .ensures) ∙ c .before .before .before .before .before .before .before .i .given .1 in
-    rename-other (a .img .now) (a .list .now) (a .old .now) (a .new .now) (a .time) (s .pre) (c .before .before .before .before .before .before .before .i .given .0 .0) good found
+    rename-other (a .img .now) (a .list .now) (a .old .now) (a .new .now) (a .time) (s .pre .verdict) (c .before .before .before .before .before .before .before .i .given .0 .0) good found
     (sym (c .before .before .before .before .before .is-same .ensures) ∙ c .before .before .before .before .if2 .left) (c .before .before .rename-file .ensures)
 
 enum-told : tie.Need-enum-told
@@ -112,7 +111,7 @@ returns-4 c =
     let a = s .args in
     let good = rw (f .before .before .before .geometry-in .ensures) at (sym (f .before .before .bad-argument .ensures) ∙ f .before .if1 .left) in
     let none = sym (f .file-named .ensures) ∙ c .before .before .enum-told .given .1 in
-    rw (c .refused3 .ensures, c .before .refusal3 .ensures) (rename-missing (a .img .now) (a .list .now) (a .old .now) (a .new .now) (a .time) (s .pre) good none)
+    rw (c .refused3 .ensures, c .before .refusal3 .ensures) (rename-missing (a .img .now) (a .list .now) (a .old .now) (a .new .now) (a .time) (s .pre .verdict) good none)
 
 pub rename-in-spec : {M : Type 1} → statement M
 rename-in-spec =

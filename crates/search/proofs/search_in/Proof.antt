@@ -1,14 +1,14 @@
 -- `search::search_in` meets its contract. An extent is free, or none is.
 use mathlib.Core.Path.{sym, ap, _∙_}
 use native.Mathlib.Omega.{arith}
-use Rattle.laws.proofs.Refusals.{image-length, opened}
+use Rattle.laws.proofs.Refusals.{readable-length, opened}
 use Rattle.search.specs.Numbers.{extentNumbers}
 use borrow.Author.Needs.{needs}
 use Rattle.search.proofs.search_in.Statement.{statement}
 use Rattle.search.proofs.search_in.Tie as tie
 
 geometry-in-requires : tie.Need-geometry-in-requires
-geometry-in-requires c κs = image-length _ _ (c .before .pre)
+geometry-in-requires c κs = readable-length _ (c .before .pre)
 
 free-extent-requires : tie.Need-free-extent-requires
 free-extent-requires c κs = opened _ _ (c .geometry-in .ensures) (omega arith) (c .before .before .pre)

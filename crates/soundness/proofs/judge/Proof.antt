@@ -3,6 +3,7 @@ use mathlib.Core.Path.{sym, ap, _∙_}
 use borrow.Author.Tests.{eq-eqb, ne-eqb}
 use Rattle.model.specs.declared.Verdict.{Verdict}
 use Rattle.model.specs.Refusals.{judged}
+use Rattle.laws.proofs.Refusals.{readable}
 use borrow.Author.Needs.{needs}
 use Rattle.soundness.proofs.judge.Statement.{statement}
 use Rattle.soundness.proofs.judge.Tie as tie
@@ -11,7 +12,7 @@ image-verdict-requires : tie.Need-image-verdict-requires
 image-verdict-requires c κs = search needs
 
 sound-verdict-requires : tie.Need-sound-verdict-requires
-sound-verdict-requires c κs = ap (λ (v : Verdict). v .number) (sym (c .before .before .image-verdict .ensures)) ∙ c .if1 .taken
+sound-verdict-requires c κs = readable _ (ap (λ (v : Verdict). v .number) (sym (c .before .before .image-verdict .ensures)) ∙ c .if1 .taken)
 
 returns : tie.Need-returns
 unfolding judged

@@ -3,6 +3,7 @@ use mathlib.Core.Path.{refl, sym, ap, _∙_}
 use borrow.Author.Tests.{eq-eqb, ne-eqb}
 use Rattle.model.specs.declared.Verdict.{Verdict}
 use Rattle.model.specs.Scratch.{judgedWith}
+use Rattle.laws.proofs.Refusals.{readable}
 use borrow.Author.Needs.{needs}
 use Rattle.soundness.proofs.judge_with.Statement.{statement}
 use Rattle.soundness.proofs.judge_with.Tie as tie
@@ -11,7 +12,7 @@ image-verdict-requires : tie.Need-image-verdict-requires
 image-verdict-requires c κs = search needs
 
 sound-verdict-with-requires : tie.Need-sound-verdict-with-requires
-sound-verdict-with-requires c κs = ap (λ (v : Verdict). v .number) (sym (c .before .before .before .image-verdict .ensures)) ∙ c .before .if1 .taken
+sound-verdict-with-requires c κs = readable _ (ap (λ (v : Verdict). v .number) (sym (c .before .before .before .image-verdict .ensures)) ∙ c .before .if1 .taken)
 
 same-length : tie.Need-same-length
 same-length c = search needs

@@ -2,19 +2,19 @@
 use native.Mathlib.Omega.{arith}
 use borrow.Author.Tests.{eq-eqb, ne-eqb}
 use Rattle.model.specs.Refusals.{soundVerdict}
-use Rattle.laws.proofs.Refusals.{image-length, opened}
+use Rattle.laws.proofs.Refusals.{readable-length, opened}
 use borrow.Author.Needs.{needs}
 use Rattle.soundness.proofs.sound_verdict.Statement.{statement}
 use Rattle.soundness.proofs.sound_verdict.Tie as tie
 
 state-on-requires : tie.Need-state-on-requires
-state-on-requires c κs = image-length _ _ (c .before .pre)
+state-on-requires c κs = readable-length _ (c .before .pre)
 
 state-number-requires : tie.Need-state-number-requires
 state-number-requires c κs = search needs
 
 geometry-in-requires : tie.Need-geometry-in-requires
-geometry-in-requires c κs = image-length _ _ (c .before .before .before .before .pre)
+geometry-in-requires c κs = readable-length _ (c .before .before .before .before .pre)
 
 first-fault-requires : tie.Need-first-fault-requires
 first-fault-requires c κs = opened _ _ (c .geometry-in .ensures) (omega arith) (c .before .before .before .before .before .pre)

@@ -7,20 +7,20 @@ use lib.ListN.{length}
 use borrow.Author.Tests.{eq-eqb, ne-eqb, lt-ltb, le-ltb}
 use Rattle.model.specs.Scratch.{scratchNumbers, soundVerdictWith}
 use Rattle.model.specs.Opened.{Opened}
-use Rattle.laws.proofs.Refusals.{image-length, opened}
+use Rattle.laws.proofs.Refusals.{readable-length, opened}
 use Rattle.soundness.proofs.Laws.{fault-judged}
 use borrow.Author.Needs.{needs}
 use Rattle.soundness.proofs.sound_verdict_with.Statement.{statement}
 use Rattle.soundness.proofs.sound_verdict_with.Tie as tie
 
 state-on-requires : tie.Need-state-on-requires
-state-on-requires c κs = image-length _ _ (c .before .before .pre)
+state-on-requires c κs = readable-length _ (c .before .before .pre)
 
 state-number-requires : tie.Need-state-number-requires
 state-number-requires c κs = search needs
 
 geometry-in-requires : tie.Need-geometry-in-requires
-geometry-in-requires c κs = image-length _ _ (c .before .before .before .before .before .pre)
+geometry-in-requires c κs = readable-length _ (c .before .before .before .before .before .pre)
 
 scratch-numbers-requires : tie.Need-scratch-numbers-requires
 scratch-numbers-requires c κs =

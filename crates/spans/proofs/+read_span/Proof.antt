@@ -45,7 +45,7 @@ read-span-read-piece-requires : (t : ℕ) → read-span-lts.Need-read-piece-requ
 ) (read-span-at t) read-span.Post
 read-span-read-piece-requires t c κs =
     let p = c .before .before .before .before .pre .1 in
-    (p .0, ((p .1 .0 .0, omega arith, p .1 .0 .1), p .1 .1))
+    (p .0, (p .1 .0, ((p .1 .1 .0 .0, omega arith, p .1 .1 .0 .1), p .1 .1 .1)))
 
 read-span-add-read-span : (t : ℕ) → read-span-lts.Need-add-read-span (
   read-piece-reads.Asked,
@@ -79,7 +79,7 @@ read-span-read-span-requires : (t : ℕ) → read-span-lts.Need-read-span-requir
 ) (read-span-at t) read-span.Post
 read-span-read-span-requires t c κs =
     let p = c .before .before .before .before .before .before .before .before .pre .1 in
-    (omega arith, (p .0, ((p .1 .0 .0, omega arith), omega arith)))
+    (omega arith, (p .0, (p .1 .0, ((p .1 .1 .0 .0, omega arith), omega arith))))
 
 read-span-same-length : (t : ℕ) → read-span-lts.Need-same-length (
   read-piece-reads.Asked,

@@ -59,8 +59,8 @@ returns c =
     )
     (c .before .before .put-from .ensures)
 
-sector-requires : tie.Need-sector-requires
-sector-requires c κs = search needs
+shown-requires : tie.Need-shown-requires
+shown-requires c κs = search needs
 
 slice-aggregate-copy-bytes : tie.Need-slice-aggregate-copy-bytes
 slice-aggregate-copy-bytes c = search needs
@@ -92,7 +92,7 @@ returns-2 c =
     rw (
       ← splice-part (a .offset) (a .s) span d (from .result) (to .result) (from .ensures) last,
       ← read,
-      ← c .before .before .before .before .before .before .before .sector .ensures,
+      ← c .before .before .before .before .before .before .before .shown .ensures,
       ← c .before .before .before .before .before .copy-bytes .ensures,
     )
     (c .before .before .put-sector .ensures)
@@ -113,7 +113,7 @@ put-data-sector-spec =
     put-from-requires
     same-length
     returns
-    sector-requires
+    shown-requires
     slice-aggregate-copy-bytes
     sub-copy-bytes
     sub-copy-bytes-2

@@ -49,7 +49,7 @@ mul-copy-bytes c = omega (
   piece-inside (c .before .before .before .before .before .before .before .args .img .now) (c .before .before .before .before .before .before .before .args .g)
       (c .before .before .before .before .before .before .before .pre .0) (c .before .before .before .before .before .before .before .args .i .0)
       (c .before .before .before .before .before .before .before .args .offset) (c .before .before .before .extent-of .result .0) (c .before .before .extent-at .result .0)
-      (c .before .before .before .extent-of .ensures .0) (c .before .before .extent-at .ensures),
+      (c .before .before .before .extent-of .ensures .0) (c .before .before .extent-at .ensures) (c .before .before .before .before .before .before .before .pre .1 .0),
 )
 
 add-copy-bytes : tie.Need-add-copy-bytes
@@ -58,7 +58,7 @@ add-copy-bytes c = omega (
   piece-inside (c .before .before .before .before .before .before .before .args .img .now) (c .before .before .before .before .before .before .before .args .g)
       (c .before .before .before .before .before .before .before .pre .0) (c .before .before .before .before .before .before .before .args .i .0)
       (c .before .before .before .before .before .before .before .args .offset) (c .before .before .before .extent-of .result .0) (c .before .before .extent-at .result .0)
-      (c .before .before .before .extent-of .ensures .0) (c .before .before .extent-at .ensures),
+      (c .before .before .before .extent-of .ensures .0) (c .before .before .extent-at .ensures) (c .before .before .before .before .before .before .before .pre .1 .0),
   offset-within (c .before .before .before .before .before .before .before .args .g) (c .before .before .before .before .before .before .before .pre .0 .bounded)
       (c .before .before .before .before .before .before .before .args .offset),
 )
@@ -69,7 +69,7 @@ copy-bytes-requires c κs = omega (
   piece-inside (c .before .before .before .before .before .before .before .before .args .img .now) (c .before .before .before .before .before .before .before .before .args .g)
       (c .before .before .before .before .before .before .before .before .pre .0) (c .before .before .before .before .before .before .before .before .args .i .0)
       (c .before .before .before .before .before .before .before .before .args .offset) (c .before .before .before .before .extent-of .result .0) (c .before .before .before .extent-at .result .0)
-      (c .before .before .before .before .extent-of .ensures .0) (c .before .before .before .extent-at .ensures),
+      (c .before .before .before .before .extent-of .ensures .0) (c .before .before .before .extent-at .ensures) (c .before .before .before .before .before .before .before .before .pre .1 .0),
   offset-within (c .before .before .before .before .before .before .before .before .args .g) (c .before .before .before .before .before .before .before .before .pre .0 .bounded)
       (c .before .before .before .before .before .before .before .before .args .offset),
 )

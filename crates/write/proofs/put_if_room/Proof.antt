@@ -31,7 +31,7 @@ returns c =
     let len = length-span (a .bytes .now) (a .len) in
     let span = spanOf (a .bytes .now) (a .len) in
     rw (c .refused .ensures, c .before .refusal .ensures)
-    (room-short (a .img .now) (s .pre .1 .1 .0) (a .list .now) (a .i .0) (a .offset) span (a .time) (s .pre .1 .0 .0) (λ e. omega (arith, s .pre .1 .0 .1, len, e)) (a .z) (a .w .more)
+    (room-short (a .img .now) (s .pre .1 .1 .0 .verdict) (a .list .now) (a .i .0) (a .offset) span (a .time) (s .pre .1 .0 .0) (λ e. omega (arith, s .pre .1 .0 .1, len, e)) (a .z) (a .w .more)
     (s .pre .1 .1 .1 .1 .1 .1 ∙ ap (λ (x : ℕ). sizeAfter (catalogueOf (view (a .img .now))) (a .i .0) (a .offset) x) (sym len)) (s .pre .1 .1 .1 .1 .0 .0 .needs-one)
     (omega (arith, len, c .before .before .before .records .ensures .0, c .before .before .if1 .taken)))
 
@@ -39,7 +39,8 @@ put-write-requires : tie.Need-put-write-requires
 put-write-requires c κs =
     let s = c .before .before .before .before .before .before .before in
     let h = s .pre .1 .1 .1 .1 .1 .0 in
-    (s .pre .0, (s .pre .1 .1 .1 .0, (s .pre .1 .1 .1 .1 .0, ((h .0, s .pre .1 .0 .1, h .2, h .3), (s .pre .1 .1 .1 .1 .1 .1, omega (arith, c .before .before .records .ensures .0, c .before .if1 .left))))))
+    let r = s .pre .1 .1 .1 in
+    (s .pre .0, (r .0, (r .1 .0, ((h .0, s .pre .1 .0 .1, h .2, h .3), (r .1 .1 .1, omega (arith, c .before .before .records .ensures .0, c .before .if1 .left))))))
 
 refusal-requires-2 : tie.Need-refusal-requires-2
 refusal-requires-2 c κs = search needs
@@ -55,7 +56,7 @@ mul-t14 c =
       len,
       c .before .before .before .before .before .before .records .ensures .0,
       c .before .before .before .before .before .before .records .ensures .1,
-      room-count (a .img .now) (s .pre .1 .1 .0) (a .list .now) (a .i .0) (a .offset) span (a .time) (s .pre .1 .0 .0) (λ e. omega (arith, s .pre .1 .0 .1, len, e)) (a .z)
+      room-count (a .img .now) (s .pre .1 .1 .0 .verdict) (a .list .now) (a .i .0) (a .offset) span (a .time) (s .pre .1 .0 .0) (λ e. omega (arith, s .pre .1 .0 .1, len, e)) (a .z)
           (a .w .more) (s .pre .1 .1 .1 .1 .1 .1 ∙ ap (λ (x : ℕ). sizeAfter (catalogueOf (view (a .img .now))) (a .i .0) (a .offset) x) (sym len)) (s .pre .1 .1 .1 .1 .0 .0 .needs-one)
           (c .before .before .before .put-write .ensures),
     )
@@ -70,7 +71,7 @@ returns-2 c =
     let len = length-span (a .bytes .now) (a .len) in
     let span = spanOf (a .bytes .now) (a .len) in
     rw (c .refusal2 .ensures)
-    (room-done (a .img .now) (s .pre .1 .1 .0) (a .list .now) (a .i .0) (a .offset) span (a .time) (s .pre .1 .0 .0) (λ e. omega (arith, s .pre .1 .0 .1, len, e)) (a .z)
+    (room-done (a .img .now) (s .pre .1 .1 .0 .verdict) (a .list .now) (a .i .0) (a .offset) span (a .time) (s .pre .1 .0 .0) (λ e. omega (arith, s .pre .1 .0 .1, len, e)) (a .z)
     (a .w .more) (s .pre .1 .1 .1 .1 .1 .1 ∙ ap (λ (x : ℕ). sizeAfter (catalogueOf (view (a .img .now))) (a .i .0) (a .offset) x) (sym len)) (s .pre .1 .1 .1 .1 .0 .0 .needs-one)
     (omega (arith, len, c .before .before .before .before .before .before .records .ensures .0, c .before .before .before .before .before .if1 .left)) (c .before .before .before .put-write .ensures))
 

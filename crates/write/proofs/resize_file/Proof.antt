@@ -15,7 +15,7 @@ returns : tie.Need-returns
 returns c =
     let s = c .before .before .before .before .before .before .before in
     let a = s .args in
-    size-shrinks (a .img .now) (a .g) (s .pre .opened) (s .pre .judgment) (a .list .now) (a .i .0) (a .z) (a .time) (a .size) (s .pre .says) (c .before .before .before .before .if1 .taken)
+    size-shrinks (a .img .now) (a .g) (s .pre .opened) (s .pre .judgment .verdict) (a .list .now) (a .i .0) (a .z) (a .time) (a .size) (s .pre .says) (c .before .before .before .before .if1 .taken)
     (c .before .before .shrink-file .ensures)
 
 refusal-requires : tie.Need-refusal-requires
@@ -29,7 +29,7 @@ returns-2 c =
     let s = c .before .before .before .before .before .before in
     let a = s .args in
     rw (c .refused .ensures, c .before .refusal .ensures)
-    (size-far (a .img .now) (a .g) (s .pre .opened) (s .pre .judgment) (a .list .now) (a .i .0) (a .z) (a .time) (a .size) (s .pre .says) (omega (arith, c .before .before .if2 .taken)))
+    (size-far (a .img .now) (a .g) (s .pre .opened) (s .pre .judgment .verdict) (a .list .now) (a .i .0) (a .z) (a .time) (a .size) (s .pre .says) (omega (arith, c .before .before .if2 .taken)))
 
 write-zeros-requires : tie.Need-write-zeros-requires
 write-zeros-requires c κs =
@@ -43,8 +43,8 @@ returns-3 : tie.Need-returns-3
 returns-3 c =
     let s = c .before .before .before .before .before .before .before .before in
     let a = s .args in
-    size-grows (a .img .now) (a .g) (s .pre .opened) (s .pre .judgment) (a .list .now) (a .i .0) (a .z) (a .time) (a .size) (s .pre .says) (c .before .before .before .before .before .if1 .left)
-    (omega (arith, c .before .before .before .before .if2 .left)) (c .before .before .write-zeros .ensures)
+    size-grows (a .img .now) (a .g) (s .pre .opened) (s .pre .judgment .verdict) (a .list .now) (a .i .0) (a .z) (a .time) (a .size) (s .pre .says)
+    (c .before .before .before .before .before .if1 .left) (omega (arith, c .before .before .before .before .if2 .left)) (c .before .before .write-zeros .ensures)
 
 pub resize-file-spec : {M : Type 1} → statement M
 resize-file-spec =

@@ -30,7 +30,8 @@ returns c =
     let s = c .before .before .before .before .before .before .before .before .before .before in
     let a = s .args in
     rw (c .refused .ensures, c .before .refusal .ensures)
-    (shrink-short (a .img .now) (a .g) (s .pre .1 .0) (s .pre .0) (a .list .now) (a .i .0) (a .z) (a .time) (c .before .before .before .before .before .before .staging .ensures .0 ∙ ap not (c .before .before .before .before .if1 .taken))
+    (shrink-short (a .img .now) (a .g) (s .pre .1 .0) (s .pre .0 .verdict) (a .list .now) (a .i .0) (a .z) (a .time)
+    (c .before .before .before .before .before .before .staging .ensures .0 ∙ ap not (c .before .before .before .before .if1 .taken))
     (rw (c .before .before .before .shrink-count .ensures .0) at (c .before .before .if2 .taken)))
 
 slice-aggregate-shrink : tie.Need-slice-aggregate-shrink
@@ -39,7 +40,8 @@ slice-aggregate-shrink c = search needs
 shrink-requires : tie.Need-shrink-requires
 shrink-requires c κs =
     let s = c .before .before .before .before .before .before .before .before .before .before in
-    (c .before .before .before .before .before .before .staging .ensures .1 (c .before .before .before .before .if1 .taken), (s .pre .1 .0, (s .pre .1 .1, omega (arith, c .before .before .before .shrink-count .ensures .0, c .before .before .if2 .left))))
+    let k = c .before .before .before .before .before .before .staging .ensures .1 (c .before .before .before .before .if1 .taken) in
+    (k, (s .pre .1 .0, (s .pre .1 .1, omega (arith, c .before .before .before .shrink-count .ensures .0, c .before .before .if2 .left))))
 
 refusal-requires-2 : tie.Need-refusal-requires-2
 refusal-requires-2 c κs = search needs
@@ -52,7 +54,8 @@ mul-t13 c =
       arith,
       c .before .before .before .before .before .before .before .shrink-count .ensures .0,
       c .before .before .before .before .before .before .before .shrink-count .ensures .1,
-      shrink-count (a .img .now) (a .g) (s .pre .1 .0) (s .pre .0) (a .list .now) (a .i .0) (a .z) (a .time) (c .before .before .before .shrink .ensures),
+      shrink-count (a .img .now) (a .g) (s .pre .1 .0) (s .pre .0 .verdict) (a .list .now) (a .i .0) (a .z) (a .time)
+          (c .before .before .before .shrink .ensures),
     )
 
 same-length : tie.Need-same-length
@@ -63,8 +66,10 @@ returns-2 c =
     let s = c .before .before .before .before .before .before .before .before .before .before .before .before .before .before in
     let a = s .args in
     rw (c .refusal2 .ensures)
-    (shrink-done (a .img .now) (a .g) (s .pre .1 .0) (s .pre .0) (a .list .now) (a .i .0) (a .z) (a .time) (c .before .before .before .before .before .before .before .before .before .before .staging .ensures .0 ∙ ap not (c .before .before .before .before .before .before .before .before .if1 .taken))
-    (omega (arith, c .before .before .before .before .before .before .before .shrink-count .ensures .0, c .before .before .before .before .before .before .if2 .left)) (c .before .before .before .shrink .ensures))
+    (shrink-done (a .img .now) (a .g) (s .pre .1 .0) (s .pre .0 .verdict) (a .list .now) (a .i .0) (a .z) (a .time)
+    (c .before .before .before .before .before .before .before .before .before .before .staging .ensures .0 ∙ ap not (c .before .before .before .before .before .before .before .before .if1 .taken))
+    (omega (arith, c .before .before .before .before .before .before .before .shrink-count .ensures .0, c .before .before .before .before .before .before .if2 .left))
+    (c .before .before .before .shrink .ensures))
 
 refusal-requires-3 : tie.Need-refusal-requires-3
 refusal-requires-3 c κs = search needs
@@ -77,7 +82,8 @@ returns-3 c =
     let s = c .before .before .before .before .before .before .before .before in
     let a = s .args in
     rw (c .refused2 .ensures, c .before .refusal3 .ensures)
-    (shrink-full (a .img .now) (a .g) (s .pre .1 .0) (s .pre .0) (a .list .now) (a .i .0) (a .z) (a .time) (c .before .before .before .before .staging .ensures .0 ∙ ap not (c .before .before .if1 .left)))
+    (shrink-full (a .img .now) (a .g) (s .pre .1 .0) (s .pre .0 .verdict) (a .list .now) (a .i .0) (a .z) (a .time)
+    (c .before .before .before .before .staging .ensures .0 ∙ ap not (c .before .before .if1 .left)))
 
 pub shrink-file-spec : {M : Type 1} → statement M
 shrink-file-spec =

@@ -22,7 +22,7 @@ returns c =
     let len = length-span (a .bytes .now) (a .len) in
     let span = spanOf (a .bytes .now) (a .len) in
     rw (c .refused .ensures, c .before .refusal .ensures)
-    (file-12 (a .img .now) (s .pre .0 .judgment) (a .list .now) (a .i .0) (a .offset) span (a .time) (a .size) (s .pre .0 .says) (c .before .before .if1 .taken))
+    (file-12 (a .img .now) (s .pre .0 .judgment .verdict) (a .list .now) (a .i .0) (a .offset) span (a .time) (a .size) (s .pre .0 .says) (c .before .before .if1 .taken))
 
 refusal-requires-2 : tie.Need-refusal-requires-2
 refusal-requires-2 c κs = search needs
@@ -37,7 +37,7 @@ returns-2 c =
     let len = length-span (a .bytes .now) (a .len) in
     let span = spanOf (a .bytes .now) (a .len) in
     rw (c .refused2 .ensures, c .before .refusal2 .ensures)
-    (file-none (a .img .now) (s .pre .0 .judgment) (a .list .now) (a .i .0) (a .offset) span (a .time) (a .size) (s .pre .0 .says) (a .g) (s .pre .0 .opened)
+    (file-none (a .img .now) (s .pre .0 .judgment .verdict) (a .list .now) (a .i .0) (a .offset) span (a .time) (a .size) (s .pre .0 .says) (a .g) (s .pre .0 .opened)
     (c .before .before .before .if1 .left) (len ∙ c .before .before .if2 .taken))
 
 slice-aggregate-staging : tie.Need-slice-aggregate-staging
@@ -54,7 +54,9 @@ write-staged-requires c κs =
     let s = c .before .before .before .before .before .before .before .before .before .before .before in
     let taken = c .before .before .if3 .taken in
     let there = c .before .before .before .before .staging .ensures .0 ∙ ap not taken in
-    (c .before .before .before .before .staging .ensures .1 taken, ((there, omega (arith, c .before .before .before .before .before .before .if2 .left), c .before .before .before .before .before .before .before .if1 .left), (s .pre .0, s .pre .1)))
+    let far = c .before .before .before .before .before .before .before .if1 .left in
+    let some = c .before .before .before .before .before .before .if2 .left in
+    (c .before .before .before .before .staging .ensures .1 taken, ((there, omega (arith, some), far), (s .pre .0, s .pre .1)))
 
 same-length : tie.Need-same-length
 same-length c = search needs
@@ -75,8 +77,9 @@ returns-4 c =
     let len = length-span (a .bytes .now) (a .len) in
     let span = spanOf (a .bytes .now) (a .len) in
     rw (c .refused3 .ensures, c .before .refusal3 .ensures)
-    (file-full (a .img .now) (s .pre .0 .judgment) (a .list .now) (a .i .0) (a .offset) span (a .time) (a .size) (s .pre .0 .says)
-    (c .before .before .before .before .before .before .before .if1 .left) (λ e. c .before .before .before .before .before .before .if2 .left (sym len ∙ e)) (c .before .before .before .before .staging .ensures .0 ∙ ap not (c .before .before .if3 .left)))
+    (file-full (a .img .now) (s .pre .0 .judgment .verdict) (a .list .now) (a .i .0) (a .offset) span (a .time) (a .size) (s .pre .0 .says)
+    (c .before .before .before .before .before .before .before .if1 .left) (λ e. c .before .before .before .before .before .before .if2 .left (sym len ∙ e))
+    (c .before .before .before .before .staging .ensures .0 ∙ ap not (c .before .before .if3 .left)))
 
 pub write-file-spec : {M : Type 1} → statement M
 write-file-spec =

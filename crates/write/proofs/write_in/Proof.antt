@@ -1,8 +1,7 @@
 -- `write::write_in` meets its contract. The name or the time is bad, the bytes are too many, the file is written, or no file has the name.
 use Rattle.write.proofs.Laws.{file-below, asked, write-bad, write-long, write-missing, write-found}
 use Rattle.commit.proofs.Decided.{named-short}
-use Rattle.laws.proofs.Judged.{judged-image, judged-opened}
-use Rattle.laws.proofs.Refusals.{image-length}
+use Rattle.laws.proofs.Judged.{accepted-length, accepted-opened}
 use Rattle.model.specs.Search.{isAt}
 use native.Mathlib.Omega.{arith}
 use mathlib.Core.Path.{refl, sym, ap, _∙_}
@@ -12,7 +11,7 @@ use Rattle.write.proofs.write_in.Statement.{statement}
 use Rattle.write.proofs.write_in.Tie as tie
 
 geometry-in-requires : tie.Need-geometry-in-requires
-geometry-in-requires c κs = image-length _ _ (judged-image _ _ (c .before .before .before .before .pre))
+geometry-in-requires c κs = accepted-length _ (c .before .before .before .before .pre)
 
 bad-name-or-time-requires : tie.Need-bad-name-or-time-requires
 bad-name-or-time-requires c κs = search needs
@@ -29,7 +28,7 @@ returns c =
     let s = b .before .before .before .before .before .before in
     let a = s .args in
     rw (c .refused .ensures, c .before .refusal .ensures)
-    (write-bad (a .img .now) (s .pre) (a .list .now) (a .name .now) (a .offset) (a .bytes .now) (a .time)
+    (write-bad (a .img .now) (s .pre .verdict) (a .list .now) (a .name .now) (a .offset) (a .bytes .now) (a .time)
     (rw (b .before .geometry-in .ensures) at (sym (b .bad-name-or-time .ensures) ∙ c .before .before .if1 .taken)))
 
 refusal-requires-2 : tie.Need-refusal-requires-2
@@ -43,14 +42,14 @@ returns-2 c =
     let s = c .before .before .before .before .before .before .before .before .before .before in
     let a = s .args in
     rw (c .refused2 .ensures, c .before .refusal2 .ensures)
-    (write-long (a .img .now) (s .pre) (a .list .now) (a .name .now) (a .offset) (a .bytes .now) (a .time) (c .before .before .if2 .taken))
+    (write-long (a .img .now) (s .pre .verdict) (a .list .now) (a .name .now) (a .offset) (a .bytes .now) (a .time) (c .before .before .if2 .taken))
 
 file-named-requires : tie.Need-file-named-requires
 file-named-requires c κs =
     let b = c .before .before in
     let s = b .before .before .before .before .before .before in
     let e = b .before .geometry-in .result .edition in
-    (judged-opened _ _ (b .before .geometry-in .ensures) (omega arith) (s .pre), named-short e _ (s .args .time) (sym (b .bad-name-or-time .ensures) ∙ c .before .if1 .left))
+    (accepted-opened _ _ (b .before .geometry-in .ensures) (omega arith) (s .pre), named-short e _ (s .args .time) (sym (b .bad-name-or-time .ensures) ∙ c .before .if1 .left))
 
 enum-known-i : tie.Need-enum-known-i
 enum-known-i c = search needs
@@ -60,7 +59,7 @@ size-at-requires c κs =
     let f = c .before .before .before in
     let g = f .before .before .before .before in
     let s = g .before .before .before .before .before in
-    let o = judged-opened _ _ (g .geometry-in .ensures) (omega (arith, g .geometry-in .ok)) (s .pre) in
+    let o = accepted-opened _ _ (g .geometry-in .ensures) (omega (arith, g .geometry-in .ok)) (s .pre) in
     let h = file-below (s .args .img .now) _ o (s .args .name .now) (c .before .i .given .0 .0) (sym (c .before .i .given .1) ∙ f .file-named .ensures) in
     omega (arith, o .held, h)
 
@@ -70,7 +69,7 @@ write-file-requires c κs =
     let f = i .before .before in
     let g = f .before .before .before .before in
     let s = g .before .before .before .before .before in
-    let o = judged-opened _ _ (g .geometry-in .ensures) (omega (arith, g .geometry-in .ok)) (s .pre) in (
+    let o = accepted-opened _ _ (g .geometry-in .ensures) (omega (arith, g .geometry-in .ok)) (s .pre) in (
       asked (s .args .img .now) _ o (s .args .name .now) (i .i .given .0 .0) (sym (i .i .given .1) ∙ f .file-named .ensures) (s .pre)
           (c .before .size-at .result) _ (c .before .size-at .ensures) (f .before .if2 .left),
       source-own (s .args .bytes .now),
@@ -85,7 +84,7 @@ returns-3 c =
     let t = f .before .before .before in
     let s = t .before .before .before .before .before .before .before .before in
     let a = s .args in
-    write-found (a .img .now) (s .pre) (a .list .now) (a .name .now) (a .offset) (a .bytes .now) (a .time)
+    write-found (a .img .now) (s .pre .verdict) (a .list .now) (a .name .now) (a .offset) (a .bytes .now) (a .time)
     (rw (t .before .before .before .geometry-in .ensures) at (sym (t .before .before .bad-name-or-time .ensures) ∙ t .before .if1 .left)) (t .if2 .left) (f .i .given .0 .0)
     (sym (f .i .given .1) ∙ f .before .before .file-named .ensures) (rw (span-own (a .bytes .now) _ refl) at (c .before .before .write-file .ensures))
 
@@ -104,7 +103,7 @@ returns-4 c =
     let s = t .before .before .before .before .before .before .before .before in
     let a = s .args in
     rw (c .refused3 .ensures, c .before .refusal3 .ensures)
-    (write-missing (a .img .now) (s .pre) (a .list .now) (a .name .now) (a .offset) (a .bytes .now) (a .time)
+    (write-missing (a .img .now) (s .pre .verdict) (a .list .now) (a .name .now) (a .offset) (a .bytes .now) (a .time)
     (rw (t .before .before .before .geometry-in .ensures) at (sym (t .before .before .bad-name-or-time .ensures) ∙ t .before .if1 .left)) (t .if2 .left)
     (ap isAt (sym (c .before .before .before .before .file-named .ensures) ∙ c .before .before .enum-told .given .1)))
 

@@ -57,7 +57,7 @@ returns c =
     let span = spanOf (a .bytes .now) (a .len) in
     let w = c .before .before .before .before .before .before .need-for .ensures .0 in
     let e = c .before .before .before .before .before .before .before .most .ensures ∙ ap (λ (x : ℕ). max x (a .offset + a .len)) (s .pre .1 .1 .0 .says) in
-    file-room (a .img .now) (s .pre .1 .1 .0 .judgment) (a .list .now) (a .i .0) (a .offset) span (a .time) (a .size) (s .pre .1 .1 .0 .says)
+    file-room (a .img .now) (s .pre .1 .1 .0 .judgment .verdict) (a .list .now) (a .i .0) (a .offset) span (a .time) (a .size) (s .pre .1 .1 .0 .says)
     (s .pre .1 .0 .2) (c .before .before .before .before .before .before .before .most .result)
     (e ∙ ap (λ (x : ℕ). sizeAfter (catalogueOf (view (a .img .now))) (a .i .0) (a .offset) x) (sym len))
     (rw (w .has-one ∙ ap not (c .before .before .before .before .if2 .taken))
@@ -78,7 +78,7 @@ returns-2 c =
     let w = c .before .before .before .before .need-for .ensures .0 in
     let e = c .before .before .before .before .before .most .ensures ∙ ap (λ (x : ℕ). max x (a .offset + a .len)) (s .pre .1 .1 .0 .says) in
     rw (c .refused .ensures, c .before .refusal .ensures)
-    (file-13 (a .img .now) (s .pre .1 .1 .0 .judgment) (a .list .now) (a .i .0) (a .offset) span (a .time) (a .size) (s .pre .1 .1 .0 .says) (s .pre .1 .0 .2)
+    (file-13 (a .img .now) (s .pre .1 .1 .0 .judgment .verdict) (a .list .now) (a .i .0) (a .offset) span (a .time) (a .size) (s .pre .1 .1 .0 .says) (s .pre .1 .0 .2)
     (c .before .before .before .before .before .most .result) (e ∙ ap (λ (x : ℕ). sizeAfter (catalogueOf (view (a .img .now))) (a .i .0) (a .offset) x) (sym len))
     (sym (w .needs-one) ∙ c .before .before .before .if1 .taken) (w .has-one ∙ ap not (c .before .before .if2 .left)))
 
@@ -116,7 +116,7 @@ returns-3 c =
     let span = spanOf (a .bytes .now) (a .len) in
     let w = c .before .before .before .before .before .need-for .ensures .0 in
     let e = c .before .before .before .before .before .before .most .ensures ∙ ap (λ (x : ℕ). max x (a .offset + a .len)) (s .pre .1 .1 .0 .says) in
-    file-room (a .img .now) (s .pre .1 .1 .0 .judgment) (a .list .now) (a .i .0) (a .offset) span (a .time) (a .size) (s .pre .1 .1 .0 .says)
+    file-room (a .img .now) (s .pre .1 .1 .0 .judgment .verdict) (a .list .now) (a .i .0) (a .offset) span (a .time) (a .size) (s .pre .1 .1 .0 .says)
     (s .pre .1 .0 .2) (c .before .before .before .before .before .before .most .result)
     (e ∙ ap (λ (x : ℕ). sizeAfter (catalogueOf (view (a .img .now))) (a .i .0) (a .offset) x) (sym len))
     (rw (← w .needs-one, c .before .before .before .before .if1 .left)) (c .before .before .put-if-room2 .ensures)

@@ -21,6 +21,7 @@ mod formats;
 mod full_volume;
 mod geometries;
 mod lengths;
+mod lent;
 mod longest_lists;
 mod older_names;
 mod older_volumes;

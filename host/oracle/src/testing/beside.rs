@@ -179,7 +179,8 @@ fn count_buffer(
     }
 }
 
-fn same_bytes(found: &[u8], expected: &[u8], what: impl Fn() -> String) {
+/// Tells the first byte that differs.
+pub fn same_bytes(found: &[u8], expected: &[u8], what: impl Fn() -> String) {
     assert_eq!(found.len(), expected.len(), "{}", what());
     if found != expected {
         let at = (0..found.len()).find(|at| found[*at] != expected[*at]);

@@ -5,6 +5,7 @@ use super::Counts;
 #[derive(Clone, Copy, Debug, PartialEq, Eq, PartialOrd, Ord)]
 pub enum Compared {
     Calls,
+    LentCalls,
     RandomRuns,
     CallsInRuns,
     Cuts,
@@ -21,8 +22,9 @@ pub enum Compared {
 
 impl Compared {
     /// In the order in which they are told, which is that of their numbers.
-    pub const ALL: [Compared; 13] = [
+    pub const ALL: [Compared; 14] = [
         Compared::Calls,
+        Compared::LentCalls,
         Compared::RandomRuns,
         Compared::CallsInRuns,
         Compared::Cuts,
@@ -40,6 +42,7 @@ impl Compared {
     pub fn name(self) -> &'static str {
         match self {
             Compared::Calls => "calls put to both sides",
+            Compared::LentCalls => "calls on lent sectors",
             Compared::RandomRuns => "random runs",
             Compared::CallsInRuns => "calls in random runs",
             Compared::Cuts => "cuts",

@@ -18,6 +18,7 @@ pub mod runs;
 pub mod sets;
 pub mod slices;
 pub mod volumes;
+pub mod wanted;
 
 use crate::answers::{
     code, CheckAnswer, FormatRecordAnswer, RecoverAnswer, Refusal, RepairAnswer, SliceAnswer,

@@ -1,0 +1,3 @@
+-- Laws of the steps, and that they print the listing.
+pub mod Laws
+pub mod Listing

@@ -34,6 +34,7 @@ use Rattle.model.specs.Format.{Format}
 use Rattle.model.specs.Ledger.{Call, summary, check, find, list, read, create, delete, resize, write, rename, renameSet, Answer, gave, changed, Feed, whole, answersTo, ledgerAfter}
 use Rattle.model.specs.Run.{onVolume, volumeAnswer, volumePlan, Fits, Phase, steady, Run}
 use Rattle.model.specs.Demand3.{Says}
+use Rattle.safety.specs.LongestLists.{listRoom}
 
 -- front is lent of the image, at least its sectors before the data area, and count is its sectors; S fits its field of four bytes
 pub record Lends (img front : List ℕ) (count : ℕ) : Type 0 where
@@ -147,20 +148,6 @@ module _ (front : List ℕ) (count : ℕ) (d : Disk) where
   lentList summary l = l
   lentList check l = l
   lentList (find name) l = l
-
--- the length of the list that a call is lent
-abbrev pub listRoom : Call → ℕ
-listRoom summary = 0
-listRoom check = 0
-listRoom (find name) = 0
-listRoom (list i time room space) = space
-listRoom (read name offset asked time room space) = space
-listRoom (create name id mode time room) = room
-listRoom (delete name time room) = room
-listRoom (resize name size time room) = room
-listRoom (write name offset bytes time room) = room
-listRoom (rename old new time room) = room
-listRoom (renameSet names lengths time room) = room
 
 -- ---- what is claimed
 

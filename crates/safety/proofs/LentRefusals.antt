@@ -1,4 +1,4 @@
--- T-11: what lent sectors are refused, and that a form that refuses asks for no sector. Assumes nothing.
+-- T-11: what lent sectors are refused, that a form that refuses asks for no sector, and what a wrong count of supplied bytes comes to. Assumes nothing.
 use Prim.Native.Nat.{ℕ, _*_, _-_, _/_, _%_, _<_, max}
 use mathlib.Core.Path.{_≡_, refl, sym, ap, ap₂, _∙_}
 use mathlib.Core.Logic.{_≢_}
@@ -15,20 +15,24 @@ use Rattle.model.specs.declared.Changed.{Changed}
 use Rattle.model.specs.declared.Recovered.{Recovered}
 use Rattle.model.specs.declared.Verdict.{Verdict}
 use Rattle.model.specs.declared.Part.{Part}
+use Rattle.model.specs.declared.Reading.{Reading}
+use Rattle.model.specs.declared.Writing.{Writing}
+use Rattle.model.specs.declared.Recovering.{Recovering}
 use Rattle.model.specs.Search.{indexOf}
 use Rattle.model.specs.Geometry.{superblockAt, inBounds, dataAt, volumeSectors}
 use Rattle.model.specs.Disk.{Disk, view}
 use Rattle.model.specs.Superblock.{isVolume, geometryIn}
 use Rattle.model.specs.Catalogue.{catalogueOf, fileNamed}
 use Rattle.model.specs.Refusals.{Conditions, verdictOf, refusal, andThen, isDone, isWhole, fitsImage, imageVerdict, judged}
-use Rattle.model.specs.WriteList.{Plan, Decision, groupsFor, listLength, planConditions, decided, answerOf}
+use Rattle.model.specs.WriteList.{barrierNumber, Plan, Decision, groupsFor, listLength, planConditions, decided, answerOf}
 use Rattle.model.specs.Read.{readCount, sizeNamed, readDecision, notRead, readOf, readAnswer}
 use Rattle.model.specs.Write.{writePlanned, writeConditions, writeDecision, writeAnswer}
 use Rattle.model.specs.Resize.{resizePlanned, resizeConditions, resizeDecision, resizeAnswer}
 use Rattle.model.specs.Recovery.{recoveryGroups, recoveryVerdict, recoveryListed, recoveryAnswer}
 use Rattle.model.specs.Lent.{isFront, lentLength, readIdle, readAsking, readBegun, readLent, partlyCovered, writeAsking, writeLent, resizeLent, recoveryIdle, recoveryAsking, recoveryLent}
+use Rattle.model.specs.Lent.{isAsked, takesRead, readNotTaken, readStep, readStepOutput, takesWrite, writeNotTaken, writeStep, writeStepList, takesSource, sourceNotTaken, recoveryStep, recoveryStepList}
 use Rattle.laws.proofs.Booleans.{and-false, and-yes}
-use Rattle.safety.specs.LentForms.{goesBy, LentRefusals, RefusedBefore}
+use Rattle.safety.specs.LentForms.{goesBy, LentRefusals, RefusedBefore, WrongCount}
 
 -- ---- 1 to 3
 
@@ -163,3 +167,80 @@ pub refused-before : RefusedBefore
 unfolding RefusedBefore
 refused-before len d name =
     (refused-read len d name, refused-write len d name, refused-resize len d name, refused-recovery len d)
+
+-- ---- a wrong count of supplied bytes
+
+not-asked : (s n : ℕ) → n ≢ 512 → isAsked s n ≡ false
+unfolding isAsked
+not-asked s n h = rw (ne-eqb n 512 h) (and-false (ltb 0 s && ltb s barrierNumber))
+
+module _ (n room : ℕ) (h : n ≢ 512) where
+  read-refused : (r : Reading) → takesRead r n room ≡ false
+  unfolding takesRead
+  read-refused r = rw (not-asked (r .wanted) n h) refl
+
+  write-refused : (w : Writing) → takesWrite w n room ≡ false
+  unfolding takesWrite
+  write-refused w = rw (not-asked (w .wanted .sector) n h) refl
+
+  source-refused : (d : Disk) (len : ℕ) (v : Recovering) → takesSource d len v n room ≡ false
+  unfolding takesSource
+  source-refused d len v = rw (not-asked (v .wanted) n h) refl
+
+-- a step that is not taken leaves the next one as it was
+read-again : (r : Reading) (n room : ℕ) → readStep (readNotTaken r) n room ≡ readStep r n room
+unfolding readStep takesRead
+read-again r n room = refl
+
+write-again : (w : Writing) (n room : ℕ) → writeStep (writeNotTaken w) n room ≡ writeStep w n room
+unfolding writeStep takesWrite
+write-again w n room = refl
+
+source-again : (d : Disk) (len : ℕ) (v : Recovering) (n room : ℕ) → recoveryStep d len (sourceNotTaken d v) n room ≡ recoveryStep d len v n room
+unfolding recoveryStep takesSource
+source-again d len v n room = refl
+
+module _ (bytes l : List ℕ) (h : length bytes ≢ 512) where
+  read-is : (r : Reading) → readStep r (length bytes) (length l) ≡ readNotTaken r
+  unfolding readStep
+  read-is r = rw (read-refused (length bytes) (length l) h r) refl
+
+  read-stays : (r : Reading) → readStepOutput r bytes l ≡ l
+  unfolding readStepOutput
+  read-stays r = rw (read-refused (length bytes) (length l) h r) refl
+
+  write-is : (w : Writing) → writeStep w (length bytes) (length l) ≡ writeNotTaken w
+  unfolding writeStep
+  write-is w = rw (write-refused (length bytes) (length l) h w) refl
+
+  write-stays : (w : Writing) → writeStepList w bytes l ≡ l
+  unfolding writeStepList
+  write-stays w = rw (write-refused (length bytes) (length l) h w) refl
+
+  source-is : (d : Disk) (len : ℕ) (v : Recovering) → recoveryStep d len v (length bytes) (length l) ≡ sourceNotTaken d v
+  unfolding recoveryStep
+  source-is d len v = rw (source-refused (length bytes) (length l) h d len v) refl
+
+  source-stays : (d : Disk) (len : ℕ) (v : Recovering) → recoveryStepList d len v bytes l ≡ l
+  unfolding recoveryStepList
+  source-stays d len v = rw (source-refused (length bytes) (length l) h d len v) refl
+
+pub wrong-count : WrongCount
+unfolding WrongCount
+wrong-count bytes l h = (
+  λ r. (
+    ap (λ (x : Reading). x .code) (read-is bytes l h r),
+    read-stays bytes l h r,
+    λ n room. ap (λ (x : Reading). readStep x n room) (read-is bytes l h r) ∙ read-again r n room,
+  ),
+  λ w. (
+    ap (λ (x : Writing). x .code) (write-is bytes l h w),
+    write-stays bytes l h w,
+    λ n room. ap (λ (x : Writing). writeStep x n room) (write-is bytes l h w) ∙ write-again w n room,
+  ),
+  λ d len v. (
+    ap (λ (x : Recovering). x .code) (source-is bytes l h d len v),
+    source-stays bytes l h d len v,
+    λ n room. ap (λ (x : Recovering). recoveryStep d len x n room) (source-is bytes l h d len v) ∙ source-again d len v n room,
+  ),
+)

@@ -211,6 +211,17 @@ RefusedBefore =
     × ((size time room : ℕ) → (let w = resizeLent len d name size time room in w .code ≢ 0 → w .wanted .sector ≡ 0))
     × ((room : ℕ) → (let v = recoveryLent len d room in v .code ≢ 0 → v .wanted ≡ 0))
 
+-- "A wrong count of supplied bytes gets 8, and that step changes nothing": not the output or list, nor what the next step makes of the state
+unfoldable pub WrongCount : Type 0
+WrongCount =
+    (bytes l : List ℕ) → length bytes ≢ 512
+    → ((r : Reading) → (let x = readStep r (length bytes) (length l) in
+    (x .code ≡ 8) × (readStepOutput r bytes l ≡ l) × ((n room : ℕ) → readStep x n room ≡ readStep r n room)))
+    × ((w : Writing) → (let x = writeStep w (length bytes) (length l) in
+    (x .code ≡ 8) × (writeStepList w bytes l ≡ l) × ((n room : ℕ) → writeStep x n room ≡ writeStep w n room)))
+    × ((d : Disk) (len : ℕ) (v : Recovering) → (let x = recoveryStep d len v (length bytes) (length l) in
+    (x .code ≡ 8) × (recoveryStepList d len v bytes l ≡ l) × ((n room : ℕ) → recoveryStep d len x n room ≡ recoveryStep d len v n room)))
+
 -- DEMAND 3 of lent forms: in a run, a call that is made in its lent form gives the ledger's answer and leaves the list that lands, after which the volume
 -- says what the ledger says; and a recovery gives the answer and leaves the list of the run's
 unfoldable pub LentDemand3 : Type 0

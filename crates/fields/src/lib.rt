@@ -60,6 +60,18 @@ pub fn copy_bytes(src: &[u8], from: usize, dst: &mut [u8], at: usize, n: usize)
     }
 }
 
+// Copies at most 512 bytes. The array between shows the compiler that nothing overlaps: both copies become one memory move.
+pub fn move_bytes(src: &[u8], from: usize, dst: &mut [u8], at: usize, n: usize)
+    requires { ⌜ n ≤ 512 ⌝ }
+    requires { ⌜ from + n ≤ length (now src) ⌝ }
+    requires { ⌜ at + n ≤ length (now dst) ⌝ }
+    ensures { λ _. ⌜ now (dst .exit) ≡ put (now (dst .entry)) at (bytesFrom (now (src .entry)) from n) ⌝ }
+{
+    let mut a = [0u8; 512];
+    copy_bytes(src, from, &mut a, 0, n);
+    copy_bytes(&a, 0, dst, at, n);
+}
+
 // Writes `n` zeros at `at`.
 pub fn put_zeros(b: &mut [u8], at: usize, n: usize)
     requires { ⌜ at + n ≤ length (now b) ⌝ }

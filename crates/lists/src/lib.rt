@@ -16,16 +16,13 @@ pub const NUMBER_START: usize = 8;
 
 pub const CONTENTS_START: usize = 16;
 
-// Copies 512 bytes of `src` from `from` to `dst` at `at`. The array between shows the compiler that nothing overlaps: both copies
-// become one memory move.
+// Copies 512 bytes of `src` from `from` to `dst` at `at`.
 pub fn copy_sector(src: &[u8], from: usize, dst: &mut [u8], at: usize)
     requires { ⌜ from + 512 ≤ length (now src) ⌝ }
     requires { ⌜ at + 512 ≤ length (now dst) ⌝ }
     ensures { λ _. ⌜ now (dst .exit) ≡ put (now (dst .entry)) at (bytesFrom (now (src .entry)) from 512) ⌝ }
 {
-    let mut a = [0u8; 512];
-    fields::copy_bytes(src, from, &mut a, 0, 512);
-    fields::copy_bytes(&a, 0, dst, at, 512);
+    fields::move_bytes(src, from, dst, at, 512);
 }
 
 // The record of position p, at any place: a sector's number and its new contents, the 512 bytes of `src` from `from` on.

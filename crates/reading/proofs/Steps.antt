@@ -130,8 +130,8 @@ module _ (r : Reading) (n room : ℕ) where
       }
 
 -- the part of the sector that is copied stands in it, and in the output
-pub part-fits : (r : Reading) (n room p : ℕ) → Takes r n room → p ≡ readPart r → (r .skip + p ≤ n) × (r .done + p ≤ room)
-part-fits r n room p t e = (omega (arith, t .whole, t .inside, e), omega (arith, t .left, t .fits, e))
+pub part-fits : (r : Reading) (n room p : ℕ) → Takes r n room → p ≡ readPart r → (p ≤ 512) × ((r .skip + p ≤ n) × (r .done + p ≤ room))
+part-fits r n room p t e = (omega (arith, e), (omega (arith, t .whole, t .inside, e), omega (arith, t .left, t .fits, e)))
 
 pub step-taken : (r : Reading) (bytes out o : List ℕ) (p w : ℕ) → takesRead r (length bytes) (length out) ≡ true → p ≡ readPart r
     → w ≡ cond (eqb (r .done + p) (r .count)) 0 (cond (eqb (r .done + p) (r .edge)) (r .next) (r .wanted + 1)) → o ≡ put out (r .done) (bytesFrom bytes (r .skip) p)

@@ -453,7 +453,7 @@ pub fn read_step(r: Reading, bytes: &[u8], out: &mut [u8]) -> Reading
 {
     if takes_read(r, bytes.len(), out.len()) {
         let part = fields::least(512 - r.skip, r.count - r.done);
-        fields::copy_bytes(bytes, r.skip as usize, out, r.done as usize, part as usize);
+        fields::move_bytes(bytes, r.skip as usize, out, r.done as usize, part as usize);
         let n = r.done + part;
         let wanted = wanted_after(r, n);
         return Reading {

@@ -599,8 +599,8 @@ fn complete(p: Part, bytes: &[u8], list: &mut [u8])
 {
     let at = p.position as usize * lists::RECORD_SIZE + lists::CONTENTS_START;
     let to = p.to as usize;
-    fields::copy_bytes(bytes, 0, list, at, p.from as usize);
-    fields::copy_bytes(bytes, to, list, at + to, 512 - to);
+    fields::move_bytes(bytes, 0, list, at, p.from as usize);
+    fields::move_bytes(bytes, to, list, at + to, 512 - to);
 }
 
 // The list's length once nothing is asked for any more.

@@ -18,8 +18,8 @@ sub-least-2 c = let t = takes _ _ _ (sym (c .before .before .before .takes-read 
 least-requires : tie.Need-least-requires
 least-requires c κs = search needs
 
-copy-bytes-requires : tie.Need-copy-bytes-requires
-copy-bytes-requires c κs =
+move-bytes-requires : tie.Need-move-bytes-requires
+move-bytes-requires c κs =
     let k = c .before .before .before .before in
     part-fits _ _ _ _ (takes _ _ _ (sym (k .before .takes-read .ensures) ∙ k .if1 .taken)) (c .before .least .ensures)
 
@@ -38,7 +38,7 @@ returns c =
     let k = l .before .before .before in
     let a = k .before .before .before .before .args in
     step-taken (a .r) (a .bytes .now) (a .out .now) _ (l .least .result) (c .wanted-after .result) (sym (k .before .takes-read .ensures) ∙ k .if1 .taken) (l .least .ensures) (c .wanted-after .ensures)
-    (c .before .before .before .before .copy-bytes .ensures)
+    (c .before .before .before .before .move-bytes .ensures)
 
 returns-2 : tie.Need-returns-2
 returns-2 c =
@@ -53,7 +53,7 @@ read-step-spec =
     sub-least
     sub-least-2
     least-requires
-    copy-bytes-requires
+    move-bytes-requires
     add-n
     wanted-after-requires
     same-length

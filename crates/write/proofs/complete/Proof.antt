@@ -10,24 +10,24 @@ mul-at c = search needs
 add-at : tie.Need-add-at
 add-at c = search needs
 
-copy-bytes-requires : tie.Need-copy-bytes-requires
-copy-bytes-requires c κs = search needs
+move-bytes-requires : tie.Need-move-bytes-requires
+move-bytes-requires c κs = search needs
 
-add-copy-bytes : tie.Need-add-copy-bytes
-add-copy-bytes c = search needs
+add-move-bytes : tie.Need-add-move-bytes
+add-move-bytes c = search needs
 
-sub-copy-bytes : tie.Need-sub-copy-bytes
-sub-copy-bytes c = search needs
+sub-move-bytes : tie.Need-sub-move-bytes
+sub-move-bytes c = search needs
 
-copy-bytes-requires-2 : tie.Need-copy-bytes-requires-2
-copy-bytes-requires-2 c κs = search needs
+move-bytes-requires-2 : tie.Need-move-bytes-requires-2
+move-bytes-requires-2 c κs = search needs
 
 same-length : tie.Need-same-length
 same-length c = search needs
 
 returns : tie.Need-returns
 unfolding completed
-returns c = rw (c .before .before .copy-bytes2 .ensures, c .before .before .before .before .before .before .copy-bytes .ensures)
+returns c = rw (c .before .before .move-bytes2 .ensures, c .before .before .before .before .before .before .move-bytes .ensures)
 
 pub complete-spec : {M : Type 1} → statement M
 complete-spec =
@@ -35,9 +35,9 @@ complete-spec =
     (tie.spec
     mul-at
     add-at
-    copy-bytes-requires
-    add-copy-bytes
-    sub-copy-bytes
-    copy-bytes-requires-2
+    move-bytes-requires
+    add-move-bytes
+    sub-move-bytes
+    move-bytes-requires-2
     same-length
     returns)

@@ -491,7 +491,8 @@ goofs_repair_result goofs_repair_lent(const uint8_t *front, size_t front_length,
 goofs_recovering goofs_recover_lent(const uint8_t *front, size_t front_length, uint64_t sectors, uint8_t *list, size_t list_length);
 
 /* Puts the wanted copy into the list of a recovery. `front` holds the same sectors as in the first call; another journal, or a front that
- * ends before the data area, gets 8. */
+ * ends before the data area, gets 8. The list is as the first call and the steps before left it. A step takes the same time for any
+ * journal whose targets rise, as those of this library's changes do; of another one it counts the targets. */
 goofs_recovering goofs_recover_step(goofs_recovering recovering, const uint8_t *front, size_t front_length, const uint8_t *bytes,
                                     size_t length, uint8_t *list, size_t list_length);
 

@@ -23,6 +23,7 @@ use Rattle.model.specs.Catalogue.{Catalogue, catalogueOf, fileNamed, ext
 use Rattle.model.specs.Refusals.{isWhole}
 use Rattle.model.specs.Summary.{stateEntries}
 use Rattle.model.specs.WriteList.{barrierNumber, recordSize, contentsStart}
+use Rattle.model.specs.CarryOut.{recordIn}
 use Rattle.model.specs.Read.{sizeNamed, readAnswer}
 use Rattle.model.specs.Write.{touchedSectors, fileSectorAt, writeAnswer}
 use Rattle.model.specs.Resize.{resizeAnswer}
@@ -227,14 +228,16 @@ unfoldable pub recoveryLent : ℕ → Disk → ℕ → Recovering
 recoveryLent len d room = let a = recoveryAnswer len d room in cond (eqb (a .length) 0) (recoveryIdle a) (recoveryAsking d a)
 
 module _ (d : Disk) where
-  -- how many entries wait; where the target of entry k stands among their targets
+  -- how many entries wait
   abbrev pub entriesWaiting : ℕ
   entriesWaiting = stateEntries (stateOn d)
 
-  unfoldable pub targetPlace : ℕ → ℕ
-  targetPlace k =
+  -- the record of entry k's target in the list: record k where the list shows it there, as it does where the targets rise; else as many records stand
+  -- before it as there are targets below it
+  unfoldable pub targetPlace : List ℕ → ℕ → ℕ
+  targetPlace list k =
       let g = geometryIn (d superblockAt) in
-      countBelow (λ j. ltb (targetAt g d j) (targetAt g d k)) entriesWaiting
+      cond (eqb (recordIn list k .sector) (targetAt g d k)) k (countBelow (λ j. ltb (targetAt g d j) (targetAt g d k)) entriesWaiting)
 
   -- the len bytes lent are those of the recovery that asks: a journal that waits, and the source of its entry
   unfoldable pub takesSource : ℕ → Recovering → ℕ → ℕ → Bool
@@ -262,4 +265,4 @@ module _ (d : Disk) where
   -- the source's bytes are the contents of the target's record
   unfoldable pub recoveryStepList : ℕ → Recovering → List ℕ → List ℕ → List ℕ
   recoveryStepList len v bytes list =
-      cond (takesSource len v (length bytes) (length list)) (put list (targetPlace (v .entry) * recordSize + contentsStart) bytes) list
+      cond (takesSource len v (length bytes) (length list)) (put list (targetPlace list (v .entry) * recordSize + contentsStart) bytes) list

@@ -1,15 +1,16 @@
 -- A RECOVERY IN ITS LENT FORM is the whole-image call: it lists group C with what the lent sectors show of the sources, asks for each entry's source and
--- puts it into the record of the entry's target, whose position is the number of targets below it. Assumes nothing.
-use Prim.Native.Nat.{ℕ, zero, suc, _+_, _*_, _-_, _≤_, _<_}
+-- puts it into the record of the entry's target, whose position is the number of targets below it, counted or shown by the list. Assumes nothing.
+use Prim.Native.Nat.{ℕ, zero, suc, _+_, _*_, _-_, _^_, _≤_, _<_}
 use mathlib.Core.Path.{_≡_, refl, sym, ap, ap₂, _∙_, subst}
 use mathlib.Core.Logic.{_≢_}
 use mathlib.Core.Bool.{Bool, true, false, cond, _&&_, _||_, true≢false}
 use mathlib.Core.List.{List, [], _∷_, _++_, append-assoc, append-nil}
 use native.Mathlib.Omega.{arith}
 use native.Mathlib.Decide.{decLt}
-use native.Mathlib.Nat.{add-zero, add-suc, zero-add}
+use native.Mathlib.Nat.{add-zero, add-suc, zero-add, not-suc-le-zero}
 use lib.Dec.{eqb, leb, ltb}
-use lib.ListN.{length, length-append}
+use lib.ListN.{length, getD, length-append, List·getD-append}
+use lib.Seq.{getD-append-add}
 use borrow.Author.Tests.{eqb-true, eqb-false, eq-eqb, ne-eqb, le-leb, leb-true, lt-ltb, le-ltb, ltb-true, ltb-false}
 use Rattle.model.specs.declared.Geometry.{Geometry}
 use Rattle.model.specs.declared.State.{State}
@@ -29,6 +30,7 @@ use Rattle.model.specs.Refusals.{refusal, done, isDone, andThen, imageVerdict, 
 use Rattle.model.specs.Summary.{stateEntries}
 use Rattle.model.specs.WriteList.{Record, Group, sectorWrite, barrierNumber, barrier, recordSize, contentsStart, recordBytes, listBytes, emit}
 use Rattle.model.specs.WriteList.{superblockGroup, closed, listLength, ownVerdict}
+use Rattle.model.specs.CarryOut.{recordIn}
 use Rattle.model.specs.Recovery.{isData, isMetadata, goodEntry, replayedSector, replayed, replayGroups, recoveryGroups, recoveryVerdict, recoveryListed, recoveryAnswer, recoveryList}
 use Rattle.model.specs.Lent.{isFront, isAsked, recoveryIdle, recoveryAsking, recoveryLent, entriesWaiting, targetPlace, takesSource, sourceTaken, sourceNotTaken, recoveryStep, recoveryStepList}
 use Rattle.laws.proofs.Booleans.{and-left}
@@ -45,7 +47,8 @@ use Rattle.safety.specs.LentForms.{Lends, goesBy, recoveryFed, recoveryA
 use Rattle.safety.proofs.Searches.{place-found}
 use Rattle.safety.proofs.Superblock.{volume-bounds, groups-are, byRoom, Recovers, when-done}
 use Rattle.safety.proofs.Frame.{closed-cons}
-use Rattle.safety.proofs.Replayed.{target-metadata, target-once, waiting-recovers, length-recovery}
+use Rattle.safety.proofs.Replayed.{target-metadata, target-once, waiting-recovers, length-replayed, length-recovery}
+use Rattle.safety.proofs.Bridge.{number-emitted}
 use Rattle.safety.proofs.AnyJournal.{volume, good, few}
 use Rattle.safety.proofs.LentFront.{Agrees, same-geometry, same-state, same-group, source-same, target-same, few-entries, same-journal, lent-agrees, front-is, lent-image}
 
@@ -144,6 +147,41 @@ module _ (T : ℕ → ℕ) (n : ℕ) where
   length-filled c b =
       length-concatenated (filledSector c) (λ t. anyBelow (λ j. eqb (T j) t) n) b
       (λ t. one-record (isAt (first (λ j. eqb (T j) t) n)) _ ∙ ap (λ (q : Bool). cond q 1 0) (sym (anyBelow-first (λ j. eqb (T j) t) n)))
+
+  -- record i is that of a sector below which i records stand
+  one-more : (A : List Record) (q : Bool) (w : Record) (i : ℕ) → length A ≤ i → i < length (A ++ cond q (w ∷ []) [])
+      → (getD (A ++ cond q (w ∷ []) []) i barrier ≡ w) × (length A ≡ i)
+  one-more A true w i h l =
+      let e : length A ≡ i = omega (arith, length-append A (w ∷ [])) in
+      let z : i ≡ length A + 0 = omega arith in
+      (ap (λ (j : ℕ). getD (A ++ (w ∷ [])) j barrier) z ∙ getD-append-add A (w ∷ []) 0 barrier, e)
+  one-more A false w i h l = absurd (omega (arith, length-append A []))
+
+  numbered : (c : ℕ → List ℕ) (b i : ℕ) → i < length (filled c b)
+      → (getD (filled c b) i barrier .sector < b) × (length (filled c (getD (filled c b) i barrier .sector)) ≡ i)
+  unfolding filled filledSector concatenated
+  numbered c zero i h = absurd (not-suc-le-zero h)
+  numbered c (suc b) i h = go (decLt i (length (filled c b))) (numbered c b i)
+    where
+      p : Lowest
+      p = first (λ j. eqb (T j) (0 + b)) n
+
+      w : Record
+      w = sectorWrite (0 + b) (c (indexOf p))
+
+      go : Dec (i < length (filled c b)) → (i < length (filled c b) → (getD (filled c b) i barrier .sector < b) × (length (filled c (getD (filled c b) i barrier .sector)) ≡ i))
+          → (getD (filled c b ++ cond (isAt p) (w ∷ []) []) i barrier .sector < suc b)
+          × (length (filled c (getD (filled c b ++ cond (isAt p) (w ∷ []) []) i barrier .sector)) ≡ i)
+      go (yes r) ih =
+          let e = List·getD-append (filled c b) (cond (isAt p) (w ∷ []) []) barrier i r in
+          let x = ih r in
+          (subst (λ (y : Record). y .sector < suc b) (sym e) (omega (arith, x .0)), ap (λ (y : Record). length (filled c (y .sector))) e ∙ x .1)
+      go (no r) ih =
+          let x = one-more (filled c b) (isAt p) w i (omega arith) h in
+          let z : 0 + b ≡ b = zero-add b in (
+            subst (λ (y : Record). y .sector < suc b) (sym (x .0)) (omega arith),
+            ap (λ (y : Record). length (filled c (y .sector))) (x .0) ∙ ap (λ (k : ℕ). length (filled c k)) z ∙ x .1,
+          )
 
   -- contents that are the same for the entries of target t
   filled-sector : (c e : ℕ → List ℕ) (t : ℕ) → ((k : ℕ) → k < n → T k ≡ t → c k ≡ e k) → filledSector c t ≡ filledSector e t
@@ -460,13 +498,6 @@ module _ (img front : List ℕ) (count : ℕ) (lends : Lends img front count) (l
     front-source : (k : ℕ) → k < n → sourceAt (geometryIn (f superblockAt)) f k ≡ from k
     front-source k h = ap (λ (x : Geometry). sourceAt x f k) front-geometry ∙ source-same d f agrees k (omega (arith, at-most))
 
-    front-place : (k : ℕ) → k < n → targetPlace f k ≡ countBelow (λ j. ltb (to j) (to k)) n
-    unfolding targetPlace
-    front-place k h =
-        (λ i. countBelow (λ j. ltb (targetAt (front-geometry i) f j) (targetAt (front-geometry i) f k)) (front-entries i))
-        ∙ countBelow-ext (λ j. ltb (targetAt geo f j) (targetAt geo f k)) (λ j. ltb (to j) (to k)) n
-        (λ j q. ap₂ ltb (target-same d f agrees j (omega (arith, at-most))) (target-same d f agrees k (omega (arith, at-most))))
-
     -- the state and the list after m steps
     abbrev state : ℕ → Recovering
     state m = record {
@@ -486,6 +517,43 @@ module _ (img front : List ℕ) (count : ℕ) (lends : Lends img front count) (l
     length-list : (m : ℕ) → length (list m) ≡ length l
     unfolding emit
     length-list m = length-put l 0 _
+
+    length-group : (m : ℕ) → length (filled to n (supplied m) (dataAt geo)) ≡ n
+    length-group m =
+        length-filled to n (supplied m) (dataAt geo) ∙ sym (length-filled to n (λ k. d (from k)) (dataAt geo)) ∙ sym (ap length (own-group geo d n))
+        ∙ length-replayed geo d n entry-good
+
+    -- a record that shows the target of the entry of its number stands where the targets below it are counted
+    shown-place : (m k : ℕ) → k < n → recordIn (list m) k .sector ≡ to k → k ≡ countBelow (λ j. ltb (to j) (to k)) n
+    shown-place m k h e =
+        let C = filled to n (supplied m) (dataAt geo) in
+        let rs = closed (C ∷ superblockGroup d 0 ∷ []) in
+        let inside : k < length C = omega (arith, length-group m) in
+        let x = numbered to n (supplied m) (dataAt geo) k inside in
+        let own : getD rs k barrier ≡ getD C k barrier =
+        ap (λ (r : List Record). getD r k barrier) (closed-two C (superblockGroup d 0)) ∙ List·getD-append C _ barrier k inside in
+        let b = bounds geo in-bounds (lends .field) in
+        let low : getD rs k barrier .sector < 2 ^ 64 =
+        subst (λ (r : Record). r .sector < 2 ^ 64) (sym own) (omega (arith, x .0, b .files-high, b .extents-high)) in
+        let many : length rs ≡ n + 3 = omega (arith, closed-cons C (superblockGroup d 0 ∷ []), length-group m) in
+        let read = number-emitted l rs k (omega (arith, many, enough)) (omega (arith, many)) low in
+        let shows : getD C k barrier .sector ≡ to k = ap (λ (r : Record). r .sector) (sym own) ∙ sym read ∙ e in
+        sym (x .1) ∙ ap (λ (t : ℕ). length (filled to n (supplied m) t)) shows ∙ position to n to-once (supplied m) (to k)
+
+    front-place : (m k : ℕ) → k < n → targetPlace f (list m) k ≡ countBelow (λ j. ltb (to j) (to k)) n
+    unfolding targetPlace
+    front-place m k h =
+        let same : (j : ℕ) → j < n → targetAt geo f j ≡ to j = λ j q. target-same d f agrees j (omega (arith, at-most)) in
+        (λ i. cond (eqb (recordIn (list m) k .sector) (targetAt (front-geometry i) f k)) k
+        (countBelow (λ j. ltb (targetAt (front-geometry i) f j) (targetAt (front-geometry i) f k)) (front-entries i)))
+        ∙ ap₂ (λ (t x : ℕ). cond (eqb (recordIn (list m) k .sector) t) k x) (same k h)
+        (countBelow-ext (λ j. ltb (targetAt geo f j) (targetAt geo f k)) (λ j. ltb (to j) (to k)) n (λ j q. ap₂ ltb (same j q) (same k h)))
+        ∙ go (eqb (recordIn (list m) k .sector) (to k)) refl
+      where
+        go : (b : Bool) → eqb (recordIn (list m) k .sector) (to k) ≡ b
+            → cond b k (countBelow (λ j. ltb (to j) (to k)) n) ≡ countBelow (λ j. ltb (to j) (to k)) n
+        go true e = shown-place m k h (eqb-true _ _ e)
+        go false e = refl
 
     wants : (m : ℕ) → m < n → state m .wanted ≡ from m
     wants m h =
@@ -517,8 +585,8 @@ module _ (img front : List ℕ) (count : ℕ) (lends : Lends img front count) (l
     next-list m h =
         let now : supplied (m + 1) m ≡ d (from m) =
         ap (λ (b : Bool). cond b (d (from m)) (f (from m))) (lt-ltb m (m + 1) (omega arith)) in
-        ap (λ (b : Bool). cond b (put (list m) (targetPlace f m * recordSize + contentsStart) (d (state m .wanted))) (list m)) (takes m h)
-        ∙ ap₂ (λ (p : ℕ) (x : List ℕ). put (list m) (p * recordSize + contentsStart) x) (front-place m h) (ap d (wants m h) ∙ sym now)
+        ap (λ (b : Bool). cond b (put (list m) (targetPlace f (list m) m * recordSize + contentsStart) (d (state m .wanted))) (list m)) (takes m h)
+        ∙ ap₂ (λ (p : ℕ) (x : List ℕ). put (list m) (p * recordSize + contentsStart) x) (front-place m m h) (ap d (wants m h) ∙ sym now)
         ∙ replaced to n to-once m h (dataAt geo) (to-low m h) (supplied m) (supplied (m + 1))
         (λ j ne. ap (λ (b : Bool). cond b (d (from j)) (f (from j))) (below-next j m ne)) (superblockGroup d 0) l
         (ap length now ∙ length-view img (from m))

@@ -151,7 +151,7 @@ module _ (g : Geometry) (d : Disk) (n : ℕ) where
         no-target : (t : ℕ) → isMetadata g t ≡ false → anyBelow (λ j. eqb (targetAt g d j) t) n ≡ false
         no-target t h = anyBelow-no (λ j. eqb (targetAt g d j) t) n (λ j l. ne-eqb (targetAt g d j) t (λ e. true≢false (sym (target-metadata j l) ∙ ap (isMetadata g) e ∙ h)))
 
-    length-replayed : length (replayed g d n) ≡ n
+    pub length-replayed : length (replayed g d n) ≡ n
     unfolding replayed replayedSector
     length-replayed =
         length-concatenated (replayedSector g d n) (λ t. anyBelow (λ j. eqb (targetAt g d j) t) n) (dataAt g)

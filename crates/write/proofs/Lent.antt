@@ -2,6 +2,7 @@
 -- another that is judged alike. Assumes nothing.
 use Prim.Native.Nat.{ℕ, _+_, _-_, _/_, _≤_, _<_, _^_}
 use mathlib.Core.Path.{_≡_, refl, sym, ap, _∙_}
+use mathlib.Core.Logic.{_≢_}
 use mathlib.Core.Bool.{Bool, true, false, cond, _&&_, _||_}
 use mathlib.Core.List.{List, []}
 use mathlib.Core.Option.{Option}
@@ -9,7 +10,7 @@ use native.Mathlib.Omega.{arith}
 use native.Mathlib.Decide.{decLt}
 use lib.Dec.{eqb, leb, ltb}
 use lib.ListN.{length}
-use borrow.Author.Tests.{lt-ltb, le-ltb, ne-eqb, ltb-true, leb-true, eqb-true}
+use borrow.Author.Tests.{lt-ltb, le-ltb, ne-eqb, ltb-true, leb-true, eqb-true, eqb-false}
 use Rattle.model.specs.declared.Changed.{Changed}
 use Rattle.model.specs.declared.Geometry.{Geometry}
 use Rattle.model.specs.declared.Part.{Part}
@@ -17,7 +18,7 @@ use Rattle.model.specs.declared.Verdict.{Verdict}
 use Rattle.model.specs.declared.Writing.{Writing}
 use Rattle.model.specs.Search.{indexOf}
 use Rattle.model.specs.Disk.{Disk, view}
-use Rattle.model.specs.Catalogue.{Catalogue, catalogueOf, fileNamed}
+use Rattle.model.specs.Catalogue.{Catalogue, catalogueOf, fileNamed, entryOf}
 use Rattle.model.specs.Refusals.{Conditions, judged}
 use Rattle.model.specs.WriteList.{Plan, barrierNumber, recordSize, decided}
 use Rattle.model.specs.Read.{longestTransfer, sizeNamed}
@@ -27,7 +28,8 @@ use Rattle.model.specs.Lent.{noPart, partAt, partly, partlyCovered, isAsked, wr
 use Rattle.model.specs.Opened.{volumeLength}
 use Rattle.laws.proofs.Booleans.{and-left, and-right}
 use Rattle.commit.proofs.Decided.{ComesTo, refused-as-judged}
-use Rattle.write.specs.FileWrite.{Asked, fileDecision}
+use Rattle.write.specs.declared.Begun.{Begun}
+use Rattle.write.specs.FileWrite.{Asked, Spans, Named, fileDecision}
 use Rattle.write.specs.FileResize.{sizeDecision}
 use Rattle.write.proofs.Laws.{file-12}
 use Rattle.write.proofs.Resizes.{size-far}
@@ -97,15 +99,53 @@ module _ (img : List ℕ) (g : Geometry) (list : List ℕ) (i size : ℕ) {answe
 
   pub resize-ends : (z time : ℕ) → Asked img g i size 0
       → ComesTo (view img) (sizeDecision (volumeLength (view img)) (view img) i z time (length list)) list answer after
-      → size ≤ z → 0 < answer .length → size + (z - size) < 2 ^ 63
-  resize-ends z time a r m l = go (decLt (size + longestTransfer) z)
+      → 0 < answer .length → z < 2 ^ 63
+  resize-ends z time a r l = go (decLt (size + longestTransfer) z)
     where
-      go : Dec (size + longestTransfer < z) → size + (z - size) < 2 ^ 63
+      go : Dec (size + longestTransfer < z) → z < 2 ^ 63
       go (yes h) =
           let f = size-far img g (a .opened) (a .judgment .verdict) list i z time size (a .says) h .0 in
           let z : answer .length ≡ 0 = ap (λ (x : Changed). x .length) (r .0 ∙ sym f) in
           absurd (omega arith)
       go (no h) = omega (arith, a .fits)
+
+-- ---- what is begun
+
+-- a refusal before the file is found names none
+pub begun-refused : (img name : List ℕ) (end : ℕ) (b : Begun) (v : Verdict) {x : Changed} {l m : List ℕ} → b .answer ≡ record { verdict = v; length = 0 }
+    → (record { verdict = v; length = 0 } ≡ x) × (l ≡ m) → (b .answer ≡ x) × (Named img name end b × (l ≡ m))
+begun-refused img name end b v e r =
+    (e ∙ r .0, ((λ h. absurd (let z : b .answer .length ≡ 0 = ap (λ (x : Changed). x .length) e in omega arith)), r .1))
+
+pub asked-spans : (img : List ℕ) (g : Geometry) (i size n end : ℕ) → Asked img g i size n → end < 2 ^ 63 → Spans (catalogueOf (view img)) i size end
+asked-spans img g i size n end a h = record { file = omega (arith, a .file, a .opened .bounded .files-high); says = a .says; ends = h }
+
+pub named-size : (c : Catalogue) (name : List ℕ) (i : ℕ) → i ≡ indexOf (fileNamed c name) → entryOf c i .size ≡ sizeNamed c name
+unfolding sizeNamed
+named-size c name i e = ap (λ (j : ℕ). entryOf c j .size) e
+
+-- parts that are asked for only where a list follows
+module _ (a : Changed) (ps : List Part) where
+  some-length : eqb (a .length) 0 ≡ false → 0 < a .length
+  some-length e = let n : a .length ≢ 0 = eqb-false (a .length) 0 e in omega (arith, n)
+
+  pub asks-same : (qs : List Part) → (0 < a .length → ps ≡ qs) → writeAsking a (cond (eqb (a .length) 0) [] ps) ≡ writeAsking a (cond (eqb (a .length) 0) [] qs)
+  asks-same qs h = ap (writeAsking a) (go (eqb (a .length) 0) refl)
+    where
+      go : (b : Bool) → eqb (a .length) 0 ≡ b → cond b [] ps ≡ cond b [] qs
+      go true e = refl
+      go false e = h (some-length e)
+
+  pub asks-none : (0 < a .length → ps ≡ []) → writeAsking a [] ≡ writeAsking a (cond (eqb (a .length) 0) [] ps)
+  asks-none h = ap (writeAsking a) (go (eqb (a .length) 0) refl)
+    where
+      go : (b : Bool) → eqb (a .length) 0 ≡ b → [] ≡ cond b [] ps
+      go true e = refl
+      go false e = sym (h (some-length e))
+
+or-else : (x y : Bool) (ps : List Part) → cond (x || y) [] ps ≡ cond x [] (cond y [] ps)
+or-else true y ps = refl
+or-else false y ps = refl
 
 -- ---- the forms, from the calls' answers
 
@@ -144,14 +184,18 @@ module _ (len : ℕ) (d : Disk) (name : List ℕ) (z time : ℕ) (list : List �
 
   pub resize-lent : {a : Changed} {after : List ℕ} → (a ≡ resizeAnswer len d name z time (length list)) × (after ≡ resizeList len d name z time list)
       → (w : Writing)
-      → w ≡ writeAsking a (cond (eqb (a .length) 0 || ltb z (sizeNamed (catalogueOf d) name)) []
-      (partlyCovered (catalogueOf d) (indexOf (fileNamed (catalogueOf d) name)) (sizeNamed (catalogueOf d) name) (z - sizeNamed (catalogueOf d) name)))
+      → w ≡ writeAsking a (cond (eqb (a .length) 0) [] (cond (ltb z (sizeNamed (catalogueOf d) name)) []
+      (partlyCovered (catalogueOf d) (indexOf (fileNamed (catalogueOf d) name)) (sizeNamed (catalogueOf d) name) (z - sizeNamed (catalogueOf d) name))))
       → ResizedLent w after
   unfolding resizeLent
   resize-lent r w e =
       let size = sizeNamed (catalogueOf d) name in
       let ps = partlyCovered (catalogueOf d) (indexOf (fileNamed (catalogueOf d) name)) size (z - size) in
-      (e ∙ ap (λ (x : Changed). writeAsking x (cond (eqb (x .length) 0 || ltb z size) [] ps)) (r .0), r .1)
+      let x = resizeAnswer len d name z time (length list) in (
+        e ∙ ap (λ (y : Changed). writeAsking y (cond (eqb (y .length) 0) [] (cond (ltb z size) [] ps))) (r .0)
+            ∙ ap (writeAsking x) (sym (or-else (eqb (x .length) 0) (ltb z size) ps)),
+        r .1,
+      )
 
   pub resize-refused : (v : Verdict)
       → (record { verdict = v; length = 0 } ≡ resizeAnswer len d name z time (length list)) × (list ≡ resizeList len d name z time list)
@@ -166,22 +210,6 @@ module _ (len : ℕ) (d : Disk) (name : List ℕ) (z time : ℕ) (list : List �
 
   pub refused-resize-lent : (v : Verdict) → v ≡ judged len d → (v .number ≡ 0 → ⊥) → ResizedLent (writeAsking (record { verdict = v; length = 0 }) []) list
   refused-resize-lent v e n = resize-refused v (refused-resize v e n)
-
--- where the file shrinks nothing is asked for
-pub asks-less : (a : Changed) (z size : ℕ) (ps : List Part) → z < size → writeAsking a [] ≡ writeAsking a (cond (eqb (a .length) 0 || ltb z size) [] ps)
-asks-less a z size ps l = ap (writeAsking a) (sym (go (eqb (a .length) 0)))
-  where
-    go : (b : Bool) → cond (b || ltb z size) [] ps ≡ []
-    go true = refl
-    go false = rw (lt-ltb z size l)
-
-pub asks-more : (a : Changed) (z size : ℕ) (ps : List Part) → size ≤ z
-    → writeAsking a (cond (eqb (a .length) 0) [] ps) ≡ writeAsking a (cond (eqb (a .length) 0 || ltb z size) [] ps)
-asks-more a z size ps l = ap (writeAsking a) (sym (go (eqb (a .length) 0)))
-  where
-    go : (b : Bool) → cond (b || ltb z size) [] ps ≡ cond b [] ps
-    go true = refl
-    go false = rw (le-ltb z size l)
 
 -- ---- a step
 

@@ -9,13 +9,15 @@ use Rattle.model.specs.declared.Geometry.{Geometry}
 use Rattle.model.specs.Search.{indexOf}
 use Rattle.model.specs.Geometry.{FileNumber, reserveExtents}
 use Rattle.model.specs.Disk.{Disk, view}
-use Rattle.model.specs.Catalogue.{Catalogue, catalogueOf, freeExtent, freeExtents, entryOf}
+use Rattle.model.specs.Table.{freeFile}
+use Rattle.model.specs.Catalogue.{Catalogue, catalogueOf, fileNamed, freeExtent, freeExtents, entryOf}
 use Rattle.model.specs.Refusals.{Conditions, refusal}
 use Rattle.model.specs.Read.{longestTransfer}
 use Rattle.model.specs.WriteList.{Decision, decided}
 use Rattle.model.specs.Write.{heldExtents, grows, noRoom, sizeAfter, writePlanned}
 use Rattle.model.specs.Opened.{Opened, Accepted}
 use Rattle.write.specs.declared.Growth.{Growth}
+use Rattle.write.specs.declared.Begun.{Begun}
 
 -- w says of file i what a new size z needs
 pub record Grown (c : Catalogue) (i z : ℕ) (w : Growth) : Type 0 where
@@ -32,6 +34,18 @@ pub record Asked (img : List ℕ) (g : Geometry) (i size n : ℕ) : Type 0 where
   pub says : size ≡ entryOf (catalogueOf (view img)) i .size
   pub fits : size < 2 ^ 62
   pub short : n ≤ longestTransfer
+
+-- file i has this size, and a span in it ends where a write can end
+pub record Spans (c : Catalogue) (i size end : ℕ) : Type 0 where
+  pub file : i < freeFile
+  pub says : size ≡ entryOf c i .size
+  pub ends : end < 2 ^ 63
+
+-- where a list follows, b is of the file that has the name
+abbrev pub Named : List ℕ → List ℕ → ℕ → Begun → Type 0
+Named img name end b =
+    let c = catalogueOf (view img) in
+    0 < b .answer .length → (b .index .0 ≡ indexOf (fileNamed c name)) × Spans c (b .index .0) (b .size) end
 
 -- 12, 13
 unfoldable pub fileConditions : Catalogue → FileNumber → ℕ → ℕ → Conditions

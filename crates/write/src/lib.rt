@@ -17,8 +17,9 @@ ghost use lib.Dec.{eqb, ltb};
 ghost use lib.ListN.{length};
 ghost use Rattle.model.specs.Search.{indexOf};
 ghost use Rattle.model.specs.Disk.{view};
-ghost use Rattle.model.specs.Table.{freeFile, tableSectorOf, takenIn};
+ghost use Rattle.model.specs.Table.{tableSectorOf, takenIn};
 ghost use Rattle.model.specs.Catalogue.{catalogueOf, freeExtent, lacksReserve, entryOf};
+ghost use Rattle.model.specs.Refusals.{refusal};
 ghost use Rattle.model.specs.Read.{longestTransfer};
 ghost use Rattle.model.specs.WriteList.{recordSize, recordCount, groupsFor, closed, Emitted, answerOf, listAfter};
 ghost use Rattle.model.specs.Write.{touchedSectors, sizeAfter, writePlan, writeAnswer, writeList};
@@ -27,7 +28,7 @@ ghost use Rattle.model.specs.Lent.{noPart, partAt, partly, partlyCovered, write
 ghost use Rattle.model.specs.Opened.{Opened, inVolume, Accepted};
 ghost use Rattle.commit.specs.Commit.{StagesOf};
 ghost use Rattle.spans.specs.Touched.{Lent, Source, spanOf};
-ghost use Rattle.write.specs.FileWrite.{Grown, Asked, fileDecision, roomDecision};
+ghost use Rattle.write.specs.FileWrite.{Grown, Asked, Spans, Named, fileDecision, roomDecision};
 ghost use Rattle.write.specs.FileResize.{shrinkDecision, sizeDecision};
 
 // What a new size needs: the extents that the file has, whether it takes one more, whether K + 1 are free, and the lowest of these.
@@ -36,6 +37,13 @@ pub struct Growth {
     pub more: bool,
     pub found: bool,
     pub next: Extent,
+}
+
+// What a write or a resize comes to. Where a list follows, `index` and `size` are of the file that it names.
+pub struct Begun {
+    pub answer: Changed,
+    pub index: FileIndex,
+    pub size: u64,
 }
 
 // The table sector of extent x, in which x is given to file i as its extent of that offset.
@@ -250,6 +258,53 @@ fn write_file(
 
 // ---- write
 
+// A refusal before the file is found.
+fn not_begun(number: u64) -> Begun
+    ensures { λ r. ⌜ r .answer ≡ record { verdict = refusal number; length = 0 } ⌝ }
+{
+    let answer = commit::refused(volume::refusal(number));
+    Begun {
+        answer,
+        index: FileIndex(0),
+        size: 0,
+    }
+}
+
+// The answer and the list of a write, and the file that it names.
+fn begin_write(
+    img: &[u8],
+    name: &[u8],
+    offset: u64,
+    bytes: &[u8],
+    time: u64,
+    list: &mut [u8],
+) -> Begun
+    requires { ⌜ Accepted (now img) ⌝ }
+    ensures { λ r. ⌜ r .answer ≡ inVolume writeAnswer (now (img .entry)) (now (name .entry)) offset (now (bytes .entry)) time (length (now (list .entry))) ⌝ }
+    ensures { λ r. ⌜ Named (now (img .entry)) (now (name .entry)) (offset + length (now (bytes .entry))) r ⌝ }
+    ensures { λ _. ⌜ now (list .exit) ≡ inVolume writeList (now (img .entry)) (now (name .entry)) offset (now (bytes .entry)) time (now (list .entry)) ⌝ }
+{
+    let g = volume::geometry_in(img);
+    if directory::bad_name_or_time(g.edition, name, time) {
+        return not_begun(8);
+    }
+    if 65536 < bytes.len() {
+        return not_begun(8);
+    }
+    if let Lowest::At(i) = directory::file_named(img, g, name) {
+        let index = FileIndex(i as u64);
+        let size = directory::size_at(img, index);
+        let n = bytes.len() as u64;
+        let answer = write_file(img, g, index, size, offset, bytes, n, time, list);
+        return Begun {
+            answer,
+            index,
+            size,
+        };
+    }
+    not_begun(9)
+}
+
 pub fn write_in(
     img: &[u8],
     name: &[u8],
@@ -262,29 +317,8 @@ pub fn write_in(
     ensures { λ r. ⌜ r ≡ inVolume writeAnswer (now (img .entry)) (now (name .entry)) offset (now (bytes .entry)) time (length (now (list .entry))) ⌝ }
     ensures { λ _. ⌜ now (list .exit) ≡ inVolume writeList (now (img .entry)) (now (name .entry)) offset (now (bytes .entry)) time (now (list .entry)) ⌝ }
 {
-    let g = volume::geometry_in(img);
-    if directory::bad_name_or_time(g.edition, name, time) {
-        return commit::refused(volume::refusal(8));
-    }
-    if 65536 < bytes.len() {
-        return commit::refused(volume::refusal(8));
-    }
-    if let Lowest::At(i) = directory::file_named(img, g, name) {
-        let index = FileIndex(i as u64);
-        let size = directory::size_at(img, index);
-        return write_file(
-            img,
-            g,
-            index,
-            size,
-            offset,
-            bytes,
-            bytes.len() as u64,
-            time,
-            list,
-        );
-    }
-    commit::refused(volume::refusal(9))
+    let b = begin_write(img, name, offset, bytes, time, list);
+    b.answer
 }
 
 // ---- resize
@@ -353,21 +387,37 @@ fn resize_file(
     write_zeros(img, g, i, size, z - size, time, list)
 }
 
+// The answer and the list of a resize, and the file that it names.
+fn begin_resize(img: &[u8], name: &[u8], size: u64, time: u64, list: &mut [u8]) -> Begun
+    requires { ⌜ Accepted (now img) ⌝ }
+    ensures { λ r. ⌜ r .answer ≡ inVolume resizeAnswer (now (img .entry)) (now (name .entry)) size time (length (now (list .entry))) ⌝ }
+    ensures { λ r. ⌜ Named (now (img .entry)) (now (name .entry)) size r ⌝ }
+    ensures { λ _. ⌜ now (list .exit) ≡ inVolume resizeList (now (img .entry)) (now (name .entry)) size time (now (list .entry)) ⌝ }
+{
+    let g = volume::geometry_in(img);
+    if directory::bad_name_or_time(g.edition, name, time) {
+        return not_begun(8);
+    }
+    if let Lowest::At(i) = directory::file_named(img, g, name) {
+        let index = FileIndex(i as u64);
+        let old = directory::size_at(img, index);
+        let answer = resize_file(img, g, index, old, size, time, list);
+        return Begun {
+            answer,
+            index,
+            size: old,
+        };
+    }
+    not_begun(9)
+}
+
 pub fn resize_in(img: &[u8], name: &[u8], size: u64, time: u64, list: &mut [u8]) -> Changed
     requires { ⌜ Accepted (now img) ⌝ }
     ensures { λ r. ⌜ r ≡ inVolume resizeAnswer (now (img .entry)) (now (name .entry)) size time (length (now (list .entry))) ⌝ }
     ensures { λ _. ⌜ now (list .exit) ≡ inVolume resizeList (now (img .entry)) (now (name .entry)) size time (now (list .entry)) ⌝ }
 {
-    let g = volume::geometry_in(img);
-    if directory::bad_name_or_time(g.edition, name, time) {
-        return commit::refused(volume::refusal(8));
-    }
-    if let Lowest::At(i) = directory::file_named(img, g, name) {
-        let index = FileIndex(i as u64);
-        let old = directory::size_at(img, index);
-        return resize_file(img, g, index, old, size, time, list);
-    }
-    commit::refused(volume::refusal(9))
+    let b = begin_resize(img, name, size, time, list);
+    b.answer
 }
 
 // ---- T-11: what a write asks for
@@ -494,23 +544,15 @@ fn part_at(
 }
 
 // A write of n bytes to file i, whose size is given, that has its answer: the sectors that the span covers partly are asked for.
-fn asking(
-    img: &[u8],
-    g: Geometry,
-    i: FileIndex,
-    size: u64,
-    offset: u64,
-    n: u64,
-    a: Changed,
-) -> Writing
-    requires { ⌜ Opened (now img) g ⌝ }
-    requires { ⌜ (i .0 < freeFile) × (size ≡ entryOf (catalogueOf (view (now img))) (i .0) .size) ⌝ }
-    requires { ⌜ (0 < a .length → offset + n < 2 ^ 63) ⌝ }
+fn asking(img: &[u8], i: FileIndex, size: u64, offset: u64, n: u64, a: Changed) -> Writing
+    requires { ⌜ Accepted (now img) ⌝ }
+    requires { ⌜ (0 < a .length → Spans (catalogueOf (view (now img))) (i .0) size (offset + n)) ⌝ }
     ensures { λ r. ⌜ r ≡ writeAsking a (cond (eqb (a .length) 0) [] (partlyCovered (catalogueOf (view (now (img .entry)))) (i .0) offset n)) ⌝ }
 {
     if a.length == 0 {
         return settled(a);
     }
+    let g = volume::geometry_in(img);
     let extents = table::extents_for(g, size);
     let next = next_extent(img, g);
     let touched = (offset + n + 511) / 512 - offset / 512;
@@ -536,21 +578,9 @@ pub fn write_lent_in(
     ensures { λ r. ⌜ r ≡ inVolume writeLent (now (img .entry)) (now (name .entry)) offset (now (bytes .entry)) time (length (now (list .entry))) ⌝ }
     ensures { λ _. ⌜ now (list .exit) ≡ inVolume writeList (now (img .entry)) (now (name .entry)) offset (now (bytes .entry)) time (now (list .entry)) ⌝ }
 {
-    let g = volume::geometry_in(img);
-    if directory::bad_name_or_time(g.edition, name, time) {
-        return refused_writing(volume::refusal(8));
-    }
-    if 65536 < bytes.len() {
-        return refused_writing(volume::refusal(8));
-    }
-    if let Lowest::At(i) = directory::file_named(img, g, name) {
-        let index = FileIndex(i as u64);
-        let size = directory::size_at(img, index);
-        let n = bytes.len() as u64;
-        let a = write_file(img, g, index, size, offset, bytes, n, time, list);
-        return asking(img, g, index, size, offset, n, a);
-    }
-    refused_writing(volume::refusal(9))
+    let b = begin_write(img, name, offset, bytes, time, list);
+    let a = b.answer;
+    asking(img, b.index, b.size, offset, bytes.len() as u64, a)
 }
 
 pub fn resize_lent_in(img: &[u8], name: &[u8], size: u64, time: u64, list: &mut [u8]) -> Writing
@@ -558,20 +588,12 @@ pub fn resize_lent_in(img: &[u8], name: &[u8], size: u64, time: u64, list: &mut 
     ensures { λ r. ⌜ r ≡ inVolume resizeLent (now (img .entry)) (now (name .entry)) size time (length (now (list .entry))) ⌝ }
     ensures { λ _. ⌜ now (list .exit) ≡ inVolume resizeList (now (img .entry)) (now (name .entry)) size time (now (list .entry)) ⌝ }
 {
-    let g = volume::geometry_in(img);
-    if directory::bad_name_or_time(g.edition, name, time) {
-        return refused_writing(volume::refusal(8));
+    let b = begin_resize(img, name, size, time, list);
+    let a = b.answer;
+    if size < b.size {
+        return settled(a);
     }
-    if let Lowest::At(i) = directory::file_named(img, g, name) {
-        let index = FileIndex(i as u64);
-        let old = directory::size_at(img, index);
-        let a = resize_file(img, g, index, old, size, time, list);
-        if size < old {
-            return settled(a);
-        }
-        return asking(img, g, index, old, old, size - old, a);
-    }
-    refused_writing(volume::refusal(9))
+    asking(img, b.index, b.size, b.size, size - b.size, a)
 }
 
 // ---- T-11: the sectors that were asked for

@@ -2,11 +2,12 @@
 //! the same ones, in the same steps, or by a function that it asks; and the cost of one step.
 
 use std::hint::black_box;
+use std::slice::from_ref;
 
 use goofs::{Reading, Recovering, Writing};
 use oracle::layout::{get64, sector, Edition, Sector, SECTOR};
 use oracle::lent;
-use oracle::lists::RECORD;
+use oracle::lists::{CONTENTS, RECORD};
 
 use crate::comparing::{Compared, Comparisons};
 use crate::images;
@@ -112,9 +113,11 @@ impl Table<'_> {
         );
         let card = Card::new("largest, one file", &image);
         self.recover("recover_lent, of the delete", card);
-        let first = goofs::recover_lent(card.front, card.sectors, &mut list);
-        let middle = recovering_at(card, 257, first);
-        self.recover_step("recover_step, of 514 entries", card, middle);
+        self.recover_step("recover_step, of 514 entries", card, 257);
+        let mut falling = image.clone();
+        reverse_journal(&mut falling);
+        let card = Card::new("largest, one file", &falling);
+        self.recover("recover_lent, targets that fall", card);
     }
 
     fn check(&mut self, card: Card) {
@@ -304,16 +307,20 @@ impl Table<'_> {
 
         cut_create(&mut image);
         let card = Card::new("sample", &image);
-        let v = goofs::recover_lent(card.front, card.sectors, &mut self.buffer);
-        self.recover_step("recover_step, of 2 entries", card, v);
+        self.recover_step("recover_step, of 2 entries", card, 0);
     }
 
-    fn recover_step(&mut self, call: &str, card: Card, v: Recovering) {
+    /// At this entry, in the list of a recovery that was begun. The targets rise, so that the source goes into the record of this number.
+    fn recover_step(&mut self, call: &str, card: Card, entry: u64) {
+        let first = goofs::recover_lent(card.front, card.sectors, &mut self.buffer);
+        let v = recovering_at(card, entry, first);
         let contents = card.sector(v.wanted);
         let front = card.front;
-        let compared = self.comparisons.filling(
+        let at = entry as usize * RECORD + CONTENTS;
+        let compared = self.comparisons.changing(
             call,
             &mut self.buffer,
+            from_ref(&(at..at + SECTOR)),
             |list| goofs::recover_step(black_box(v), front, contents, list).wanted,
             |list| plain::recover_step(black_box(v), front, contents, list).wanted,
         );
@@ -372,7 +379,22 @@ fn asked_of(first: Writing) -> u64 {
     u64::from(first.wanted.sector != 0) + u64::from(first.last.sector != 0)
 }
 
-/// The state at an entry in the middle of the journal.
+/// The waiting entries of the journal in falling order of their targets, as no call of ours leaves them.
+fn reverse_journal(image: &mut [u8]) {
+    let summary = oracle::summary(image);
+    let journal = images::geometry(summary.files, summary.extents).journal_at();
+    let at = journal.0 as usize * SECTOR;
+    let entries = &mut image[at..][..16 * summary.entries as usize];
+    let rising: Vec<[u8; 16]> = entries
+        .chunks_exact(16)
+        .map(|entry| entry.try_into().expect("16 bytes"))
+        .collect();
+    for (to, from) in entries.chunks_exact_mut(16).zip(rising.iter().rev()) {
+        to.copy_from_slice(from);
+    }
+}
+
+/// The state at an entry of the journal.
 fn recovering_at(card: Card, entry: u64, first: Recovering) -> Recovering {
     let summary = oracle::summary(card.image);
     let geometry = images::geometry(summary.files, summary.extents);

@@ -1,175 +1,37 @@
 -- `write::write_lent_in` meets its contract. It answers as `write_in` does, and asks for the sectors that the span covers partly.
-use mathlib.Core.Path.{refl, sym, ap, _∙_}
-use mathlib.Core.Bool.{cond}
-use mathlib.Core.List.{[]}
-use native.Mathlib.Omega.{arith}
-use lib.Dec.{eqb}
+use Prim.Native.Nat.{ℕ}
+use mathlib.Core.Path.{ap, _∙_}
+use mathlib.Core.List.{List}
 use lib.ListN.{length}
-use Rattle.model.specs.declared.Lowest.{Lowest}
-use Rattle.model.specs.Search.{isAt, indexOf}
+use Rattle.model.specs.declared.Part.{Part}
 use Rattle.model.specs.Disk.{view}
 use Rattle.model.specs.Catalogue.{catalogueOf}
-use Rattle.model.specs.Refusals.{refusal}
-use Rattle.model.specs.Lent.{partlyCovered, writeAsking}
+use Rattle.model.specs.Lent.{partlyCovered}
 use Rattle.model.specs.Opened.{volumeLength}
-use Rattle.laws.proofs.Judged.{accepted-length, accepted-opened}
-use Rattle.commit.proofs.Decided.{named-short}
-use Rattle.spans.proofs.Sources.{span-own, source-own}
-use Rattle.write.proofs.Laws.{file-below, asked, write-bad, write-long, write-missing, write-found}
-use Rattle.write.proofs.Lent.{write-ends, write-lent, write-refused}
+use Rattle.write.proofs.Lent.{asks-same, write-lent}
 use borrow.Author.Needs.{needs}
 use Rattle.write.proofs.write_lent_in.Statement.{statement}
 use Rattle.write.proofs.write_lent_in.Tie as tie
 
-geometry-in-requires : tie.Need-geometry-in-requires
-geometry-in-requires c κs = accepted-length _ (c .before .before .before .before .pre)
-
-bad-name-or-time-requires : tie.Need-bad-name-or-time-requires
-bad-name-or-time-requires c κs = search needs
-
-refusal-requires : tie.Need-refusal-requires
-refusal-requires c κs = search needs
-
-refused-writing-requires : tie.Need-refused-writing-requires
-refused-writing-requires c κs = search needs
-
-returns : tie.Need-returns
-returns c =
-    let b = c .before .before .before in
-    let s = b .before .before .before .before .before .before in
-    let a = s .args in
-    let d = view (a .img .now) in
-    rw (c .refused-writing .ensures, c .before .refusal .ensures)
-    (write-refused (volumeLength d) d (a .name .now) (a .offset) (a .bytes .now) (a .time) (a .list .now) (refusal 8)
-    (write-bad (a .img .now) (s .pre .verdict) (a .list .now) (a .name .now) (a .offset) (a .bytes .now) (a .time)
-    (rw (b .before .geometry-in .ensures) at (sym (b .bad-name-or-time .ensures) ∙ c .before .before .if1 .taken))))
-
-refusal-requires-2 : tie.Need-refusal-requires-2
-refusal-requires-2 c κs = search needs
-
-refused-writing-requires-2 : tie.Need-refused-writing-requires-2
-refused-writing-requires-2 c κs = search needs
-
-returns-2 : tie.Need-returns-2
-returns-2 c =
-    let s = c .before .before .before .before .before .before .before .before .before .before in
-    let a = s .args in
-    let d = view (a .img .now) in
-    rw (c .refused-writing2 .ensures, c .before .refusal2 .ensures)
-    (write-refused (volumeLength d) d (a .name .now) (a .offset) (a .bytes .now) (a .time) (a .list .now) (refusal 8)
-    (write-long (a .img .now) (s .pre .verdict) (a .list .now) (a .name .now) (a .offset) (a .bytes .now) (a .time) (c .before .before .if2 .taken)))
-
-file-named-requires : tie.Need-file-named-requires
-file-named-requires c κs =
-    let b = c .before .before in
-    let s = b .before .before .before .before .before .before in
-    let e = b .before .geometry-in .result .edition in
-    (accepted-opened _ _ (b .before .geometry-in .ensures) (omega arith) (s .pre), named-short e _ (s .args .time) (sym (b .bad-name-or-time .ensures) ∙ c .before .if1 .left))
-
-enum-known-i : tie.Need-enum-known-i
-enum-known-i c = search needs
-
-size-at-requires : tie.Need-size-at-requires
-size-at-requires c κs =
-    let f = c .before .before .before in
-    let g = f .before .before .before .before in
-    let s = g .before .before .before .before .before in
-    let o = accepted-opened _ _ (g .geometry-in .ensures) (omega (arith, g .geometry-in .ok)) (s .pre) in
-    let h = file-below (s .args .img .now) _ o (s .args .name .now) (c .before .i .given .0 .0) (sym (c .before .i .given .1) ∙ f .file-named .ensures) in
-    omega (arith, o .held, h)
-
-write-file-requires : tie.Need-write-file-requires
-write-file-requires c κs =
-    let i = c .before .before .before in
-    let f = i .before .before in
-    let g = f .before .before .before .before in
-    let s = g .before .before .before .before .before in
-    let o = accepted-opened _ _ (g .geometry-in .ensures) (omega (arith, g .geometry-in .ok)) (s .pre) in (
-      asked (s .args .img .now) _ o (s .args .name .now) (i .i .given .0 .0) (sym (i .i .given .1) ∙ f .file-named .ensures) (s .pre)
-          (c .before .size-at .result) _ (c .before .size-at .ensures) (f .before .if2 .left),
-      source-own (s .args .bytes .now),
-    )
+begin-write-requires : tie.Need-begin-write-requires
+begin-write-requires c κs = search needs
 
 asking-requires : tie.Need-asking-requires
 asking-requires c κs =
-    let i = c .before .before .before .before .before .before in
-    let f = i .before .before in
-    let g = f .before .before .before .before in
-    let s = g .before .before .before .before .before in
-    let a = s .args in
-    let size = c .before .before .before .before .size-at in
-    let o = accepted-opened _ _ (g .geometry-in .ensures) (omega (arith, g .geometry-in .ok)) (s .pre) in
-    let q = asked (a .img .now) _ o (a .name .now) (i .i .given .0 .0) (sym (i .i .given .1) ∙ f .file-named .ensures) (s .pre)
-    (size .result) (length (a .bytes .now)) (size .ensures) (f .before .if2 .left) in
-    let r = rw (span-own (a .bytes .now) _ refl) at (c .before .before .write-file .ensures) in (
-      o,
-      (
-        (omega (arith, q .file, o .bounded .files-high), q .says),
-        λ l. write-ends (a .img .now) (g .geometry-in .result) (a .list .now) (i .i .given .0 .0) (size .result) (a .offset) (a .bytes .now) (a .time) q r l,
-      ),
-    )
+    let s = c .before .before .before .before .before .before .before .before .before in
+    (s .pre, λ l. c .before .before .before .begin-write .ensures .1 .0 l .1)
 
 same-length : tie.Need-same-length
 same-length c = search needs
 
-returns-3 : tie.Need-returns-3
-returns-3 c =
-    let f = c .before .before .before .before .before .before .before in
-    let t = f .before .before .before in
-    let s = t .before .before .before .before .before .before .before .before in
-    let a = s .args in
+returns : tie.Need-returns
+returns c =
+    let a = c .before .before .before .before .before .before .before .before .before .before .args in
     let d = view (a .img .now) in
-    let e = sym (f .i .given .1) ∙ f .before .before .file-named .ensures in
-    let w = c .before .before .before .write-file in
-    write-lent (volumeLength d) d (a .name .now) (a .offset) (a .bytes .now) (a .time) (a .list .now)
-    (write-found (a .img .now) (s .pre .verdict) (a .list .now) (a .name .now) (a .offset) (a .bytes .now) (a .time)
-    (rw (t .before .before .before .geometry-in .ensures) at (sym (t .before .before .bad-name-or-time .ensures) ∙ t .before .if1 .left)) (t .if2 .left) (f .i .given .0 .0) e
-    (rw (span-own (a .bytes .now) _ refl) at (w .ensures)))
-    (c .asking .result)
-    (c .asking .ensures
-    ∙ ap (λ (p : Lowest). writeAsking (w .result) (cond (eqb (w .result .length) 0) [] (partlyCovered (catalogueOf d) (indexOf p) (a .offset) (length (a .bytes .now))))) e)
-
-enum-told : tie.Need-enum-told
-enum-told c = search needs
-
-refusal-requires-3 : tie.Need-refusal-requires-3
-refusal-requires-3 c κs = search needs
-
-refused-writing-requires-3 : tie.Need-refused-writing-requires-3
-refused-writing-requires-3 c κs = search needs
-
-returns-4 : tie.Need-returns-4
-returns-4 c =
-    let t = c .before .before .before .before .before in
-    let s = t .before .before .before .before .before .before .before .before in
-    let a = s .args in
-    let d = view (a .img .now) in
-    rw (c .refused-writing3 .ensures, c .before .refusal3 .ensures)
-    (write-refused (volumeLength d) d (a .name .now) (a .offset) (a .bytes .now) (a .time) (a .list .now) (refusal 9)
-    (write-missing (a .img .now) (s .pre .verdict) (a .list .now) (a .name .now) (a .offset) (a .bytes .now) (a .time)
-    (rw (t .before .before .before .geometry-in .ensures) at (sym (t .before .before .bad-name-or-time .ensures) ∙ t .before .if1 .left)) (t .if2 .left)
-    (ap isAt (sym (c .before .before .before .before .file-named .ensures) ∙ c .before .before .enum-told .given .1))))
+    let b = c .before .before .before .before .begin-write in
+    let parts : ℕ → List Part = λ i. partlyCovered (catalogueOf d) i (a .offset) (length (a .bytes .now)) in
+    write-lent (volumeLength d) d (a .name .now) (a .offset) (a .bytes .now) (a .time) (a .list .now) (b .ensures .0, b .ensures .1 .1) (c .asking .result)
+    (c .asking .ensures ∙ asks-same (b .result .answer) (parts (b .result .index .0)) _ (λ l. ap parts (b .ensures .1 .0 l .0)))
 
 pub write-lent-in-spec : {M : Type 1} → statement M
-write-lent-in-spec =
-    tie.close
-    (tie.spec
-    geometry-in-requires
-    bad-name-or-time-requires
-    refusal-requires
-    refused-writing-requires
-    returns
-    refusal-requires-2
-    refused-writing-requires-2
-    returns-2
-    file-named-requires
-    enum-known-i
-    size-at-requires
-    write-file-requires
-    asking-requires
-    same-length
-    returns-3
-    enum-told
-    refusal-requires-3
-    refused-writing-requires-3
-    returns-4)
+write-lent-in-spec = tie.close (tie.spec begin-write-requires asking-requires same-length returns)

@@ -17,7 +17,7 @@ use oracle::answers::{
 };
 use oracle::draw::Draw;
 use oracle::layout::{Edition, SECTOR};
-use oracle::lists::RECORD;
+use oracle::lists::{CONTENTS, NUMBER, RECORD};
 use oracle::testing::beside::same_bytes;
 use oracle::testing::cuts::{cut_each_kind_of_call, cut_on_a_foreign_volume, foreign_files};
 use oracle::testing::damage::{
@@ -602,4 +602,16 @@ fn fronts_and_lists_that_are_not_the_recoverys() {
     );
     let next = goofs::recover_step(begun, &image[..length], sector, &mut list);
     assert_eq!((next.code, next.wanted, next.entry), (0, 1_001, 1));
+
+    // Target 289 is the highest of three, so its source goes into record 2; but into record 0 where a list shows it there.
+    let goes_into = |mut list: Vec<u8>, record: usize| {
+        let mut expected = list.clone();
+        expected[record * RECORD + CONTENTS..][..SECTOR].copy_from_slice(sector);
+        goofs::recover_step(begun, &image[..length], sector, &mut list);
+        assert!(list == expected, "record {record}");
+    };
+    goes_into(vec![0; needed], 2);
+    goes_into(list.clone(), 2);
+    list[NUMBER..CONTENTS].copy_from_slice(&289_u64.to_be_bytes());
+    goes_into(list, 0);
 }

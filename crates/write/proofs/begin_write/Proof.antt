@@ -1,14 +1,19 @@
--- `write::write_in` meets its contract. The name or the time is bad, the bytes are too many, the file is written, or no file has the name.
+-- `write::begin_write` meets its contract. The name or the time is bad, the bytes are too many, the file is written, or no file has the name.
 use Rattle.write.proofs.Laws.{file-below, asked, write-bad, write-long, write-missing, write-found}
+use Rattle.write.proofs.Lent.{begun-refused, asked-spans, write-ends}
 use Rattle.commit.proofs.Decided.{named-short}
 use Rattle.laws.proofs.Judged.{accepted-length, accepted-opened}
-use Rattle.model.specs.Search.{isAt}
+use Rattle.model.specs.declared.Lowest.{Lowest}
+use Rattle.model.specs.Search.{isAt, indexOf}
+use Rattle.model.specs.Refusals.{refusal}
+use Prim.Native.Nat.{_+_, _^_, _<_}
 use native.Mathlib.Omega.{arith}
+use lib.ListN.{length}
 use mathlib.Core.Path.{refl, sym, ap, _∙_}
 use Rattle.spans.proofs.Sources.{span-own, source-own}
 use borrow.Author.Needs.{needs}
-use Rattle.write.proofs.write_in.Statement.{statement}
-use Rattle.write.proofs.write_in.Tie as tie
+use Rattle.write.proofs.begin_write.Statement.{statement}
+use Rattle.write.proofs.begin_write.Tie as tie
 
 geometry-in-requires : tie.Need-geometry-in-requires
 geometry-in-requires c κs = accepted-length _ (c .before .before .before .before .pre)
@@ -16,33 +21,27 @@ geometry-in-requires c κs = accepted-length _ (c .before .before .before .befor
 bad-name-or-time-requires : tie.Need-bad-name-or-time-requires
 bad-name-or-time-requires c κs = search needs
 
-refusal-requires : tie.Need-refusal-requires
-refusal-requires c κs = search needs
-
-refused-requires : tie.Need-refused-requires
-refused-requires c κs = search needs
+not-begun-requires : tie.Need-not-begun-requires
+not-begun-requires c κs = search needs
 
 returns : tie.Need-returns
 returns c =
-    let b = c .before .before .before in
+    let b = c .before .before in
     let s = b .before .before .before .before .before .before in
     let a = s .args in
-    rw (c .refused .ensures, c .before .refusal .ensures)
+    begun-refused (a .img .now) (a .name .now) (a .offset + length (a .bytes .now)) (c .not-begun .result) (refusal 8) (c .not-begun .ensures)
     (write-bad (a .img .now) (s .pre .verdict) (a .list .now) (a .name .now) (a .offset) (a .bytes .now) (a .time)
-    (rw (b .before .geometry-in .ensures) at (sym (b .bad-name-or-time .ensures) ∙ c .before .before .if1 .taken)))
+    (rw (b .before .geometry-in .ensures) at (sym (b .bad-name-or-time .ensures) ∙ c .before .if1 .taken)))
 
-refusal-requires-2 : tie.Need-refusal-requires-2
-refusal-requires-2 c κs = search needs
-
-refused-requires-2 : tie.Need-refused-requires-2
-refused-requires-2 c κs = search needs
+not-begun-requires-2 : tie.Need-not-begun-requires-2
+not-begun-requires-2 c κs = search needs
 
 returns-2 : tie.Need-returns-2
 returns-2 c =
-    let s = c .before .before .before .before .before .before .before .before .before .before in
+    let s = c .before .before .before .before .before .before .before .before .before in
     let a = s .args in
-    rw (c .refused2 .ensures, c .before .refusal2 .ensures)
-    (write-long (a .img .now) (s .pre .verdict) (a .list .now) (a .name .now) (a .offset) (a .bytes .now) (a .time) (c .before .before .if2 .taken))
+    begun-refused (a .img .now) (a .name .now) (a .offset + length (a .bytes .now)) (c .not-begun2 .result) (refusal 8) (c .not-begun2 .ensures)
+    (write-long (a .img .now) (s .pre .verdict) (a .list .now) (a .name .now) (a .offset) (a .bytes .now) (a .time) (c .before .if2 .taken))
 
 file-named-requires : tie.Need-file-named-requires
 file-named-requires c κs =
@@ -82,42 +81,45 @@ returns-3 : tie.Need-returns-3
 returns-3 c =
     let f = c .before .before .before .before .before .before in
     let t = f .before .before .before in
-    let s = t .before .before .before .before .before .before .before .before in
+    let g = t .before .before .before in
+    let s = g .before .before .before .before .before in
     let a = s .args in
-    write-found (a .img .now) (s .pre .verdict) (a .list .now) (a .name .now) (a .offset) (a .bytes .now) (a .time)
-    (rw (t .before .before .before .geometry-in .ensures) at (sym (t .before .before .bad-name-or-time .ensures) ∙ t .before .if1 .left)) (t .if2 .left) (f .i .given .0 .0)
-    (sym (f .i .given .1) ∙ f .before .before .file-named .ensures) (rw (span-own (a .bytes .now) _ refl) at (c .before .before .write-file .ensures))
+    let e = sym (f .i .given .1) ∙ f .before .before .file-named .ensures in
+    let size = c .before .before .before .before .size-at in
+    let w = rw (span-own (a .bytes .now) _ refl) at (c .before .before .write-file .ensures) in
+    let o = accepted-opened _ _ (g .geometry-in .ensures) (omega (arith, g .geometry-in .ok)) (s .pre) in
+    let q = asked (a .img .now) _ o (a .name .now) (f .i .given .0 .0) e (s .pre) (size .result) (length (a .bytes .now)) (size .ensures) (t .if2 .left) in
+    let r = write-found (a .img .now) (s .pre .verdict) (a .list .now) (a .name .now) (a .offset) (a .bytes .now) (a .time)
+    (rw (g .geometry-in .ensures) at (sym (t .before .before .bad-name-or-time .ensures) ∙ t .before .if1 .left)) (t .if2 .left) (f .i .given .0 .0) e w in
+    let ends : 0 < c .before .before .write-file .result .length → a .offset + length (a .bytes .now) < 2 ^ 63 =
+    write-ends (a .img .now) (g .geometry-in .result) (a .list .now) (f .i .given .0 .0) (size .result) (a .offset) (a .bytes .now) (a .time) q w in
+    (r .0, (λ l. (ap (λ (p : Lowest). indexOf p) e, asked-spans (a .img .now) _ _ _ _ (a .offset + length (a .bytes .now)) q (ends l)), r .1))
 
 enum-told : tie.Need-enum-told
 enum-told c = search needs
 
-refusal-requires-3 : tie.Need-refusal-requires-3
-refusal-requires-3 c κs = search needs
-
-refused-requires-3 : tie.Need-refused-requires-3
-refused-requires-3 c κs = search needs
+not-begun-requires-3 : tie.Need-not-begun-requires-3
+not-begun-requires-3 c κs = search needs
 
 returns-4 : tie.Need-returns-4
 returns-4 c =
-    let t = c .before .before .before .before .before in
+    let t = c .before .before .before .before in
     let s = t .before .before .before .before .before .before .before .before in
     let a = s .args in
-    rw (c .refused3 .ensures, c .before .refusal3 .ensures)
+    begun-refused (a .img .now) (a .name .now) (a .offset + length (a .bytes .now)) (c .not-begun3 .result) (refusal 9) (c .not-begun3 .ensures)
     (write-missing (a .img .now) (s .pre .verdict) (a .list .now) (a .name .now) (a .offset) (a .bytes .now) (a .time)
     (rw (t .before .before .before .geometry-in .ensures) at (sym (t .before .before .bad-name-or-time .ensures) ∙ t .before .if1 .left)) (t .if2 .left)
-    (ap isAt (sym (c .before .before .before .before .file-named .ensures) ∙ c .before .before .enum-told .given .1)))
+    (ap isAt (sym (c .before .before .before .file-named .ensures) ∙ c .before .enum-told .given .1)))
 
-pub write-in-spec : {M : Type 1} → statement M
-write-in-spec =
+pub begin-write-spec : {M : Type 1} → statement M
+begin-write-spec =
     tie.close
     (tie.spec
     geometry-in-requires
     bad-name-or-time-requires
-    refusal-requires
-    refused-requires
+    not-begun-requires
     returns
-    refusal-requires-2
-    refused-requires-2
+    not-begun-requires-2
     returns-2
     file-named-requires
     enum-known-i
@@ -126,6 +128,5 @@ write-in-spec =
     same-length
     returns-3
     enum-told
-    refusal-requires-3
-    refused-requires-3
+    not-begun-requires-3
     returns-4)

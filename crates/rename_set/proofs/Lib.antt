@@ -1,4 +1,5 @@
 -- Laws of a set of renames as the code holds it.
+pub mod Entries
 pub mod Laws
 pub mod After
 pub mod Deciding

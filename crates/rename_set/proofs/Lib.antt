@@ -1,5 +1,4 @@
 -- Laws of a set of renames as the code holds it.
-pub mod Entries
 pub mod Laws
 pub mod After
 pub mod Deciding

@@ -6,11 +6,11 @@ use model::Lowest;
 use model::Sector;
 ghost use mathlib.Core.Path.{_≡_};
 ghost use mathlib.Core.Bool.{not, _&&_, _||_};
-ghost use Prim.Native.Nat.{_+_, _*_, _≤_, _<_};
+ghost use Prim.Native.Nat.{_+_, _-_, _*_, _≤_, _<_};
 ghost use lib.Dec.{eqb, ltb};
 ghost use lib.ListN.{length, getD};
 ghost use Rattle.model.specs.Bytes.{numberIn};
-ghost use Rattle.model.specs.Search.{first, anyBelow, equalBytes};
+ghost use Rattle.model.specs.Search.{scan, first, anyBelow};
 ghost use Rattle.model.specs.Geometry.{extentBytes, rootAt, entryAt};
 ghost use Rattle.model.specs.Disk.{view};
 ghost use Rattle.model.specs.Root.{rootField, updatedRootSector, accessedRootSector};
@@ -19,6 +19,7 @@ ghost use Rattle.model.specs.Entry.{entryField, entryIn, fieldsOf, isOccupied, 
 ghost use Rattle.model.specs.Catalogue.{catalogueOf, hasId, fileNamed, freeEntry};
 ghost use Rattle.model.specs.Faults.{badMark, fault21, fault22};
 ghost use Rattle.model.specs.Opened.{Bounded, Opened};
+ghost use Rattle.directory.specs.Named.{isNamed};
 
 // ---- one entry
 
@@ -64,7 +65,7 @@ pub fn name_at(img: &[u8], edition: u64, i: FileIndex) -> &[u8]
 pub fn is_named(s: &[u8], edition: u64, name: &[u8]) -> bool
     requires { ⌜ length (now s) ≡ 512 ⌝ }
     requires { ⌜ length (now name) ≤ layoutOf edition .longestName ⌝ }
-    ensures { λ r. ⌜ r ≡ (isOccupied (now (s .entry)) && equalBytes (nameIn edition (now (s .entry))) (now (name .entry))) ⌝ }
+    ensures { λ r. ⌜ r ≡ isNamed edition (now (name .entry)) (now (s .entry)) ⌝ }
 {
     if layout::entry::is_occupied(s) {
         if layout::entry::name_length(s, edition) == name.len() {
@@ -79,7 +80,7 @@ pub fn is_named(s: &[u8], edition: u64, name: &[u8]) -> bool
 pub fn has_name(img: &[u8], edition: u64, i: FileIndex, name: &[u8]) -> bool
     requires { ⌜ 512 * entryAt (i .0) + 512 ≤ length (now img) ⌝ }
     requires { ⌜ length (now name) ≤ layoutOf edition .longestName ⌝ }
-    ensures { λ r. ⌜ r ≡ (isOccupied (view (now (img .entry)) (entryAt (i .0))) && equalBytes (nameIn edition (view (now (img .entry)) (entryAt (i .0)))) (now (name .entry))) ⌝ }
+    ensures { λ r. ⌜ r ≡ isNamed edition (now (name .entry)) (view (now (img .entry)) (entryAt (i .0))) ⌝ }
 {
     is_named(fields::sector_part(img, i.sector()), edition, name)
 }
@@ -212,21 +213,30 @@ pub fn bad_new_name(edition: u64, name: &[u8]) -> bool
 
 // ---- searches
 
-// The file of that name.
-pub fn file_named(img: &[u8], g: Geometry, name: &[u8]) -> Lowest
+// The lowest of the files from `from` to below `to` that has the name.
+pub fn file_named_between(img: &[u8], g: Geometry, name: &[u8], from: usize, to: usize) -> Lowest
     requires { ⌜ Opened (now img) g ⌝ }
     requires { ⌜ length (now name) ≤ layoutOf (g .edition) .longestName ⌝ }
-    ensures { λ r. ⌜ r ≡ fileNamed (catalogueOf (view (now (img .entry)))) (now (name .entry)) ⌝ }
+    requires { ⌜ (from ≤ to) × (to ≤ g .files) ⌝ }
+    ensures { λ r. ⌜ r ≡ scan (λ i. isNamed (g .edition) (now (name .entry)) (view (now (img .entry)) (entryAt i))) (to - from) from ⌝ }
 {
-    let f = g.files as usize;
-    let mut i: usize = 0;
-    while i < f {
+    let mut i = from;
+    while i < to {
         if has_name(img, g.edition, FileIndex(i as u64), name) {
             return Lowest::At(i);
         }
         i += 1;
     }
     Lowest::Nowhere
+}
+
+// The file of that name.
+pub fn file_named(img: &[u8], g: Geometry, name: &[u8]) -> Lowest
+    requires { ⌜ Opened (now img) g ⌝ }
+    requires { ⌜ length (now name) ≤ layoutOf (g .edition) .longestName ⌝ }
+    ensures { λ r. ⌜ r ≡ fileNamed (catalogueOf (view (now (img .entry)))) (now (name .entry)) ⌝ }
+{
+    file_named_between(img, g, name, 0, g.files as usize)
 }
 
 // The lowest free entry.

@@ -11,7 +11,7 @@ use lib.Dec.{leb, ltb, lit<, lit≤}
 use lib.ListN.{length, getD, take, drop, set, length-append, length-drop, length-set, length-replicate, replicate, List·getD-append, drop-of-length-le}
 use lib.Seq.{sets, length-sets, sets-eq, set-comm, take-suc, take-all, getD-drop, getD-take, getD-at, getD-set-same, getD-set-other, ext-getD, getD-append-add}
 use borrow.Author.Tests.{leb-true, ltb-true}
-use Rattle.model.specs.Bytes.{beAt, beBytes, bytesFrom, put, zeroSector, onesSector}
+use Rattle.model.specs.Bytes.{Field, beAt, beBytes, bytesFrom, numberIn, put, zeroSector, onesSector}
 use Rattle.laws.proofs.Booleans.{and-left, and-right, range-yes}
 
 -- ---- lengths, none of which asks anything
@@ -143,6 +143,14 @@ put-all l vs e =
 pub length-zeroSector : length zeroSector ≡ 512
 unfolding zeroSector
 length-zeroSector = length-replicate {A = ℕ} 512 0
+
+number-zeros : (o w : ℕ) → beAt zeroSector o w ≡ 0
+unfolding beAt zeroSector
+number-zeros o zero = refl
+number-zeros o (suc w) = ap₂ (λ n x. n * 256 + x) (number-zeros o w) (zeros-at 512 (o + w))
+
+pub zero-field : (f : Field) → numberIn zeroSector f ≡ 0
+zero-field f = number-zeros (f .offset) (f .width)
 
 pub length-onesSector : length onesSector ≡ 512
 unfolding onesSector

@@ -31,6 +31,17 @@ module _ (p : ℕ → Bool) where
   countBelow-mono m (suc n) h =
       ⊎-elim (λ (e : m ≡ suc n). rw e (omega arith)) (λ (l : m < suc n). omega (arith, countBelow-mono m n (le-of-suc-le-suc l))) (eq-or-lt-of-le h)
 
+  -- a stretch in which none passes
+  pub countBelow-over : (t u : ℕ) → t ≤ u → ((s : ℕ) → t ≤ s → s < u → p s ≡ false) → countBelow p u ≡ countBelow p t
+  unfolding countBelow
+  countBelow-over t zero h e = let z : t ≡ 0 = omega arith in rw z
+  countBelow-over t (suc u) h e =
+      ⊎-elim (λ (q : t ≡ suc u). rw q)
+      (λ (l : t < suc u).
+      let r = countBelow-over t u (omega arith) (λ s a b. e s a (omega arith)) in
+      rw (e u (omega arith) (omega arith)) (omega arith))
+      (eq-or-lt-of-le h)
+
   pub countBelow-none : (n : ℕ) → anyBelow p n ≡ false → countBelow p n ≡ 0
   unfolding countBelow anyBelow
   countBelow-none zero e = refl

@@ -49,7 +49,7 @@ scan-none p (suc n) i h =
 pub first-none : (p : ℕ → Bool) (n : ℕ) → ((k : ℕ) → k < n → p k ≡ false) → first p n ≡ Nowhere
 first-none p n h = scan-none p (n - 0) 0 (λ k a b. h k (omega arith))
 
-scan-ext : (p q : ℕ → Bool) (n i : ℕ) → ((k : ℕ) → i ≤ k → k < i + n → p k ≡ q k) → scan p n i ≡ scan q n i
+pub scan-ext : (p q : ℕ → Bool) (n i : ℕ) → ((k : ℕ) → i ≤ k → k < i + n → p k ≡ q k) → scan p n i ≡ scan q n i
 unfolding scan
 scan-ext p q zero i h = refl
 scan-ext p q (suc n) i h =

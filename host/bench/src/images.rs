@@ -39,6 +39,12 @@ pub fn sample(edition: Edition) -> Vec<u8> {
     image
 }
 
+/// The sample's geometry, all entries and usable extents taken.
+pub fn sample_full() -> Vec<u8> {
+    let geometry = geometry(255, 4);
+    filled(geometry, 255, geometry.usable_extents(), short_name)
+}
+
 /// One file with two extents.
 pub fn nearly_empty() -> Vec<u8> {
     let geometry = largest();

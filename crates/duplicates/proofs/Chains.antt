@@ -14,7 +14,7 @@ use lib.Seq.{getD-set-same, getD-set-other}
 use borrow.Author.Tests.{eqb-true, eqb-false}
 use Rattle.model.specs.Search.{anyBelow}
 use Rattle.laws.proofs.Search.{anyBelow-more, anyBelow-true}
-use Rattle.duplicates.specs.Chains.{lastBelow, Chain, Chains, headIn, nextIn, Entered}
+use Rattle.duplicates.specs.Chains.{lastBelow, Chain, Chains, Enters, headIn, nextIn, Entered, topIn, linkIn, lastIn, beforeIn, tagIn, Joined}
 
 -- ---- the last index of a bucket
 
@@ -54,7 +54,7 @@ chains-none member n head next h = record { chain = λ b l. record { last = h b 
 -- ---- one index more: it is in no bucket, or joins one
 
 -- an index below i + 1 is below i, or i itself
-up-to {ℓ} : {P : Type ℓ} (i j : ℕ) → j < i + 1 → (j < i → P) → (j ≡ i → P) → P
+pub up-to {ℓ} : {P : Type ℓ} (i j : ℕ) → j < i + 1 → (j < i → P) → (j ≡ i → P) → P
 up-to i j l p q = let le : j ≤ i = omega arith in ⊎-elim q p (eq-or-lt-of-le le)
 
 module _ {q : ℕ → Bool} {i start : ℕ} {next : ℕ → ℕ} (C : Chain q i start next) (next′ : ℕ → ℕ) (kept : (j : ℕ) → j < i → next′ j ≡ next j) where
@@ -74,20 +74,24 @@ module _ (member : ℕ → ℕ → Bool) (n i : ℕ) (head next : ℕ → ℕ) (
   pub chains-pass : ((b : ℕ) → member b i ≡ false) → Chains member n (i + 1) head next
   chains-pass out = record { chain = λ b l. chain-pass (C .chain b l) next (λ j k. refl) (out b) }
 
-pub chains-join : (member : ℕ → ℕ → Bool) (n i b : ℕ) (c c′ : List ℕ) → Chains member n i (headIn c) (nextIn c) → Entered i b c c′
-    → b < n → member b i ≡ true → ((x : ℕ) → x ≢ b → member x i ≡ false) → Chains member n (i + 1) (headIn c′) (nextIn c′)
-chains-join member n i b c c′ C E lb in′ out = record { chain = λ x l. go x l (eqb x b) refl }
+pub chains-enter : (member : ℕ → ℕ → Bool) (n i b : ℕ) {head next head′ next′ : ℕ → ℕ} → Chains member n i head next → Enters i b head next head′ next′
+    → b < n → member b i ≡ true → ((x : ℕ) → x ≢ b → member x i ≡ false) → Chains member n (i + 1) head′ next′
+chains-enter member n i b {head} {next} {head′} {next′} C E lb in′ out = record { chain = λ x l. go x l (eqb x b) refl }
   where
-    kept : (j : ℕ) → j < i → nextIn c′ j ≡ nextIn c j
+    kept : (j : ℕ) → j < i → next′ j ≡ next j
     kept j k = E .next-other j (λ e. omega arith)
 
-    go : (x : ℕ) → x < n → (t : Bool) → eqb x b ≡ t → Chain (member x) (i + 1) (headIn c′ x) (nextIn c′)
-    go x l true t = rw (eqb-true x b t, E .head-own) (chain-join (C .chain b lb) (nextIn c′) kept in′ (E .next-own))
+    go : (x : ℕ) → x < n → (t : Bool) → eqb x b ≡ t → Chain (member x) (i + 1) (head′ x) next′
+    go x l true t = rw (eqb-true x b t, E .head-own) (chain-join (C .chain b lb) next′ kept in′ (E .next-own))
     go x l false t =
         let ne : x ≢ b = eqb-false x b t in
-        rw (E .head-other x ne) (chain-pass (C .chain x l) (nextIn c′) kept (out x ne))
+        rw (E .head-other x ne) (chain-pass (C .chain x l) next′ kept (out x ne))
 
--- ---- index i becomes the last of bucket b: its number's lower half, then the bucket's upper one
+pub chains-join : (member : ℕ → ℕ → Bool) (n i b : ℕ) (c c′ : List ℕ) → Chains member n i (headIn c) (nextIn c) → Entered i b c c′
+    → b < n → member b i ≡ true → ((x : ℕ) → x ≢ b → member x i ≡ false) → Chains member n (i + 1) (headIn c′) (nextIn c′)
+chains-join member n i b c c′ = chains-enter member n i b
+
+-- ---- a number of two parts, the upper one from `base` on: one is renewed, the other and all other numbers stay
 
 upper : (a r : ℕ) → r < 65536 → (a * 65536 + r) / 65536 ≡ a
 upper a r l = omega arith
@@ -95,37 +99,51 @@ upper a r l = omega arith
 lower : (a r : ℕ) → r < 65536 → (a * 65536 + r) % 65536 ≡ r
 lower a r l = omega arith
 
--- number k gets new halves
-module _ (c : List ℕ) (k a r : ℕ) (lk : k < length c) (lr : r < 65536) where
-  abbrev renewed : List ℕ
-  renewed = set c k (a * 65536 + r)
+top : (a r : ℕ) → r < 16777216 → (a * 16777216 + r) / 16777216 ≡ a
+top a r l = omega arith
 
-  head-renewed : headIn renewed k ≡ a
-  head-renewed = rw (getD-set-same c k (a * 65536 + r) 0 lk) (upper a r lr)
+link : (a r : ℕ) → r < 16777216 → (a * 16777216 + r) % 16777216 ≡ r
+link a r l = omega arith
 
-  next-renewed : nextIn renewed k ≡ r
-  next-renewed = rw (getD-set-same c k (a * 65536 + r) 0 lk) (lower a r lr)
+module _ (base : ℕ) (upper-of : (a r : ℕ) → r < base → (a * base + r) / base ≡ a) (lower-of : (a r : ℕ) → r < base → (a * base + r) % base ≡ r) where
+  abbrev upperIn : List ℕ → ℕ → ℕ
+  upperIn c k = getD c k 0 / base
 
-  head-other : (x : ℕ) → x ≢ k → headIn renewed x ≡ headIn c x
-  head-other x ne = rw (getD-set-other c k x (a * 65536 + r) 0 ne)
+  abbrev lowerIn : List ℕ → ℕ → ℕ
+  lowerIn c k = getD c k 0 % base
 
-  next-other : (x : ℕ) → x ≢ k → nextIn renewed x ≡ nextIn c x
-  next-other x ne = rw (getD-set-other c k x (a * 65536 + r) 0 ne)
+  module _ (c : List ℕ) (k a r : ℕ) (lk : k < length c) (lr : r < base) where
+    abbrev renewed : List ℕ
+    renewed = set c k (a * base + r)
 
-  -- an upper half that is the old one leaves all of them; a lower one likewise
-  heads-kept : a ≡ headIn c k → (x : ℕ) → headIn renewed x ≡ headIn c x
-  heads-kept e x = go (eqb x k) refl
-    where
-      go : (t : Bool) → eqb x k ≡ t → headIn renewed x ≡ headIn c x
-      go true t = let z : x ≡ k = eqb-true x k t in rw z (head-renewed ∙ e)
-      go false t = head-other x (eqb-false x k t)
+    upper-renewed : upperIn renewed k ≡ a
+    upper-renewed = rw (getD-set-same c k (a * base + r) 0 lk) (upper-of a r lr)
 
-  nexts-kept : r ≡ nextIn c k → (x : ℕ) → nextIn renewed x ≡ nextIn c x
-  nexts-kept e x = go (eqb x k) refl
-    where
-      go : (t : Bool) → eqb x k ≡ t → nextIn renewed x ≡ nextIn c x
-      go true t = let z : x ≡ k = eqb-true x k t in rw z (next-renewed ∙ e)
-      go false t = next-other x (eqb-false x k t)
+    lower-renewed : lowerIn renewed k ≡ r
+    lower-renewed = rw (getD-set-same c k (a * base + r) 0 lk) (lower-of a r lr)
+
+    upper-other : (x : ℕ) → x ≢ k → upperIn renewed x ≡ upperIn c x
+    upper-other x ne = rw (getD-set-other c k x (a * base + r) 0 ne)
+
+    lower-other : (x : ℕ) → x ≢ k → lowerIn renewed x ≡ lowerIn c x
+    lower-other x ne = rw (getD-set-other c k x (a * base + r) 0 ne)
+
+    -- an upper part that is the old one leaves all of them; a lower one likewise
+    uppers-kept : a ≡ upperIn c k → (x : ℕ) → upperIn renewed x ≡ upperIn c x
+    uppers-kept e x = go (eqb x k) refl
+      where
+        go : (t : Bool) → eqb x k ≡ t → upperIn renewed x ≡ upperIn c x
+        go true t = let z : x ≡ k = eqb-true x k t in rw z (upper-renewed ∙ e)
+        go false t = upper-other x (eqb-false x k t)
+
+    lowers-kept : r ≡ lowerIn c k → (x : ℕ) → lowerIn renewed x ≡ lowerIn c x
+    lowers-kept e x = go (eqb x k) refl
+      where
+        go : (t : Bool) → eqb x k ≡ t → lowerIn renewed x ≡ lowerIn c x
+        go true t = let z : x ≡ k = eqb-true x k t in rw z (lower-renewed ∙ e)
+        go false t = lower-other x (eqb-false x k t)
+
+-- ---- index i becomes the last of bucket b: its number's lower half, then the bucket's upper one
 
 module _ (c : List ℕ) (i b : ℕ) (li : i < length c) (lb : b < length c) (small : headIn c b < 65536) where
   abbrev linked : List ℕ
@@ -139,10 +157,100 @@ module _ (c : List ℕ) (i b : ℕ) (li : i < length c) (lb : b < length c) (sma
 
   pub entered : Entered i b c (set linked b ((i + 1) * 65536 + nextIn linked b))
   entered = record {
-    head-own = head-renewed linked b (i + 1) (nextIn linked b) within below;
-    head-other = λ x ne. head-other linked b (i + 1) (nextIn linked b) within below x ne ∙ heads-kept c i (headIn c i) (headIn c b) li small refl x;
-    next-own = nexts-kept linked b (i + 1) (nextIn linked b) within below refl i ∙ next-renewed c i (headIn c i) (headIn c b) li small;
-    next-other = λ j ne. nexts-kept linked b (i + 1) (nextIn linked b) within below refl j ∙ next-other c i (headIn c i) (headIn c b) li small j ne;
+    head-own = upper-renewed 65536 upper lower linked b (i + 1) (nextIn linked b) within below;
+    head-other = λ x ne. upper-other 65536 upper lower linked b (i + 1) (nextIn linked b) within below x ne ∙ uppers-kept 65536 upper lower c i (headIn c i) (headIn c b) li small refl x;
+    next-own = lowers-kept 65536 upper lower linked b (i + 1) (nextIn linked b) within below refl i ∙ lower-renewed 65536 upper lower c i (headIn c i) (headIn c b) li small;
+    next-other = λ j ne. lowers-kept 65536 upper lower linked b (i + 1) (nextIn linked b) within below refl j ∙ lower-other 65536 upper lower c i (headIn c i) (headIn c b) li small j ne;
+  }
+
+-- ---- the same with a tag: the index's link, then the tops of the bucket's two numbers
+
+module _ (c : List ℕ) (k v : ℕ) (lk : k < length c) where
+  -- a new link leaves the tops; a new top leaves the links
+  abbrev linkedTo : List ℕ
+  linkedTo = set c k (topIn c k * 16777216 + v)
+
+  abbrev topped : List ℕ
+  topped = set c k (v * 16777216 + linkIn c k)
+
+  link-new : v < 16777216 → linkIn linkedTo k ≡ v
+  link-new l = lower-renewed 16777216 top link c k (topIn c k) v lk l
+
+  links-other : v < 16777216 → (j : ℕ) → j ≢ k → linkIn linkedTo j ≡ linkIn c j
+  links-other l = lower-other 16777216 top link c k (topIn c k) v lk l
+
+  tops-kept : v < 16777216 → (x : ℕ) → topIn linkedTo x ≡ topIn c x
+  tops-kept l = uppers-kept 16777216 top link c k (topIn c k) v lk l refl
+
+  small-link : linkIn c k < 16777216
+  small-link = omega arith
+
+  top-new : topIn topped k ≡ v
+  top-new = upper-renewed 16777216 top link c k v (linkIn c k) lk small-link
+
+  tops-other : (x : ℕ) → x ≢ k → topIn topped x ≡ topIn c x
+  tops-other = upper-other 16777216 top link c k v (linkIn c k) lk small-link
+
+  links-kept : (x : ℕ) → linkIn topped x ≡ linkIn c x
+  links-kept = lowers-kept 16777216 top link c k v (linkIn c k) lk small-link refl
+
+module _ (c : List ℕ) (i b tag : ℕ) (li : i < length c) (lb : 2 * b + 1 < length c) (small : lastIn c b < 65536) (ltag : tag < 256) where
+  abbrev newLink : ℕ
+  newLink = tag * 65536 + lastIn c b
+
+  abbrev c1 : List ℕ
+  c1 = linkedTo c i newLink li
+
+  abbrev c2 : List ℕ
+  c2 = set c1 (2 * b) ((i + 1) % 256 * 16777216 + linkIn c1 (2 * b))
+
+  abbrev c3 : List ℕ
+  c3 = set c2 (2 * b + 1) ((i + 1) / 256 * 16777216 + linkIn c2 (2 * b + 1))
+
+  room : 2 * b < length c1
+  room = simp length-set (omega arith)
+
+  more-room : 2 * b + 1 < length c2
+  more-room = simp length-set lb
+
+  small-new : newLink < 16777216
+  small-new = omega arith
+
+  links : (j : ℕ) → linkIn c3 j ≡ linkIn c1 j
+  links j = links-kept c2 (2 * b + 1) ((i + 1) / 256) more-room j ∙ links-kept c1 (2 * b) ((i + 1) % 256) room j
+
+  tops : (x : ℕ) → x ≢ 2 * b → x ≢ 2 * b + 1 → topIn c3 x ≡ topIn c x
+  tops x e o =
+      tops-other c2 (2 * b + 1) ((i + 1) / 256) more-room x o ∙ tops-other c1 (2 * b) ((i + 1) % 256) room x e ∙ tops-kept c i newLink li small-new x
+
+  last-own : lastIn c3 b ≡ i + 1
+  last-own =
+      let even = tops-other c2 (2 * b + 1) ((i + 1) / 256) more-room (2 * b) (λ e. omega arith) ∙ top-new c1 (2 * b) ((i + 1) % 256) room in
+      let odd = top-new c2 (2 * b + 1) ((i + 1) / 256) more-room in
+      omega (arith, even, odd)
+
+  last-other : (x : ℕ) → x ≢ b → lastIn c3 x ≡ lastIn c x
+  last-other x ne =
+      let even = tops (2 * x) (λ e. ne (omega arith)) (λ e. omega arith) in
+      let odd = tops (2 * x + 1) (λ e. omega arith) (λ e. ne (omega arith)) in
+      omega (arith, even, odd)
+
+  own-link : linkIn c3 i ≡ newLink
+  own-link = links i ∙ link-new c i newLink li small-new
+
+  other-link : (j : ℕ) → j ≢ i → linkIn c3 j ≡ linkIn c j
+  other-link j ne = links j ∙ links-other c i newLink li small-new j ne
+
+  pub joined : Joined i b tag c c3
+  joined = record {
+    enters = record {
+      head-own = last-own;
+      head-other = last-other;
+      next-own = ap (λ v. v % 65536) own-link ∙ lower tag (lastIn c b) small;
+      next-other = λ j ne. ap (λ v. v % 65536) (other-link j ne);
+    };
+    tag-own = ap (λ v. v / 65536) own-link ∙ upper tag (lastIn c b) small;
+    tag-other = λ j ne. ap (λ v. v / 65536) (other-link j ne);
   }
 
 -- ---- a walk down a chain, in search of a p that holds only where the chain's q does

@@ -1,5 +1,5 @@
 -- Laws of names and ids as keys: equal keys are of one bucket, and what faults 22, 23 and 24 say of keys. Rests on the crate `laws`.
-use Prim.Native.Nat.{ℕ, _+_, _*_, _/_, _<_}
+use Prim.Native.Nat.{ℕ, _+_, _*_, _/_, _%_, _≤_, _<_}
 use mathlib.Core.Path.{_≡_, sym, ap, _∙_}
 use mathlib.Core.Logic.{_≢_}
 use mathlib.Core.Bool.{true, false, true≢false}
@@ -11,9 +11,9 @@ use native.Mathlib.Omega.{arith}
 use lib.Dec.{eqb, leb, lit<}
 use lib.ListN.{length, getD}
 use lib.Seq.{ext-getD}
-use borrow.Author.Tests.{eqb-true, eq-eqb, ne-eqb, le-leb}
+use borrow.Author.Tests.{eqb-true, eq-eqb, ne-eqb, le-leb, leb-true}
 use Rattle.model.specs.declared.Lowest.the-variants.{Nowhere}
-use Rattle.model.specs.Bytes.{beAt, numberIn}
+use Rattle.model.specs.Bytes.{numberIn}
 use Rattle.model.specs.Search.{first, allBelow, equalBytes}
 use Rattle.model.specs.Geometry.{entryAt}
 use Rattle.model.specs.Disk.{Disk}
@@ -25,11 +25,12 @@ use Rattle.model.specs.Catalogue.{catalogueOf}
 use Rattle.model.specs.Faults.{fault22, fault23, fault24}
 use Rattle.laws.proofs.Booleans.{and-left, and-right, and-yes}
 use Rattle.laws.proofs.Search.{allBelow-at, first-missed, first-ext}
+use Rattle.laws.proofs.Edition.{name-bound}
 use Rattle.laws.proofs.Entry.{length-nameIn, long-name}
 use Rattle.laws.proofs.Catalogue.{fault22-is, fault23-is, fault24-is}
 use Rattle.duplicates.specs.declared.Key.{Key}
 use Rattle.duplicates.specs.declared.Key.the-variants.{Name, Id}
-use Rattle.duplicates.specs.Keys.{sameKey, KeysFit, shares, isRepeated, isFaulty, mixed, wordsHash, keyHash, bucketOf}
+use Rattle.duplicates.specs.Keys.{sameKey, keyFits, KeysFit, shares, isRepeated, isFaulty, mixed, partAt, wordsSum, keyHash, placeOf}
 use Rattle.duplicates.specs.Chains.{member}
 
 -- strings that are the same are equal
@@ -42,27 +43,42 @@ same-eq a b e =
 
 -- ---- buckets
 
-pub words-more : (s : List ℕ) (i : ℕ) → wordsHash s (i + 1) ≡ mixed (wordsHash s i) (beAt s (8 * i) 8)
-unfolding wordsHash
+-- a name that ends in its sector is short enough for its hash
+pub name-short : (edition : ℕ) (s : List ℕ) → keyFits (Name edition) s ≡ true → length (nameIn edition s) ≤ 512
+name-short edition s e =
+    let fits = leb-true (numberIn s (layoutOf edition .nameLength)) (layoutOf edition .longestName) e in
+    rw (length-nameIn edition s) (omega (arith, fits, name-bound edition))
+
+pub words-more : (s : List ℕ) (i : ℕ) → wordsSum s (i + 1) ≡ wordsSum s i + partAt s (8 * i) i
+unfolding wordsSum
 words-more s i = rw add-one
 
+-- a hash of 32 bits, scaled to n buckets, is below n; and as a place, with 8 bits more
 pub bucket-below : (h n : ℕ) → h < 4294967296 → 0 < n → h * n / 4294967296 < n
 bucket-below h n l p = div-lt-iff-lt-mul {k = 4294967296} (lit< tt) .1 (omega (arith, mul-lt-mul-of-pos-right l p))
 
+pub place-below : (h n : ℕ) → h < 4294967296 → 0 < n → h * n / 16777216 / 256 < n
+place-below h n l p = let m = mul-lt-mul-of-pos-right l p in omega (arith, m)
+
 same-hash : (key : Key) (a b : List ℕ) → sameKey key a b ≡ true → keyHash key a ≡ keyHash key b
 same-hash (Name edition) a b e = rw (same-eq (nameIn edition a) (nameIn edition b) e)
-same-hash Id a b e = ap (mixed 0) (eqb-true _ _ e)
+same-hash Id a b e = ap (λ v. mixed 0 (v % 4294967291)) (eqb-true _ _ e)
 
 module _ (key : Key) (d : Disk) (n i : ℕ) where
   abbrev own : ℕ
-  own = bucketOf key n (d (entryAt i))
+  own = placeOf key n (d (entryAt i)) / 256
 
-  -- an entry that shares entry i's key is of its bucket
+  -- an entry that shares entry i's key is of its place, and so of its bucket
+  pub shares-place : (j : ℕ) → shares key d i j ≡ true → placeOf key n (d (entryAt j)) ≡ placeOf key n (d (entryAt i))
+  shares-place j f =
+      let s = d (entryAt j) in
+      ap (λ h. h * n / 16777216) (same-hash key s (d (entryAt i)) (and-right (isOccupied s) _ f))
+
   pub shares-member : (b : ℕ) → b ≡ own → (j : ℕ) → shares key d i j ≡ true → member key d n b j ≡ true
   shares-member b e j f =
       let s = d (entryAt j) in
       and-yes (isOccupied s) _ (and-left (isOccupied s) _ f)
-      (eq-eqb (bucketOf key n s) b (ap (λ h. h * n / 4294967296) (same-hash key s (d (entryAt i)) (and-right (isOccupied s) _ f)) ∙ sym e))
+      (eq-eqb (placeOf key n s / 256) b (ap (λ p. p / 256) (shares-place j f) ∙ sym e))
 
   pub member-own : (b : ℕ) → isOccupied (d (entryAt i)) ≡ true → b ≡ own → member key d n b i ≡ true
   member-own b o e = and-yes (isOccupied (d (entryAt i))) (eqb own b) o (eq-eqb own b (sym e))

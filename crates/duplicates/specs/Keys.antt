@@ -1,10 +1,10 @@
 -- Names and ids as keys of directory entries, and a hash of each. Nothing but speed hangs on what the hash is.
-use Prim.Native.Nat.{ℕ, zero, suc, _+_, _*_, _/_, _%_, _<_}
+use Prim.Native.Nat.{ℕ, zero, suc, _+_, _-_, _*_, _/_, _%_, _<_}
 use mathlib.Core.Path.{_≡_}
-use mathlib.Core.Bool.{Bool, true, false, _&&_, _||_}
+use mathlib.Core.Bool.{Bool, true, false, cond, _&&_, _||_}
 use mathlib.Core.List.{List}
-use lib.Dec.{eqb, leb}
-use lib.ListN.{length}
+use lib.Dec.{eqb, leb, ltb}
+use lib.ListN.{length, getD}
 use Rattle.model.specs.Bytes.{beAt, numberIn}
 use Rattle.model.specs.Search.{anyBelow, equalBytes}
 use Rattle.model.specs.Geometry.{rootAt, entryAt}
@@ -49,18 +49,26 @@ module _ (key : Key) (d : Disk) (i : ℕ) where
 abbrev pub mixed : ℕ → ℕ → ℕ
 mixed h w = ((h + w / 4294967296) * 739982445 + w % 4294967296 * 1640531527) % 4294967296
 
--- of k words of eight bytes; of all words and the bytes that are left
-unfoldable pub wordsHash : List ℕ → ℕ → ℕ
-wordsHash s zero = 0
-wordsHash s (suc k) = mixed (wordsHash s k) (beAt s (8 * k) 8)
+-- four bytes as one number, the lowest first
+unfoldable pub halfAt : List ℕ → ℕ → ℕ
+halfAt s at = getD s at 0 + 256 * getD s (at + 1) 0 + 65536 * (getD s (at + 2) 0 + 256 * getD s (at + 3) 0)
+
+-- what eight bytes add to a name's hash
+unfoldable pub partAt : List ℕ → ℕ → ℕ → ℕ
+partAt s at k = ((halfAt s at + (k + 1) * 2654435769) % 4294967296) * ((halfAt s (at + 4) + (k + 1) * 2246822519) % 4294967296) / 65536
+
+-- of k words of eight bytes; of all words and the last eight bytes
+unfoldable pub wordsSum : List ℕ → ℕ → ℕ
+wordsSum s zero = 0
+wordsSum s (suc k) = wordsSum s k + partAt s (8 * k) k
 
 unfoldable pub nameHash : List ℕ → ℕ
-nameHash s = mixed (wordsHash s (length s / 8)) (beAt s (8 * (length s / 8)) (length s % 8))
+nameHash s = mixed 0 (cond (ltb (length s) 8) (beAt s 0 (length s)) (wordsSum s (length s / 8) + partAt s (length s - 8) (length s / 8)))
 
 abbrev pub keyHash : Key → List ℕ → ℕ
 keyHash (Name edition) s = nameHash (nameIn edition s)
-keyHash Id s = mixed 0 (numberIn s (entryField .id))
+keyHash Id s = mixed 0 (numberIn s (entryField .id) % 4294967291)
 
--- which of n buckets
-abbrev pub bucketOf : Key → ℕ → List ℕ → ℕ
-bucketOf key n s = keyHash key s * n / 4294967296
+-- where a key belongs: which of n buckets, and in the lowest 8 bits its tag
+abbrev pub placeOf : Key → ℕ → List ℕ → ℕ
+placeOf key n s = keyHash key s * n / 16777216

@@ -5,16 +5,16 @@ use model::Geometry;
 use model::Lowest;
 ghost use mathlib.Core.Path.{_≡_};
 ghost use mathlib.Core.Bool.{true, false};
-ghost use Prim.Native.Nat.{ℕ, _+_, _*_, _≤_, _<_};
-ghost use lib.ListN.{length, getD};
+ghost use Prim.Native.Nat.{ℕ, _+_, _*_, _/_, _%_, _≤_, _<_};
+ghost use lib.ListN.{length, getD, set};
 ghost use Rattle.model.specs.Search.{first};
 ghost use Rattle.model.specs.Geometry.{entryAt};
 ghost use Rattle.model.specs.Disk.{view};
 ghost use Rattle.model.specs.Catalogue.{catalogueOf};
 ghost use Rattle.model.specs.Faults.{fault22, fault23, fault24};
 ghost use Rattle.model.specs.Opened.{Opened};
-ghost use Rattle.duplicates.specs.Keys.{shares, keyFits, KeysFit, isReserved, isRepeated, isFaulty, mixed, nameHash, keyHash, bucketOf};
-ghost use Rattle.duplicates.specs.Chains.{Chained, Entered};
+ghost use Rattle.duplicates.specs.Keys.{shares, keyFits, KeysFit, isReserved, isRepeated, isFaulty, mixed, halfAt, partAt, nameHash, keyHash, placeOf};
+ghost use Rattle.duplicates.specs.Chains.{Entered, topIn, linkIn, lastIn, Joined, Chained};
 
 // What no two occupied entries may share. A name stands where the edition has it.
 enum Key {
@@ -24,7 +24,7 @@ enum Key {
 
 // ---- hashes, on whose quality only the speed depends
 
-// One more word into a hash, its halves multiplied apart: no product passes 64 bits.
+// One more number into a hash, its halves multiplied apart: no product passes 64 bits.
 pub fn mixed(h: u32, w: u64) -> u32
     ensures { λ r. ⌜ r ≡ mixed h w ⌝ }
 {
@@ -33,18 +33,51 @@ pub fn mixed(h: u32, w: u64) -> u32
     ((high * 739982445 + low * 1640531527) % 4294967296) as u32
 }
 
-// Word by word, and at last the bytes that are left.
+fn wide(byte: u8) -> u64
+    ensures { λ r. ⌜ (r ≡ byte) × (r < 256) ⌝ }
+{
+    byte as u64
+}
+
+// The four bytes at `at`, lowest first: so the compiler reads them at once.
+fn half(s: &[u8], at: usize) -> u64
+    requires { ⌜ at + 4 ≤ length (now s) ⌝ }
+    ensures { λ r. ⌜ r ≡ halfAt (now (s .entry)) at ⌝ }
+    ensures { λ r. ⌜ r < 4294967296 ⌝ }
+{
+    wide(s[at]) + 256 * wide(s[at + 1]) + 65536 * (wide(s[at + 2]) + 256 * wide(s[at + 3]))
+}
+
+// What the eight bytes at `at` add to a name's hash: the product of their halves, each moved by `k`, so that another place tells.
+fn part(s: &[u8], at: usize, k: usize) -> u64
+    requires { ⌜ at + 8 ≤ length (now s) ⌝ }
+    requires { ⌜ k ≤ 64 ⌝ }
+    ensures { λ r. ⌜ r ≡ partAt (now (s .entry)) at k ⌝ }
+    ensures { λ r. ⌜ r < 281474976710656 ⌝ }
+{
+    let step = k as u64 + 1;
+    let low = (half(s, at) + step * 2654435769) % 4294967296;
+    let high = (half(s, at + 4) + step * 2246822519) % 4294967296;
+    low * high / 65536
+}
+
+// The parts of all words of eight bytes, and of the last eight bytes: no part waits for another.
 fn name_hash(name: &[u8]) -> u32
+    requires { ⌜ length (now name) ≤ 512 ⌝ }
     ensures { λ r. ⌜ r ≡ nameHash (now (name .entry)) ⌝ }
 {
-    let words = name.len() / 8;
-    let mut h: u32 = 0;
+    let n = name.len();
+    if n < 8 {
+        return mixed(0, fields::be(name, 0, n));
+    }
+    let words = n / 8;
+    let mut sum: u64 = 0;
     let mut i: usize = 0;
     while i < words {
-        h = mixed(h, fields::be64(name, 8 * i));
+        sum += part(name, 8 * i, i);
         i += 1;
     }
-    mixed(h, fields::be(name, 8 * words, name.len() % 8))
+    mixed(0, sum + part(name, n - 8, words))
 }
 
 fn key_hash(img: &[u8], key: Key, i: FileIndex) -> u32
@@ -54,19 +87,20 @@ fn key_hash(img: &[u8], key: Key, i: FileIndex) -> u32
 {
     match key {
         Key::Name(edition) => name_hash(directory::name_at(img, edition, i)),
-        Key::Id => mixed(0, directory::id_at(img, i)),
+        // a remainder needs the whole id, which is then read at once
+        Key::Id => mixed(0, directory::id_at(img, i) % 4294967291),
     }
 }
 
-// Which of `buckets` buckets: the hash is scaled, which takes no division by a variable.
-fn bucket_of(img: &[u8], key: Key, i: FileIndex, buckets: usize) -> usize
+// Which of `buckets` buckets, and in the lowest 8 bits the key's tag. The hash is scaled, which takes no division by a variable.
+fn place_of(img: &[u8], key: Key, i: FileIndex, buckets: usize) -> usize
     requires { ⌜ 512 * entryAt (i .0) + 512 ≤ length (now img) ⌝ }
     requires { ⌜ keyFits key (view (now img) (entryAt (i .0))) ≡ true ⌝ }
     requires { ⌜ (0 < buckets) × (buckets ≤ 65536) ⌝ }
-    ensures { λ r. ⌜ r ≡ bucketOf key buckets (view (now (img .entry)) (entryAt (i .0))) ⌝ }
-    ensures { λ r. ⌜ r < buckets ⌝ }
+    ensures { λ r. ⌜ r ≡ placeOf key buckets (view (now (img .entry)) (entryAt (i .0))) ⌝ }
+    ensures { λ r. ⌜ r / 256 < buckets ⌝ }
 {
-    (key_hash(img, key, i) as usize) * buckets / 4294967296
+    (key_hash(img, key, i) as usize) * buckets / 16777216
 }
 
 // ---- comparisons
@@ -108,26 +142,8 @@ fn is_reserved(img: &[u8], key: Key, i: FileIndex) -> bool
     }
 }
 
-// ---- chains, two numbers in one: the upper 16 bits of number b are bucket b's last entry, the lower ones of number j the entry before j
-
-// Whether an occupied entry below i has its key. `b` is the bucket of both.
-fn is_repeated(img: &[u8], key: Key, i: usize, b: usize, chains: &[u32]) -> bool
-    requires { ⌜ 512 * entryAt i + 512 ≤ length (now img) ⌝ }
-    requires { ⌜ keyFits key (view (now img) (entryAt i)) ≡ true ⌝ }
-    requires { ⌜ (b < length (now chains)) × (i ≤ length (now chains)) ⌝ }
-    requires { ⌜ b ≡ bucketOf key (length (now chains)) (view (now img) (entryAt i)) ⌝ }
-    requires { ⌜ Chained key (view (now img)) i (now chains) ⌝ }
-    ensures { λ r. ⌜ r ≡ isRepeated key (view (now (img .entry))) i ⌝ }
-{
-    let mut j = (chains[b] / 65536) as usize;
-    while j != 0 {
-        if shares(img, key, FileIndex(i as u64), FileIndex((j - 1) as u64)) {
-            return true;
-        }
-        j = (chains[j - 1] % 65536) as usize;
-    }
-    false
-}
+// ---- chains of numbers with 16 bits each: the upper ones of number b are bucket b's last entry, the lower ones of number j the entry
+// before j. `repair` has these.
 
 // Entry i becomes the last of bucket b.
 pub fn enter(i: usize, b: usize, chains: &mut [u32])
@@ -139,11 +155,82 @@ pub fn enter(i: usize, b: usize, chains: &mut [u32])
     chains[b] = (i as u32 + 1) * 65536 + chains[b] % 65536;
 }
 
+// ---- chains with tags: number j has the entry before j in its lowest 16 bits and the tag of j's key in the next 8. The upper 8 bits of
+// the numbers 2 b and 2 b + 1 are bucket b's last entry. Where tags differ so do the keys, and the directory isn't read.
+
+fn last(chains: &[u32], b: usize) -> u32
+    requires { ⌜ 2 * b + 1 < length (now chains) ⌝ }
+    ensures { λ r. ⌜ r ≡ lastIn (now (chains .entry)) b ⌝ }
+    ensures { λ r. ⌜ r < 65536 ⌝ }
+{
+    chains[2 * b] / 16777216 + chains[2 * b + 1] / 16777216 * 256
+}
+
+fn put_top(k: usize, top: u32, chains: &mut [u32])
+    requires { ⌜ (k < length (now chains)) × (top < 256) ⌝ }
+    ensures { λ _. ⌜ now (chains .exit) ≡ set (now (chains .entry)) k (top * 16777216 + linkIn (now (chains .entry)) k) ⌝ }
+{
+    chains[k] = top * 16777216 + chains[k] % 16777216;
+}
+
+fn put_link(k: usize, link: u32, chains: &mut [u32])
+    requires { ⌜ (k < length (now chains)) × (link < 16777216) ⌝ }
+    ensures { λ _. ⌜ now (chains .exit) ≡ set (now (chains .entry)) k (topIn (now (chains .entry)) k * 16777216 + link) ⌝ }
+{
+    chains[k] = chains[k] / 16777216 * 16777216 + link;
+}
+
+// Entry i becomes the last of the bucket of its key's place.
+fn join(i: usize, place: usize, chains: &mut [u32])
+    requires { ⌜ (2 * (place / 256) + 1 < length (now chains)) × (i < length (now chains)) × (i < 65535) ⌝ }
+    ensures { λ _. ⌜ Joined i (place / 256) (place % 256) (now (chains .entry)) (now (chains .exit)) ⌝ }
+{
+    let b = place / 256;
+    let link = (place % 256) as u32 * 65536 + last(chains, b);
+    put_link(i, link, chains);
+    put_top(2 * b, (i as u32 + 1) % 256, chains);
+    put_top(2 * b + 1, (i as u32 + 1) / 256, chains);
+}
+
+// Whether entry j, which is before i in the chain of `place`, has its key.
+fn is_shared(img: &[u8], key: Key, i: usize, j: usize, place: usize, link: u32) -> bool
+    requires { ⌜ 512 * entryAt i + 512 ≤ length (now img) ⌝ }
+    requires { ⌜ 512 * entryAt j + 512 ≤ length (now img) ⌝ }
+    requires { ⌜ keyFits key (view (now img) (entryAt i)) ≡ true ⌝ }
+    requires { ⌜ (shares key (view (now img)) i j ≡ true → link / 65536 ≡ place % 256) ⌝ }
+    ensures { λ r. ⌜ r ≡ shares key (view (now (img .entry))) i j ⌝ }
+{
+    if (link / 65536) as usize == place % 256 {
+        return shares(img, key, FileIndex(i as u64), FileIndex(j as u64));
+    }
+    false
+}
+
+// Whether an occupied entry below i has its key, whose place is `place`.
+fn is_repeated(img: &[u8], key: Key, i: usize, place: usize, chains: &[u32]) -> bool
+    requires { ⌜ 512 * entryAt i + 512 ≤ length (now img) ⌝ }
+    requires { ⌜ keyFits key (view (now img) (entryAt i)) ≡ true ⌝ }
+    requires { ⌜ (place / 256 < length (now chains) / 2) × (i ≤ length (now chains)) ⌝ }
+    requires { ⌜ place ≡ placeOf key (length (now chains) / 2) (view (now img) (entryAt i)) ⌝ }
+    requires { ⌜ Chained key (view (now img)) i (now chains) ⌝ }
+    ensures { λ r. ⌜ r ≡ isRepeated key (view (now (img .entry))) i ⌝ }
+{
+    let mut j = last(chains, place / 256) as usize;
+    while j != 0 {
+        let link = chains[j - 1] % 16777216;
+        if is_shared(img, key, i, j - 1, place, link) {
+            return true;
+        }
+        j = (link % 65536) as usize;
+    }
+    false
+}
+
 // Whether entry i has the fault. Where it has not, it has joined its chain.
 fn is_faulty(img: &[u8], key: Key, i: usize, chains: &mut [u32]) -> bool
     requires { ⌜ 512 * entryAt i + 512 ≤ length (now img) ⌝ }
     requires { ⌜ KeysFit key (view (now img)) (i + 1) ⌝ }
-    requires { ⌜ (length (now chains) ≤ 65536) × (i < length (now chains)) × (i < 65535) ⌝ }
+    requires { ⌜ (length (now chains) ≤ 65536) × (1 < length (now chains)) × (i < length (now chains)) × (i < 65535) ⌝ }
     requires { ⌜ Chained key (view (now img)) i (now chains) ⌝ }
     ensures { λ r. ⌜ r ≡ isFaulty key (view (now (img .entry))) i ⌝ }
     ensures { λ r. ⌜ (r ≡ false → Chained key (view (now (img .entry))) (i + 1) (now (chains .exit))) ⌝ }
@@ -153,11 +240,11 @@ fn is_faulty(img: &[u8], key: Key, i: usize, chains: &mut [u32]) -> bool
         if is_reserved(img, key, e) {
             return true;
         }
-        let b = bucket_of(img, key, e, chains.len());
-        if is_repeated(img, key, i, b, chains) {
+        let place = place_of(img, key, e, chains.len() / 2);
+        if is_repeated(img, key, i, place, chains) {
             return true;
         }
-        enter(i, b, chains);
+        join(i, place, chains);
         return false;
     }
     false
@@ -247,31 +334,32 @@ pub fn fault24(img: &[u8], g: Geometry) -> Lowest
 
 // ---- the same by way of lent scratch
 
-// A number for each entry.
+// The chains are cleared first.
 fn first_cleared(img: &[u8], g: Geometry, key: Key, chains: &mut [u32]) -> Lowest
     requires { ⌜ Opened (now img) g ⌝ }
     requires { ⌜ KeysFit key (view (now img)) (g .files) ⌝ }
-    requires { ⌜ length (now chains) ≡ g .files ⌝ }
+    requires { ⌜ (length (now chains) ≤ 65536) × (g .files ≤ length (now chains)) ⌝ }
     ensures { λ r. ⌜ r ≡ first (isFaulty key (view (now (img .entry)))) (g .files) ⌝ }
 {
     fields::clear(chains);
     first_in(img, g, key, chains)
 }
 
+// Four numbers for each entry, up to the most that a place can tell apart: the fewer entries share a bucket.
 fn first_faulty_with(img: &[u8], g: Geometry, key: Key, scratch: &mut [u32]) -> Lowest
     requires { ⌜ Opened (now img) g ⌝ }
     requires { ⌜ KeysFit key (view (now img)) (g .files) ⌝ }
-    requires { ⌜ g .files ≤ length (now scratch) ⌝ }
+    requires { ⌜ 4 * g .files ≤ length (now scratch) ⌝ }
     ensures { λ r. ⌜ r ≡ first (isFaulty key (view (now (img .entry)))) (g .files) ⌝ }
 {
-    let f = g.files as usize;
-    first_cleared(img, g, key, &mut scratch[0..f])
+    let n = fields::least(4 * g.files, 65536) as usize;
+    first_cleared(img, g, key, &mut scratch[0..n])
 }
 
 pub fn fault23_with(img: &[u8], g: Geometry, scratch: &mut [u32]) -> Lowest
     requires { ⌜ Opened (now img) g ⌝ }
     requires { ⌜ first (fault22 (catalogueOf (view (now img)))) (g .files) ≡ Lowest.Nowhere ⌝ }
-    requires { ⌜ g .files ≤ length (now scratch) ⌝ }
+    requires { ⌜ 4 * g .files ≤ length (now scratch) ⌝ }
     ensures { λ r. ⌜ r ≡ first (fault23 (catalogueOf (view (now (img .entry))))) (g .files) ⌝ }
 {
     first_faulty_with(img, g, Key::Name(g.edition), scratch)
@@ -279,7 +367,7 @@ pub fn fault23_with(img: &[u8], g: Geometry, scratch: &mut [u32]) -> Lowest
 
 pub fn fault24_with(img: &[u8], g: Geometry, scratch: &mut [u32]) -> Lowest
     requires { ⌜ Opened (now img) g ⌝ }
-    requires { ⌜ g .files ≤ length (now scratch) ⌝ }
+    requires { ⌜ 4 * g .files ≤ length (now scratch) ⌝ }
     ensures { λ r. ⌜ r ≡ first (fault24 (catalogueOf (view (now (img .entry))))) (g .files) ⌝ }
 {
     first_faulty_with(img, g, Key::Id, scratch)

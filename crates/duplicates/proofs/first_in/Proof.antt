@@ -1,15 +1,15 @@
 -- `duplicates::first_in` meets its contract. The loop's invariant: the search has passed the entries below i, and the chains are
 -- those of these entries.
 use borrow.Author.Needs.{needs}
-use Prim.Native.Nat.{_-_, _/_}
-use mathlib.Core.Path.{_≡_, refl, sym, ap, _∙_}
+use Prim.Native.Nat.{_-_}
+use mathlib.Core.Path.{_≡_, refl, sym, _∙_}
 use native.Mathlib.Omega.{arith}
 use lib.ListN.{length}
 use Rattle.model.specs.Disk.{view}
 use Rattle.laws.proofs.Seeking.{Seeking, seek-start, seek-here, seek-next, seek-end}
 use Rattle.duplicates.specs.Keys.{isFaulty}
 use Rattle.duplicates.specs.Chains.{Chained}
-use Rattle.duplicates.proofs.Chains.{chains-none}
+use Rattle.duplicates.proofs.Chained.{chained-none}
 use Rattle.duplicates.proofs.first_in.Statement.{statement}
 use Rattle.duplicates.proofs.first_in.Tie as tie
 
@@ -22,13 +22,13 @@ abbrev μ-loop : tie.MeasureT-loop
 loop-holds : tie.Need-loop-holds Inv-loop μ-loop
 loop-holds c =
     let s = c .before .before in
-    (refl, chains-none _ _ _ _ (λ b l. ap (λ w. w / 65536) (s .pre .1 .1 .1 b l)), seek-start)
+    (refl, chained-none _ _ _ (s .pre .1 .1 .1), seek-start)
 
 is-faulty-requires : tie.Need-is-faulty-requires Inv-loop μ-loop
 is-faulty-requires c κs =
     let l = c .before .before .loop in
     let s = c .before .before .before .before .before in
-    (omega arith, ((λ j h o. s .pre .1 .0 j (omega arith) o), ((omega arith, omega arith, omega arith), l .inv .1)))
+    (omega arith, ((λ j h o. s .pre .1 .0 j (omega arith) o), ((omega arith, omega (arith, s .pre .0 .bounded .files-low), omega arith, omega arith), l .inv .1)))
 
 same-length : tie.Need-same-length Inv-loop μ-loop
 same-length c = search needs

@@ -4,14 +4,12 @@ use Prim.Native.Nat.{_+_}
 use mathlib.Core.Path.{_≡_, sym, _∙_}
 use mathlib.Core.Bool.{true, false, true≢false}
 use native.Mathlib.Omega.{arith}
-use lib.ListN.{length}
 use Rattle.model.specs.Geometry.{entryAt}
 use Rattle.model.specs.Disk.{view}
 use Rattle.model.specs.Entry.{isOccupied}
 use Rattle.duplicates.specs.Keys.{isFaulty}
-use Rattle.duplicates.specs.Chains.{Chains, member, headIn, nextIn}
-use Rattle.duplicates.proofs.Chains.{chains-pass, chains-join}
-use Rattle.duplicates.proofs.Keys.{member-own, member-other, member-none}
+use Rattle.duplicates.specs.Chains.{Chained}
+use Rattle.duplicates.proofs.Chained.{chained-pass, chained-join}
 use Rattle.duplicates.proofs.is_faulty.Statement.{statement}
 use Rattle.duplicates.proofs.is_faulty.Tie as tie
 
@@ -27,11 +25,11 @@ returns c =
     let o = c .before .before .before in
     (rw (← o .is-occupied .ensures, c .before .before .if1 .taken, ← c .before .is-reserved .ensures, c .if2 .taken), λ e. absurd (true≢false e))
 
-bucket-of-requires : tie.Need-bucket-of-requires
-bucket-of-requires c κs =
+place-of-requires : tie.Need-place-of-requires
+place-of-requires c κs =
     let o = c .before .before .before in
     let s = o .before .before .before in
-    (s .pre .0, (s .pre .1 .0 (s .args .i) (omega arith) (sym (o .is-occupied .ensures) ∙ c .before .before .if1 .taken), (omega arith, s .pre .1 .1 .0 .0)))
+    (s .pre .0, (s .pre .1 .0 (s .args .i) (omega arith) (sym (o .is-occupied .ensures) ∙ c .before .before .if1 .taken), (omega arith, omega arith)))
 
 is-repeated-requires : tie.Need-is-repeated-requires
 is-repeated-requires c κs =
@@ -41,7 +39,7 @@ is-repeated-requires c κs =
       s .pre .0,
       (
         s .pre .1 .0 (s .args .i) (omega arith) (sym (o .is-occupied .ensures) ∙ b .before .before .before .if1 .taken),
-        ((b .bucket-of .ensures .1, omega arith), (b .bucket-of .ensures .0, s .pre .1 .1 .1)),
+        ((b .place-of .ensures .1, omega arith), (b .place-of .ensures .0, s .pre .1 .1 .1)),
       ),
     )
 
@@ -57,8 +55,8 @@ returns-2 c =
       λ e. absurd (true≢false e),
     )
 
-enter-requires : tie.Need-enter-requires
-enter-requires c κs = search needs
+join-requires : tie.Need-join-requires
+join-requires c κs = search needs
 
 same-length-2 : tie.Need-same-length-2
 same-length-2 c = search needs
@@ -66,20 +64,18 @@ same-length-2 c = search needs
 returns-3 : tie.Need-returns-3
 unfolding isFaulty
 returns-3 c =
-    let k = c .before .before .enter in
+    let k = c .before .before .join in
     let t = c .before .before .before .before in
     let b = t .before .before .before in
     let s = b .before .before .before .before .before .before .before in
     let a = s .args in
     let d = view (a .img .now) in
-    let n = length (a .chains .now) in
-    let i = b .bucket-of .result in
     let o : isOccupied (d (entryAt (a .i))) ≡ true = sym (b .before .before .before .before .is-occupied .ensures) ∙ b .before .before .before .if1 .taken in
-    let joined : Chains (member (a .key) d n) n (a .i + 1) (headIn (k .last .1 .1 .0)) (nextIn (k .last .1 .1 .0)) =
-    chains-join (member (a .key) d n) n (a .i) i (a .chains .now) (k .last .1 .1 .0) (s .pre .1 .1 .1) (k .ensures) (b .bucket-of .ensures .1)
-    (member-own (a .key) d n (a .i) i o (b .bucket-of .ensures .0)) (member-other (a .key) d n (a .i) i o (b .bucket-of .ensures .0)) in (
+    let joined : Chained (a .key) d (a .i + 1) (k .last .1 .1 .0) =
+    chained-join (a .key) d (a .i) (a .chains .now) (s .pre .1 .1 .1) (k .last .1 .1 .0) (b .place-of .result) (k .kept .1 .1 .0) o (b .place-of .ensures .0)
+    (b .place-of .ensures .1) (k .ensures) in (
       rw (o, ← b .before .before .is-reserved .ensures, b .before .if2 .left, ← t .before .is-repeated .ensures, t .if3 .left),
-      λ e. rw (k .kept .1 .1 .0) joined,
+      λ e. joined,
     )
 
 returns-4 : tie.Need-returns-4
@@ -88,9 +84,8 @@ returns-4 c =
     let s = c .before .before .before .before in
     let a = s .args in
     let d = view (a .img .now) in
-    let n = length (a .chains .now) in
     let o : isOccupied (d (entryAt (a .i))) ≡ false = sym (c .before .is-occupied .ensures) ∙ c .if1 .left in
-    (rw o, λ e. chains-pass (member (a .key) d n) n (a .i) (headIn (a .chains .now)) (nextIn (a .chains .now)) (s .pre .1 .1 .1) (member-none (a .key) d n (a .i) o))
+    (rw o, λ e. chained-pass (a .key) d (a .i) (a .chains .now) (s .pre .1 .1 .1) o)
 
 pub is-faulty-spec : {M : Type 1} → statement M
 is-faulty-spec =
@@ -99,11 +94,11 @@ is-faulty-spec =
     is-occupied-requires
     is-reserved-requires
     returns
-    bucket-of-requires
+    place-of-requires
     is-repeated-requires
     same-length
     returns-2
-    enter-requires
+    join-requires
     same-length-2
     returns-3
     returns-4)

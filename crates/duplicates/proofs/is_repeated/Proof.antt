@@ -1,78 +1,100 @@
 -- `duplicates::is_repeated` meets its contract. The loop's invariant: an occupied entry below i has the key exactly if one below
 -- j has it, and j is 0 or entry j - 1 stands in the bucket.
 use borrow.Author.Needs.{needs}
-use Prim.Native.Nat.{_-_}
-use mathlib.Core.Path.{sym, _∙_}
+use Prim.Native.Nat.{_+_, _-_, _*_, _/_, _%_}
+use mathlib.Core.Path.{refl, sym, ap, _∙_}
 use native.Mathlib.Omega.{arith}
 use lib.ListN.{length}
 use Rattle.model.specs.Disk.{view}
 use Rattle.duplicates.specs.Keys.{shares, isRepeated}
 use Rattle.duplicates.specs.Chains.{member}
 use Rattle.duplicates.proofs.Chains.{Walk, walk-start, walk-found, walk-falls, walk-next, walk-end}
-use Rattle.duplicates.proofs.Keys.{shares-member}
+use Rattle.duplicates.proofs.Keys.{shares-place, shares-member}
+use Prim.Native.Nat.{_<_}
+use mathlib.Core.Path.{_≡_}
+use Rattle.model.specs.Geometry.{entryAt}
+use Rattle.model.specs.Entry.{isOccupied}
+use Rattle.laws.proofs.Booleans.{and-left}
 use Rattle.duplicates.proofs.is_repeated.Statement.{statement}
 use Rattle.duplicates.proofs.is_repeated.Tie as tie
 
 abbrev Inv-loop : tie.InvT-loop
-Inv-loop img key i b chains j₀ j = Walk (shares key (view img) i) (member key (view img) (length chains) b) i j
+Inv-loop img key i place chains j₀ j = Walk (shares key (view img) i) (member key (view img) (length chains / 2) (place / 256)) i j
 
 abbrev μ-loop : tie.MeasureT-loop
-μ-loop img key i b chains j₀ j = j
+μ-loop img key i place chains j₀ j = j
 
-mul-j : tie.Need-mul-j Inv-loop μ-loop
-mul-j c = search needs
-
-shared-slice-read-j : tie.Need-shared-slice-read-j Inv-loop μ-loop
-shared-slice-read-j c = search needs
+last-requires : tie.Need-last-requires Inv-loop μ-loop
+last-requires c κs = search needs
 
 cast-j : tie.Need-cast-j Inv-loop μ-loop
-cast-j c = omega (arith, c .shared-slice-known3 .given (c .before .before .before .args .b))
+cast-j c = search needs
 
 loop-holds : tie.Need-loop-holds Inv-loop μ-loop
 loop-holds c =
     let s = c .before .before .before in
     let a = s .args in
-    let only = shares-member (a .key) (view (a .img .now)) (length (a .chains .now)) (a .i) (a .b) (s .pre .1 .1 .1 .0) in
-    let C = s .pre .1 .1 .1 .1 .chain (a .b) (s .pre .1 .1 .0 .0) in
-    walk-start only C
+    let n = length (a .chains .now) / 2 in
+    let only = shares-member (a .key) (view (a .img .now)) n (a .i) (a .place / 256) (ap (λ p. p / 256) (s .pre .1 .1 .1 .0)) in
+    let C = s .pre .1 .1 .1 .1 .chains .chain (a .place / 256) (s .pre .1 .1 .0 .0) in
+    rw (c .last .ensures .0) (walk-start only C)
 
-sub-t15 : tie.Need-sub-t15 Inv-loop μ-loop
-sub-t15 c = search needs
+sub-link : tie.Need-sub-link Inv-loop μ-loop
+sub-link c = search needs
 
-shares-requires : tie.Need-shares-requires Inv-loop μ-loop
-shares-requires c κs = let s = c .before .before .before .before .before in (s .pre .0, (omega arith, s .pre .1 .0))
+mul-link : tie.Need-mul-link Inv-loop μ-loop
+mul-link c = search needs
+
+shared-slice-read-link : tie.Need-shared-slice-read-link Inv-loop μ-loop
+shared-slice-read-link c = search needs
+
+sub-is-shared : tie.Need-sub-is-shared Inv-loop μ-loop
+sub-is-shared c = search needs
+
+is-shared-requires : tie.Need-is-shared-requires Inv-loop μ-loop
+is-shared-requires c κs =
+    let s = c .before .before .before .before .before .before in
+    let a = s .args in
+    let d = view (a .img .now) in
+    let n = length (a .chains .now) / 2 in
+    let j = c .before .before .loop .j in
+    let more : 0 < j = omega (arith, c .before .loop-test .taken) in
+    let below : j - 1 < a .i = omega (arith, c .before .before .loop .inv .within) in (
+      s .pre .0,
+      (
+        omega arith,
+        (
+          s .pre .1 .0,
+          λ e. s .pre .1 .1 .1 .1 .tags (j - 1) below (and-left (isOccupied (d (entryAt (j - 1)))) _ e)
+              ∙ ap (λ p. p % 256) (shares-place (a .key) d n (a .i) (j - 1) e ∙ sym (s .pre .1 .1 .1 .0)),
+        ),
+      ),
+    )
 
 returns : tie.Need-returns Inv-loop μ-loop
 unfolding isRepeated
-returns c = sym (walk-found (c .before .before .before .loop .inv) (c .before .before .loop-test .taken) (sym (c .before .shares .ensures) ∙ c .if1 .taken))
-
-sub-j : tie.Need-sub-j Inv-loop μ-loop
-sub-j c = search needs
-
-mul-j-2 : tie.Need-mul-j-2 Inv-loop μ-loop
-mul-j-2 c = search needs
-
-shared-slice-read-j-2 : tie.Need-shared-slice-read-j-2 Inv-loop μ-loop
-shared-slice-read-j-2 c = search needs
+returns c = sym (walk-found (c .before .before .before .before .loop .inv) (c .before .before .before .loop-test .taken) (sym (c .before .is-shared .ensures) ∙ c .if1 .taken))
 
 cast-j-2 : tie.Need-cast-j-2 Inv-loop μ-loop
-cast-j-2 c = omega (arith, c .shared-slice-known4 .given (c .before .before .before .before .loop .j - 1))
+cast-j-2 c = search needs
 
 loop-less : tie.Need-loop-less Inv-loop μ-loop
 loop-less c =
     let s = c .before .before .before .before .before .before .before .before in
     let a = s .args in
-    let only = shares-member (a .key) (view (a .img .now)) (length (a .chains .now)) (a .i) (a .b) (s .pre .1 .1 .1 .0) in
-    let C = s .pre .1 .1 .1 .1 .chain (a .b) (s .pre .1 .1 .0 .0) in
+    let n = length (a .chains .now) / 2 in
+    let only = shares-member (a .key) (view (a .img .now)) n (a .i) (a .place / 256) (ap (λ p. p / 256) (s .pre .1 .1 .1 .0)) in
+    let C = s .pre .1 .1 .1 .1 .chains .chain (a .place / 256) (s .pre .1 .1 .0 .0) in
     walk-falls only C (c .before .before .before .before .loop .inv) (c .before .before .before .loop-test .taken)
 
 loop-again : tie.Need-loop-again Inv-loop μ-loop
 loop-again c =
     let s = c .before .before .before .before .before .before .before .before in
     let a = s .args in
-    let only = shares-member (a .key) (view (a .img .now)) (length (a .chains .now)) (a .i) (a .b) (s .pre .1 .1 .1 .0) in
-    let C = s .pre .1 .1 .1 .1 .chain (a .b) (s .pre .1 .1 .0 .0) in
-    walk-next only C (c .before .before .before .before .loop .inv) (c .before .before .before .loop-test .taken) (sym (c .before .before .shares .ensures) ∙ c .before .if1 .left)
+    let n = length (a .chains .now) / 2 in
+    let only = shares-member (a .key) (view (a .img .now)) n (a .i) (a .place / 256) (ap (λ p. p / 256) (s .pre .1 .1 .1 .0)) in
+    let C = s .pre .1 .1 .1 .1 .chains .chain (a .place / 256) (s .pre .1 .1 .0 .0) in
+    walk-next only C (c .before .before .before .before .loop .inv) (c .before .before .before .loop-test .taken) (sym (c .before .is-shared .ensures) ∙ c .if1 .left)
 
 returns-2 : tie.Need-returns-2 Inv-loop μ-loop
 unfolding isRepeated
@@ -84,16 +106,15 @@ is-repeated-spec =
     (tie.spec
     Inv-loop
     μ-loop
-    mul-j
-    shared-slice-read-j
+    last-requires
     cast-j
     loop-holds
-    sub-t15
-    shares-requires
+    sub-link
+    mul-link
+    shared-slice-read-link
+    sub-is-shared
+    is-shared-requires
     returns
-    sub-j
-    mul-j-2
-    shared-slice-read-j-2
     cast-j-2
     loop-less
     loop-again

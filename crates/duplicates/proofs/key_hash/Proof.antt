@@ -1,9 +1,11 @@
 -- `duplicates::key_hash` meets its contract. A case for each key: the hash of the name, or of the id.
 use borrow.Author.Needs.{needs}
+use Prim.Native.Nat.{_%_}
 use mathlib.Core.Path.{_≡_, ap, _∙_}
 use borrow.Author.Tests.{leb-true}
 use Rattle.duplicates.specs.declared.Key.the-variants.{Id}
 use Rattle.duplicates.specs.Keys.{mixed, nameHash}
+use Rattle.duplicates.proofs.Keys.{name-short}
 use Rattle.duplicates.proofs.key_hash.Statement.{statement}
 use Rattle.duplicates.proofs.key_hash.Tie as tie
 
@@ -16,7 +18,9 @@ name-at-requires c κs =
     (s .pre .0, leb-true _ _ (rw (c .before .key .given .1) at (s .pre .1)))
 
 name-hash-requires : tie.Need-name-hash-requires
-name-hash-requires c κs = search needs
+name-hash-requires c κs =
+    let s = c .before .before .before .before .before in
+    rw (c .name-at .ensures) (name-short _ _ (rw (c .before .before .key .given .1) at (s .pre .1)))
 
 enum-told : tie.Need-enum-told
 enum-told c = search needs
@@ -33,7 +37,7 @@ returns c = rw (c .before .before .before .key .given .1) (c .name-hash .ensures
 returns-2 : tie.Need-returns-2
 returns-2 c =
     let is : c .before .before .before .before .before .args .key ≡ Id = c .before .before .enum-told .given .1 in
-    rw is (c .mixed .ensures ∙ ap (mixed 0) (c .before .id-at .ensures))
+    rw is (c .mixed .ensures ∙ ap (λ v. mixed 0 (v % 4294967291)) (c .before .id-at .ensures))
 
 pub key-hash-spec : {M : Type 1} → statement M
 key-hash-spec =

@@ -189,6 +189,15 @@ pub fn put_commit(
     lists::put_superblock(list, k5, img, 0)
 }
 
+// How many records the list of n targets has that come with no data sectors.
+pub fn records_for(n: u64) -> usize
+    requires { ⌜ n ≤ 1024 ⌝ }
+    ensures { λ r. ⌜ r ≡ recordCount 0 n ⌝ }
+{
+    let journal = (n + 31) / 32;
+    (n + journal + 1 + 2 + (n + 1) + 2) as usize
+}
+
 // The list of a call with one target and no data has 9 records.
 pub const ONE_TARGET_SIZE: usize = 9 * lists::RECORD_SIZE;
 

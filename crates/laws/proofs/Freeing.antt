@@ -12,7 +12,7 @@ use lib.ListN.{length}
 use borrow.Author.Tests.{eq-eqb, ne-eqb}
 use Rattle.model.specs.declared.Geometry.{Geometry}
 use Rattle.model.specs.Bytes.{put}
-use Rattle.model.specs.Search.{anyBelow, concatenated}
+use Rattle.model.specs.Search.{anyBelow, countBelow, concatenated}
 use Rattle.model.specs.Geometry.{tableAt, tableSectors}
 use Rattle.model.specs.Disk.{Disk}
 use Rattle.model.specs.Table.{freeFile, tableEntryBytes, freedIn, holdsAny, sectorsHolding}
@@ -84,9 +84,14 @@ module _ (freed : ℕ → Bool) (g : Geometry) (d : Disk) where
   unfolding freedSector
   freed-miss t h = rw h
 
+  -- of the first n table sectors, and of all
+  pub length-firsts : (n : ℕ) → length (concatenated (freedSector freed g d) 0 n) ≡ countBelow (holdsAny freed) n
+  unfolding freedSector
+  length-firsts n = length-concatenated (freedSector freed g d) (holdsAny freed) n (λ t. length-if (holdsAny freed t) _)
+
   pub length-freed : length (freedSectors freed g d) ≡ sectorsHolding freed g
-  unfolding freedSectors freedSector sectorsHolding
-  length-freed = length-concatenated (freedSector freed g d) (holdsAny freed) (tableSectors g) (λ t. length-if (holdsAny freed t) _)
+  unfolding freedSectors sectorsHolding
+  length-freed = length-firsts (tableSectors g)
 
   pub freed-few : length (freedSectors freed g d) ≤ tableSectors g
   freed-few = omega (arith, length-freed, sectors-few freed g)

@@ -47,7 +47,8 @@ module _ {g : Geometry} {es l : List ℕ} {ds : Group} where
       let all : Emitted l 0 (ds ++ copies (stagesIn g es (length ts)) ts ++ (sectorWrite (stageIn g es (length ts)) c ∷ [])) m′ k′ = emitted-then (st .emitted) (rw e at p) in
       record {
         emitted =
-            rw (ap (λ (x : Group). ds ++ x) (copies-more g es ts (sectorWrite s c)) ∙ sym (append-assoc ds (copies (stagesIn g es (length ts)) ts) (sectorWrite (stageIn g es (length ts)) c ∷ []))) all;
+            rw (ap (λ (x : Group). ds ++ x) (copies-more g es ts (sectorWrite s c))
+            ∙ sym (append-assoc ds (copies (stagesIn g es (length ts)) ts) (sectorWrite (stageIn g es (length ts)) c ∷ []))) all;
         numbered =
             ap₂ (λ (x : List ℕ) (n : ℕ). bytesFrom x 0 n) q (length-append ts (sectorWrite s c ∷ []) ∙ ap (λ x. x + 1) (sym e))
             ∙ bytesFrom-set numbers j s h
@@ -110,7 +111,8 @@ stages-are : (g : Geometry) (es : List ℕ) (d : Disk) (n : ℕ) → g ≡ geome
 unfolding stagesIn staging stageIn catalogueOf
 stages-are g es d n is are =
     tabulate-ext (stageIn g es) (stageIn (geometryIn (d superblockAt)) (stagingExtents (catalogueOf d))) 0 0 n
-    (λ k l. ap₂ (λ (h : Geometry) (e : ℕ). extentAt h e + (0 + k) % extentSectors h) is (are .are ((0 + k) / extentSectors g) ∙ ap (λ (h : Geometry). getD (stagingExtents (catalogueOf d)) ((0 + k) / extentSectors h) 0) is))
+    (λ k l. ap₂ (λ (h : Geometry) (e : ℕ). extentAt h e + (0 + k) % extentSectors h) is
+    (are .are ((0 + k) / extentSectors g) ∙ ap (λ (h : Geometry). getD (stagingExtents (catalogueOf d)) ((0 + k) / extentSectors h) 0) is))
 
 -- groups whose third has other records of the same bytes
 module _ (x a b c c′ e : Group) (same : (p : ℕ) → listBytes p c ≡ listBytes p c′) (many : length c ≡ length c′) where

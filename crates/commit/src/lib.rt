@@ -178,7 +178,8 @@ pub fn put_commit(
     requires { ⌜ 512 ≤ length (now img) ⌝ }
     requires { ⌜ Bounded g ⌝ }
     requires { ⌜ (n ≤ 640) × (n ≤ length (now numbers)) × (n ≤ k) ⌝ }
-    ensures { λ r. ⌜ Emitted (now (list .entry)) k (closed (commitGroups g (now (stages .entry)) (view (now (img .entry))) (now (list .entry)) (k - n) (now (numbers .entry)) n)) (now (list .exit)) r ⌝ }
+    ensures { λ r. ⌜ Emitted (now (list .entry)) k
+        (closed (commitGroups g (now (stages .entry)) (view (now (img .entry))) (now (list .entry)) (k - n) (now (numbers .entry)) n)) (now (list .exit)) r ⌝ }
     ensures { λ r. ⌜ r ≡ recordCount (k - n) n ⌝ }
 {
     let k1 = put_journal(list, k, g, stages, numbers, n);

@@ -11,7 +11,7 @@ use Rattle.model.specs.Refusals.{Conditions, judged}
 use Rattle.model.specs.WriteList.{Plan, decided}
 use Rattle.model.specs.Opened.{volumeLength}
 use Rattle.laws.proofs.Judged.{judged-own}
-use Rattle.commit.proofs.Decided.{ComesTo}
+use Rattle.commit.specs.Decided.{ComesTo}
 
 -- a judgement that was made, by its number
 pub number-is : {v w : Verdict} → v ≡ w → v .number ≡ 0 → w .number ≡ 0

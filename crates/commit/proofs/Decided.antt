@@ -4,14 +4,13 @@ use Prim.Native.Nat.{ℕ, _≤_, _<_}
 use mathlib.Core.Path.{_≡_, refl, sym}
 use mathlib.Core.Bool.{Bool, true, false, cond, _&&_, _||_}
 use mathlib.Core.List.{List}
-use mathlib.Core.Option.{Option, none}
+use mathlib.Core.Option.{Option, none, some}
 use native.Mathlib.Omega.{arith}
 use lib.Dec.{eqb}
 use lib.ListN.{length}
 use borrow.Author.Tests.{eq-eqb, ne-eqb, lt-ltb, le-ltb}
 use Rattle.model.specs.declared.Geometry.{Geometry}
 use Rattle.model.specs.declared.Verdict.{Verdict}
-use Rattle.model.specs.declared.Changed.{Changed}
 use Rattle.model.specs.Geometry.{superblockAt}
 use Rattle.model.specs.Disk.{Disk, view}
 use Rattle.model.specs.Superblock.{geometryIn}
@@ -19,10 +18,11 @@ use Rattle.model.specs.Edition.{layoutOf, badTime}
 use Rattle.model.specs.Entry.{badName}
 use Rattle.model.specs.Catalogue.{catalogueOf, lacksReserve}
 use Rattle.model.specs.Refusals.{Conditions, verdictOf, andThen, refusal, done, isDone, judged}
-use Rattle.model.specs.WriteList.{Plan, Emitted, groupsFor, closed, listLength, Decision, isPlanned, planConditions, decided, answerOf, listAfter}
+use Rattle.model.specs.WriteList.{Plan, Emitted, groupsFor, closed, listLength, Decision, isPlanned, planConditions, decided}
 use Rattle.laws.proofs.Booleans.{or-none}
 use Rattle.laws.proofs.Named.{short-name}
 use Rattle.laws.proofs.WriteList.{emit-nil, emitted-none}
+use Rattle.commit.specs.Decided.{fitted, ComesTo}
 
 -- the edition by which the code reads is the catalogue's
 pub edition-is : (img : List ℕ) (g : Geometry) → g ≡ geometryIn (view img superblockAt) → catalogueOf (view img) .geometry .edition ≡ g .edition
@@ -43,11 +43,8 @@ same-refusals false false c v rest = refl
 pub named-short : (edition : ℕ) (name : List ℕ) (time : ℕ) → (badTime edition time || badName edition name) ≡ false → length name ≤ layoutOf edition .longestName
 named-short edition name time h = short-name edition name (or-none (badTime edition time) (badName edition name) h .1)
 
--- the answer and the list that a decision comes to
-abbrev pub ComesTo : Disk → Decision → List ℕ → Changed → List ℕ → Type 0
-ComesTo d x list answer after = (answer ≡ answerOf d x) × (after ≡ listAfter d x list)
-
-comes-refused : (d : Disk) (x : Decision) (list : List ℕ) (v : Verdict) → x ≡ record { verdict = v; plan = none } → ComesTo d x list (record { verdict = v; length = 0 }) list
+comes-refused : (d : Disk) (x : Decision) (list : List ℕ) (v : Verdict) → x ≡ record { verdict = v; plan = none }
+    → ComesTo d x list (record { verdict = v; length = 0 }) list
 unfolding groupsFor
 comes-refused d x list v e = rw e (refl, sym (emit-nil list 0))
 
@@ -112,3 +109,32 @@ unfolding groupsFor
 done-with-nothing len d cs list ok v own z =
     let few : listLength (groupsFor d none) ≤ length list = omega arith in
     done-as-planned len d cs none list ok v own refl {j = 0} z few (emitted-none list 0)
+
+-- ---- a call that its own conditions let pass
+
+pub decided-fitted : (len : ℕ) (d : Disk) (cs : Conditions) (plan : Option Plan) (room : ℕ) → judged len d .number ≡ 0 → done ≡ verdictOf cs
+    → decided len d cs plan room ≡ fitted d plan room
+unfolding decided
+decided-fitted len d cs plan room ok own = rw (eq-eqb _ _ ok, ← own)
+
+-- no plan, and an empty list
+pub fitted-none : (d : Disk) (list : List ℕ) → ComesTo d (fitted d none (length list)) list (record { verdict = done; length = 0 }) list
+unfolding groupsFor verdictOf planConditions
+fitted-none d list = rw (le-ltb (length list) 0 (omega arith)) (refl, sym (emit-nil list 0))
+
+module _ (d : Disk) (plan : Plan) (list : List ℕ) where
+  pub fitted-full : lacksReserve (catalogueOf d) ≡ true
+      → ComesTo d (fitted d (some plan) (length list)) list (record { verdict = refusal 13; length = 0 }) list
+  unfolding groupsFor verdictOf planConditions
+  fitted-full f = rw f (refl, sym (emit-nil list 0))
+
+  module _ (there : lacksReserve (catalogueOf d) ≡ false) where
+    pub fitted-short : length list < listLength (groupsFor d (some plan))
+        → ComesTo d (fitted d (some plan) (length list)) list (record { verdict = refusal 14; length = 0 }) list
+    unfolding groupsFor verdictOf planConditions
+    fitted-short h = rw (there, lt-ltb _ _ h) (refl, sym (emit-nil list 0))
+
+    pub fitted-done : {m : List ℕ} {j n : ℕ} → n ≡ listLength (groupsFor d (some plan)) → n ≤ length list
+        → Emitted list 0 (closed (groupsFor d (some plan))) m j → ComesTo d (fitted d (some plan) (length list)) list (record { verdict = done; length = n }) m
+    unfolding verdictOf planConditions
+    fitted-done q h e = rw (there, le-ltb (length list) (listLength (groupsFor d (some plan))) (omega arith), q) (refl, e .holds)

@@ -19,8 +19,8 @@ use Rattle.model.specs.WriteList.{Record, Group, Plan, sectorWrite, barrier, re
 use Rattle.model.specs.WriteList.{stageIn, stagesIn, staging, copies, sectorsOf, journalOf, groupA, superblockGroup, groupsOf, groupsFor, closedAfter, closed}
 use Rattle.laws.proofs.Bytes.{bytesFrom-more, bytesFrom-ext, getD-bytesFrom}
 use Rattle.laws.proofs.Search.{length-tabulate, tabulate-ext}
-use Rattle.laws.proofs.WriteList.{listBytes-append, emitted-then}
-use Rattle.commit.specs.Commit.{StagesOf, stagedTargets, commitGroups, Staged}
+use Rattle.laws.proofs.WriteList.{listBytes-append, emitted-none, emitted-then}
+use Rattle.commit.specs.Commit.{StagesOf, stagedTargets, commitGroups, Staged, Added}
 use Rattle.laws.proofs.WriteList.{sector-at, length-copies}
 use Rattle.commit.proofs.Records.{contents-emitted, written, bytes-tabulate, emitted-same, tabulate-list, sectors-more, copy-at, copies-more, closed-front}
 
@@ -47,7 +47,8 @@ module _ {g : Geometry} {es l : List ℕ} {ds : Group} where
       let all : Emitted l 0 (ds ++ copies (stagesIn g es (length ts)) ts ++ (sectorWrite (stageIn g es (length ts)) c ∷ [])) m′ k′ = emitted-then (st .emitted) (rw e at p) in
       record {
         emitted =
-            rw (ap (λ (x : Group). ds ++ x) (copies-more g es ts (sectorWrite s c)) ∙ sym (append-assoc ds (copies (stagesIn g es (length ts)) ts) (sectorWrite (stageIn g es (length ts)) c ∷ []))) all;
+            rw (ap (λ (x : Group). ds ++ x) (copies-more g es ts (sectorWrite s c))
+            ∙ sym (append-assoc ds (copies (stagesIn g es (length ts)) ts) (sectorWrite (stageIn g es (length ts)) c ∷ []))) all;
         numbered =
             ap₂ (λ (x : List ℕ) (n : ℕ). bytesFrom x 0 n) q (length-append ts (sectorWrite s c ∷ []) ∙ ap (λ x. x + 1) (sym e))
             ∙ bytesFrom-set numbers j s h
@@ -110,7 +111,8 @@ stages-are : (g : Geometry) (es : List ℕ) (d : Disk) (n : ℕ) → g ≡ geome
 unfolding stagesIn staging stageIn catalogueOf
 stages-are g es d n is are =
     tabulate-ext (stageIn g es) (stageIn (geometryIn (d superblockAt)) (stagingExtents (catalogueOf d))) 0 0 n
-    (λ k l. ap₂ (λ (h : Geometry) (e : ℕ). extentAt h e + (0 + k) % extentSectors h) is (are .are ((0 + k) / extentSectors g) ∙ ap (λ (h : Geometry). getD (stagingExtents (catalogueOf d)) ((0 + k) / extentSectors h) 0) is))
+    (λ k l. ap₂ (λ (h : Geometry) (e : ℕ). extentAt h e + (0 + k) % extentSectors h) is
+    (are .are ((0 + k) / extentSectors g) ∙ ap (λ (h : Geometry). getD (stagingExtents (catalogueOf d)) ((0 + k) / extentSectors h) 0) is))
 
 -- groups whose third has other records of the same bytes
 module _ (x a b c c′ e : Group) (same : (p : ℕ) → listBytes p c ≡ listBytes p c′) (many : length c ≡ length c′) where
@@ -147,3 +149,36 @@ module _ {g : Geometry} {es l numbers m m′ : List ℕ} {k n j : ℕ} (d : Disk
   unfolding groupsFor
   committed-for is are st e room q =
       rw (← is, sym (stages-are g es d (length (p .targets)) is are)) (committed st e room q)
+
+-- ---- targets one after the other, of a call with no data sectors
+
+-- what an equation speaks of: names what a call left
+abbrev pub left : {l m : List ℕ} → l ≡ m → List ℕ
+left {l} {m} e = l
+
+pub added-none : (g : Geometry) (es numbers m : List ℕ) (k : ℕ) → Added g es numbers m k [] numbers m k
+added-none g es numbers m k = record { more = λ l ts st. rw append-nil st; next = omega arith }
+
+module _ {g : Geometry} {es numbers m : List ℕ} {k : ℕ} where
+  pub added-then : {numbers′ m′ numbers″ m″ : List ℕ} {k′ k″ : ℕ} {a b : Group}
+      → Added g es numbers m k a numbers′ m′ k′ → Added g es numbers′ m′ k′ b numbers″ m″ k″ → Added g es numbers m k (a ++ b) numbers″ m″ k″
+  added-then {numbers′} {m′} {numbers″} {m″} {k′} {k″} {a} {b} p q =
+      record {
+        more = λ l ts st. rw (sym (append-assoc ts a b)) (q .more l (ts ++ a) (p .more l ts st));
+        next = omega (arith, length-append a b, p .next, q .next);
+      }
+
+  -- `put_copy` of one
+  pub added-copy : {numbers′ m′ c : List ℕ} {k′ s : ℕ} → Emitted m k (sectorWrite (stageIn g es k) c ∷ []) m′ k′ → numbers′ ≡ set numbers k s → k < length numbers
+      → Added g es numbers m k (sectorWrite s c ∷ []) numbers′ m′ k′
+  added-copy {numbers′} {m′} {c} {k′} {s} p q h =
+      record { more = λ l ts st. staged-more s st (let e : k ≡ length ts = omega (arith, staged-count st) in e) h p q; next = p .next }
+
+-- all of a plan's targets, and the commit behind them
+module _ {g : Geometry} {es numbers₀ numbers l m m′ : List ℕ} {ts : Group} {k j : ℕ} (d : Disk) (p : Plan) where
+  pub added-committed : Added g es numbers₀ l 0 ts numbers m k → Emitted m k (closed (commitGroups g es d m (k - k) numbers k)) m′ j
+      → g ≡ geometryIn (d superblockAt) → StagesOf g d es → ts ≡ p .targets → p .dataSectors ≡ [] → k * recordSize ≤ length l
+      → Emitted l 0 (closed (groupsFor d (some p))) m′ j
+  added-committed a q is are e none room =
+      let st : Staged g es l [] (p .targets) numbers m k = rw (← e) (a .more l [] (staged-none (emitted-none l 0))) in
+      committed-for d p is are (rw none st) (let e : k ≡ length (p .targets) = omega (arith, staged-count st) in e) room q

@@ -35,3 +35,10 @@ commitGroups g es d list from numbers n =
 pub record Staged (g : Geometry) (es : List ExtentNumber) (l : List ℕ) (sectors targets : Group) (numbers : List SectorNumber) (m : List ℕ) (k : ℕ) : Type 0 where
   pub emitted : Emitted l 0 (sectors ++ copies (stagesIn g es (length targets)) targets) m k
   pub numbered : bytesFrom numbers 0 (length targets) ≡ sectorsOf targets
+
+-- these targets were handed over behind all that stood staged up to position k, their copies staged in the extents es: the list m became
+-- m′, the noted numbers became numbers′, and k′ is the next position
+pub record Added (g : Geometry) (es : List ExtentNumber) (numbers : List SectorNumber) (m : List ℕ) (k : ℕ) (targets : Group) (numbers′ : List SectorNumber)
+    (m′ : List ℕ) (k′ : ℕ) : Type 0 where
+  pub more : (l : List ℕ) (before : Group) → Staged g es l [] before numbers m k → Staged g es l [] (before ++ targets) numbers′ m′ k′
+  pub next : k′ ≡ k + length targets

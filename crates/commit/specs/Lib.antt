@@ -1,2 +1,3 @@
--- What the contracts and the laws of staging and committing speak of.
+-- What the contracts and the laws of staging, committing and deciding speak of.
 pub mod Commit
+pub mod Decided

@@ -178,7 +178,8 @@ pub fn put_commit(
     requires { ⌜ 512 ≤ length (now img) ⌝ }
     requires { ⌜ Bounded g ⌝ }
     requires { ⌜ (n ≤ 640) × (n ≤ length (now numbers)) × (n ≤ k) ⌝ }
-    ensures { λ r. ⌜ Emitted (now (list .entry)) k (closed (commitGroups g (now (stages .entry)) (view (now (img .entry))) (now (list .entry)) (k - n) (now (numbers .entry)) n)) (now (list .exit)) r ⌝ }
+    ensures { λ r. ⌜ Emitted (now (list .entry)) k
+        (closed (commitGroups g (now (stages .entry)) (view (now (img .entry))) (now (list .entry)) (k - n) (now (numbers .entry)) n)) (now (list .exit)) r ⌝ }
     ensures { λ r. ⌜ r ≡ recordCount (k - n) n ⌝ }
 {
     let k1 = put_journal(list, k, g, stages, numbers, n);
@@ -187,6 +188,15 @@ pub fn put_commit(
     let k4 = put_targets(list, k3, numbers, n, k - n);
     let k5 = lists::put_barrier(list, k4);
     lists::put_superblock(list, k5, img, 0)
+}
+
+// How many records the list of n targets has that come with no data sectors.
+pub fn records_for(n: u64) -> usize
+    requires { ⌜ n ≤ 1024 ⌝ }
+    ensures { λ r. ⌜ r ≡ recordCount 0 n ⌝ }
+{
+    let journal = (n + 31) / 32;
+    (n + journal + 1 + 2 + (n + 1) + 2) as usize
 }
 
 // The list of a call with one target and no data has 9 records.

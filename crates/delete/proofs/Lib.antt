@@ -1,3 +1,3 @@
--- Laws of targets handed over one by one and of freed table sectors; of list lengths and decisions.
+-- Laws of a delete: its targets and list length, and what it comes to.
 pub mod Laws
 pub mod Decisions

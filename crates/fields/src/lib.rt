@@ -1,6 +1,7 @@
 // Leaves on byte slices: big-endian numbers, runs of bytes copied and compared, sectors by value.
 use model::Sector;
 ghost use mathlib.Core.Path.{_≡_};
+ghost use mathlib.Core.Bool.{cond};
 ghost use mathlib.Core.List.{[]};
 ghost use Prim.Native.Nat.{ℕ, _+_, _*_, _≤_, _<_, _^_, min, max};
 ghost use lib.Dec.{eqb};
@@ -141,6 +142,16 @@ pub fn starts_with(part: &[u8], text: &[u8]) -> bool
         i += 1;
     }
     true
+}
+
+// 1 of a test that holds.
+pub fn bit(b: bool) -> u8
+    ensures { λ r. ⌜ (r ≡ cond b 1 0) × (r ≤ 1) ⌝ }
+{
+    if b {
+        return 1;
+    }
+    0
 }
 
 // The lesser and the greater of two numbers.

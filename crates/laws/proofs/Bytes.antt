@@ -1,16 +1,16 @@
 -- Laws of `Bytes`: what a byte, a run of bytes or a number reads, before and after a store. Assumes nothing.
 use Prim.Native.Nat.{ℕ, zero, suc, _+_, _-_, _*_, _/_, _%_, _^_, _<_, _≤_}
 use mathlib.Core.Path.{_≡_, refl, ap, ap₂, sym, _∙_}
-use mathlib.Core.Logic.{⊎-elim}
+use mathlib.Core.Logic.{_≢_, ⊎-elim}
 use mathlib.Core.Bool.{Bool, true, false, cond, _&&_, _||_, true≢false}
 use mathlib.Core.List.{List, [], _∷_, _++_, append-nil}
 use native.Mathlib.Nat.{add-zero, zero-add, add-assoc, eq-or-lt-of-le, add-suc, suc-add, pow-suc, pow-le-pow-right, lt-of-lt-of-le, not-suc-le-zero, div-add-mod', div-lt-iff-lt-mul}
 use native.Mathlib.Numerals.{add-one, sub-one}
 use native.Mathlib.Omega.{arith}
-use lib.Dec.{leb, ltb, lit<, lit≤}
+use lib.Dec.{eqb, leb, ltb, lit<, lit≤}
 use lib.ListN.{length, getD, take, drop, set, length-append, length-drop, length-set, length-replicate, replicate, List·getD-append, drop-of-length-le}
 use lib.Seq.{sets, length-sets, sets-eq, set-comm, take-suc, take-all, getD-drop, getD-take, getD-at, getD-set-same, getD-set-other, ext-getD, getD-append-add}
-use borrow.Author.Tests.{leb-true, ltb-true}
+use borrow.Author.Tests.{eqb-true, eqb-false, leb-true, ltb-true}
 use Rattle.model.specs.Bytes.{Field, beAt, beBytes, bytesFrom, numberIn, put, zeroSector, onesSector}
 use Rattle.laws.proofs.Booleans.{and-left, and-right, range-yes}
 
@@ -342,3 +342,12 @@ put-in l at a o b h =
     go i r false e =
         getD-put l at a i r
         ∙ old i r (λ p q. true≢false (sym (range-yes (at + o) (at + o + length b) i p q) ∙ e)) (leb at i && ltb i (at + length a)) refl
+
+-- one number more of a list that holds h of each index
+pub set-next : (h : ℕ → ℕ) (l : List ℕ) (i v : ℕ) → i < length l → v ≡ h i → ((j : ℕ) → j < i → getD l j 0 ≡ h j)
+    → (j : ℕ) → j < i + 1 → getD (set l i v) j 0 ≡ h j
+set-next h l i v room e f j lj = go (eqb j i) refl
+  where
+    go : (b : Bool) → eqb j i ≡ b → getD (set l i v) j 0 ≡ h j
+    go true t = rw (eqb-true j i t) (getD-set-same l i v 0 room ∙ e)
+    go false t = let ne : j ≢ i = eqb-false j i t in getD-set-other l i j v 0 ne ∙ f j (omega arith)

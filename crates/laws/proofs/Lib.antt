@@ -11,6 +11,7 @@ pub mod Refusals
 pub mod Catalogue
 pub mod Lines
 pub mod WriteList
+pub mod Freeing
 pub mod Staging
 pub mod Recovery
 pub mod Areas

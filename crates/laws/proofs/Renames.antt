@@ -21,159 +21,18 @@ use Rattle.model.specs.Disk.{Disk}
 use Rattle.model.specs.Superblock.{geometryIn}
 use Rattle.model.specs.Root.{updatedRootSector}
 use Rattle.model.specs.Entry.{renamedEntrySector}
-use Rattle.model.specs.Table.{freedIn}
-use Rattle.model.specs.Catalogue.{Catalogue, catalogueOf, fileNamed, ownedFrom, holdsFrom}
+use Rattle.model.specs.Table.{freedIn, holdsAny}
+use Rattle.model.specs.Catalogue.{Catalogue, catalogueOf, fileNamed, ownsFrom}
 use Rattle.model.specs.WriteList.{Record, sectorWrite, over, apply, hits}
-use Rattle.model.specs.Delete.{freedSector, freedSectors}
+use Rattle.model.specs.Freeing.{freedSectors}
 use Rattle.model.specs.Rename.{renamedRecord, replacingRecords, renamingRecords, renamePlan, renamePlanned}
 use Rattle.model.specs.RenameSet.{nameStart, nameOf, targetsOf, renameTargets, diskBefore, isTouched, setTargets}
-use Rattle.laws.proofs.Search.{none-at, anyBelow-no, countBelow-ext}
+use Rattle.laws.proofs.Booleans.{or-false, cond-same}
+use Rattle.laws.proofs.Search.{anyBelow-no, countBelow-ext}
 use Rattle.laws.proofs.Count.{countBelow-le, countBelow-none, length-concatenated}
+use Rattle.laws.proofs.WriteList.{over-append, hits-append}
+use Rattle.laws.proofs.Freeing.{freed-outside, freed-inside}
 use Rattle.laws.proofs.Named.{named-at}
-
--- ---- writes one after the other
-
-pub over-append : (a b : List Record) (s : ℕ) (x : List ℕ) → over (a ++ b) s x ≡ over b s (over a s x)
-unfolding over
-over-append [] b s x = refl
-over-append (w ∷ a) b s x = over-append a b s (cond (eqb s (w .sector)) (w .contents) x)
-
-or-assoc : (a b c : Bool) → (a || (b || c)) ≡ (a || b || c)
-or-assoc true b c = refl
-or-assoc false b c = refl
-
-pub hits-append : (a b : List Record) (s : ℕ) → hits (a ++ b) s ≡ (hits a s || hits b s)
-unfolding hits
-hits-append [] b s = refl
-hits-append (w ∷ a) b s = ap (λ (t : Bool). eqb s (w .sector) || t) (hits-append a b s) ∙ or-assoc (eqb s (w .sector)) (hits a s) (hits b s)
-
--- a write that is made or not
-over-if : (b : Bool) (w : Record) (s : ℕ) (x : List ℕ) → over (cond b (w ∷ []) []) s x ≡ cond b (cond (eqb s (w .sector)) (w .contents) x) x
-unfolding over
-over-if true w s x = refl
-over-if false w s x = refl
-
-hits-if : (b : Bool) (w : Record) (s : ℕ) (t : Bool) → eqb s (w .sector) ≡ t → hits (cond b (w ∷ []) []) s ≡ cond b t false
-unfolding hits
-hits-if true w s true e = rw e
-hits-if true w s false e = rw e
-hits-if false w s t e = refl
-
-both-same : (b : Bool) (x : List ℕ) → cond b x x ≡ x
-both-same true x = refl
-both-same false x = refl
-
-both-none : (b : Bool) → cond b false false ≡ false
-both-none true = refl
-both-none false = refl
-
-self-or : (b : Bool) → cond b true false ≡ b
-self-or true = refl
-self-or false = refl
-
--- nothing picked, nothing freed
-freed-nothing : (p : ℕ → Bool) (s : List ℕ) (n : ℕ) → ((k : ℕ) → k < n → p k ≡ false) → freedIn p s n ≡ s
-unfolding freedIn
-freed-nothing p s zero h = refl
-freed-nothing p s (suc n) h = rw (h n (omega arith)) (freed-nothing p s n (λ k l. h k (omega arith)))
-
-pub freed-none : (p : ℕ → Bool) (s : List ℕ) (n : ℕ) → anyBelow p n ≡ false → freedIn p s n ≡ s
-freed-none p s n e = freed-nothing p s n (none-at p n e)
-
-or-no : (b : Bool) → (b || false) ≡ b
-or-no true = refl
-or-no false = refl
-
--- ---- a replaced file's table sectors
-
-module _ (c : Catalogue) (x : Disk) (j : ℕ) where
-  abbrev picks : ℕ → ℕ → Bool
-  picks t k = ownedFrom j 0 (c .table (128 * t + k))
-
-  abbrev contentsAt : ℕ → List ℕ
-  contentsAt t = freedIn (picks t) (x (tableAt (c .geometry) + t)) 128
-
-  freed-over-one : (t s : ℕ) (y : List ℕ)
-      → over (freedSector c x j 0 t) s y ≡ cond (holdsFrom c j 0 t) (cond (eqb s (tableAt (c .geometry) + t)) (contentsAt t) y) y
-  unfolding freedSector
-  freed-over-one t s y = over-if (holdsFrom c j 0 t) (sectorWrite (tableAt (c .geometry) + t) (contentsAt t)) s y
-
-  freed-hits-one : (t s : ℕ) (b : Bool) → eqb s (tableAt (c .geometry) + t) ≡ b → hits (freedSector c x j 0 t) s ≡ cond (holdsFrom c j 0 t) b false
-  unfolding freedSector
-  freed-hits-one t s b e = hits-if (holdsFrom c j 0 t) (sectorWrite (tableAt (c .geometry) + t) (contentsAt t)) s b e
-
-  -- at another sector, and at table sector t
-  freed-other-one : (t s : ℕ) (y : List ℕ) → s ≢ tableAt (c .geometry) + t → (over (freedSector c x j 0 t) s y ≡ y) × (hits (freedSector c x j 0 t) s ≡ false)
-  freed-other-one t s y ne =
-      let e : eqb s (tableAt (c .geometry) + t) ≡ false = ne-eqb s (tableAt (c .geometry) + t) ne in (
-        freed-over-one t s y ∙ ap (λ (b : Bool). cond (holdsFrom c j 0 t) (cond b (contentsAt t) y) y) e ∙ both-same (holdsFrom c j 0 t) y,
-        freed-hits-one t s false e ∙ both-none (holdsFrom c j 0 t),
-      )
-
-  abbrev firsts : ℕ → List Record
-  firsts n = concatenated (freedSector c x j 0) 0 n
-
-  freed-next : (n s : ℕ) (y : List ℕ) → (over (firsts (suc n)) s y ≡ over (freedSector c x j 0 n) s (over (firsts n) s y)) × (hits (firsts (suc n)) s ≡ (hits (firsts n) s || hits (freedSector c x j 0 n) s))
-  unfolding concatenated
-  freed-next n s y =
-      let z : freedSector c x j 0 (0 + n) ≡ freedSector c x j 0 n = ap (freedSector c x j 0) (zero-add n) in (
-        over-append (firsts n) (freedSector c x j 0 (0 + n)) s y ∙ ap (λ (r : List Record). over r s (over (firsts n) s y)) z,
-        hits-append (firsts n) (freedSector c x j 0 (0 + n)) s ∙ ap (λ (r : List Record). hits (firsts n) s || hits r s) z,
-      )
-
-  freed-others : (n s : ℕ) (y : List ℕ) → ((t : ℕ) → t < n → s ≢ tableAt (c .geometry) + t) → (over (firsts n) s y ≡ y) × (hits (firsts n) s ≡ false)
-  unfolding concatenated over hits
-  freed-others zero s y h = (refl, refl)
-  freed-others (suc n) s y h =
-      let r = freed-others n s y (λ t l. h t (omega arith)) in
-      let o = freed-other-one n s y (h n (omega arith)) in (
-        freed-next n s y .0 ∙ ap (over (freedSector c x j 0 n) s) (r .0) ∙ o .0,
-        freed-next n s y .1 ∙ ap₂ (λ a b. a || b) (r .1) (o .1),
-      )
-
-  abbrev FreedAt : ℕ → ℕ → List ℕ → Type 0
-  FreedAt n t y =
-      (over (firsts n) (tableAt (c .geometry) + t) y ≡ cond (holdsFrom c j 0 t) (contentsAt t) y) × (hits (firsts n) (tableAt (c .geometry) + t) ≡ holdsFrom c j 0 t)
-
-  freed-last : (n t : ℕ) (y : List ℕ) → t ≡ n → FreedAt (suc n) t y
-  freed-last n t y e =
-      let s = tableAt (c .geometry) + t in
-      let r = freed-others n s y (λ u l q. omega arith) in
-      let here : eqb s (tableAt (c .geometry) + n) ≡ true = eq-eqb s (tableAt (c .geometry) + n) (omega arith) in (
-        freed-next n s y .0 ∙ ap (over (freedSector c x j 0 n) s) (r .0) ∙ freed-over-one n s y
-            ∙ ap (λ (b : Bool). cond (holdsFrom c j 0 n) (cond b (contentsAt n) y) y) here
-            ∙ ap (λ (u : ℕ). cond (holdsFrom c j 0 u) (contentsAt u) y) (sym e),
-        freed-next n s y .1 ∙ ap₂ (λ a b. a || b) (r .1) (freed-hits-one n s true here ∙ self-or (holdsFrom c j 0 n)) ∙ ap (holdsFrom c j 0) (sym e),
-      )
-
-  freed-before : (n t : ℕ) (y : List ℕ) → t < n → FreedAt n t y → FreedAt (suc n) t y
-  freed-before n t y l r =
-      let s = tableAt (c .geometry) + t in
-      let o = freed-other-one n s (over (firsts n) s y) (λ q. omega arith) in (
-        freed-next n s y .0 ∙ o .0 ∙ r .0,
-        freed-next n s y .1 ∙ ap₂ (λ a b. a || b) (r .1) (o .1) ∙ or-no (holdsFrom c j 0 t),
-      )
-
-  freed-at : (n t : ℕ) (y : List ℕ) → t < n → FreedAt n t y
-  freed-at zero t y h = absurd (not-suc-le-zero h)
-  freed-at (suc n) t y h = ⊎-elim (freed-last n t y) (λ (l : t < n). freed-before n t y l (freed-at n t y l)) (eq-or-lt-of-le (le-of-suc-le-suc h))
-
-  -- all of them: at a sector before the table, and at table sector t
-  pub freed-outside : (s : ℕ) (y : List ℕ) → s < tableAt (c .geometry) → (over (freedSectors c x j 0) s y ≡ y) × (hits (freedSectors c x j 0) s ≡ false)
-  unfolding freedSectors
-  freed-outside s y h = freed-others (tableSectors (c .geometry)) s y (λ t l e. omega arith)
-
-  pub freed-inside : (t : ℕ) → t < tableSectors (c .geometry)
-      → (over (freedSectors c x j 0) (tableAt (c .geometry) + t) (x (tableAt (c .geometry) + t)) ≡ contentsAt t)
-      × (hits (freedSectors c x j 0) (tableAt (c .geometry) + t) ≡ holdsFrom c j 0 t)
-  unfolding freedSectors holdsFrom
-  freed-inside t h =
-      let r = freed-at (tableSectors (c .geometry)) t (x (tableAt (c .geometry) + t)) h in
-      (r .0 ∙ whole (anyBelow (picks t) 128) refl, r .1)
-    where
-      whole : (b : Bool) → anyBelow (picks t) 128 ≡ b → cond b (contentsAt t) (x (tableAt (c .geometry) + t)) ≡ contentsAt t
-      whole true e = refl
-      whole false e = sym (freed-none (picks t) (x (tableAt (c .geometry) + t)) 128 e)
 
 -- ---- the entries that a rename writes
 
@@ -214,8 +73,8 @@ module _ (i j : ℕ) (u v : List ℕ) where
 
   pair-hits : (q : ℕ) (b : Bool) → hits (pairOf b) (entryAt q) ≡ (eqb i q || eqb j q)
   unfolding hits
-  pair-hits q true = ap₂ (λ (a b : Bool). a || (b || false)) (eqb-entry q i) (eqb-entry q j) ∙ ap (λ (b : Bool). eqb i q || b) (or-no (eqb j q))
-  pair-hits q false = ap₂ (λ (a b : Bool). b || (a || false)) (eqb-entry q i) (eqb-entry q j) ∙ ap (λ (b : Bool). eqb j q || b) (or-no (eqb i q)) ∙ or-swap (eqb i q) (eqb j q)
+  pair-hits q true = ap₂ (λ (a b : Bool). a || (b || false)) (eqb-entry q i) (eqb-entry q j) ∙ ap (λ (b : Bool). eqb i q || b) (or-false (eqb j q))
+  pair-hits q false = ap₂ (λ (a b : Bool). b || (a || false)) (eqb-entry q i) (eqb-entry q j) ∙ ap (λ (b : Bool). eqb j q || b) (or-false (eqb i q)) ∙ or-swap (eqb i q) (eqb j q)
 
   -- at a sector that is no entry's
   pair-miss : (s : ℕ) (y : List ℕ) (b : Bool) → s ≢ entryAt i → s ≢ entryAt j → (over (pairOf b) s y ≡ y) × (hits (pairOf b) s ≡ false)
@@ -233,11 +92,11 @@ isSlot (At j) q = eqb j q
 -- a table sector where that file is replaced, and whether it holds one of its extents
 abbrev pub freedFor : Lowest → Catalogue → ℕ → List ℕ → List ℕ
 freedFor Nowhere c t s = s
-freedFor (At j) c t s = freedIn (λ k. ownedFrom j 0 (c .table (128 * t + k))) s 128
+freedFor (At j) c t s = freedIn (λ k. ownsFrom c j 0 (128 * t + k)) s 128
 
 abbrev pub heldFor : Lowest → Catalogue → ℕ → Bool
 heldFor Nowhere c t = false
-heldFor (At j) c t = holdsFrom c j 0 t
+heldFor (At j) c t = holdsAny (ownsFrom c j 0) t
 
 pub found-below : (x : Disk) (n : List ℕ) → 0 < geometryIn (x superblockAt) .files → indexOf (fileNamed (catalogueOf x) n) < geometryIn (x superblockAt) .files
 found-below x n few = go (fileNamed (catalogueOf x) n) refl
@@ -254,6 +113,10 @@ module _ (x : Disk) (i : ℕ) (new : List ℕ) (time : ℕ) where
   abbrev behind : Lowest → List Record
   behind place = renamingRecords (catalogueOf x) x i place new time
 
+  -- the table sectors of file j, which it replaces
+  abbrev tables : ℕ → List Record
+  tables j = freedSectors (ownsFrom (catalogueOf x) j 0) (catalogueOf x .geometry) x
+
   own-entry : (q : ℕ) (z : List ℕ) → cond (eqb i q) (renamedOf i) z ≡ cond (eqb i q) (renamedOf q) z
   own-entry q z = go (eqb i q) refl
     where
@@ -267,9 +130,9 @@ module _ (x : Disk) (i : ℕ) (new : List ℕ) (time : ℕ) where
   behind-entry Nowhere q y l = (ap (λ (b : Bool). cond b (renamedOf i) y) (eqb-entry q i) ∙ own-entry q y, ap (λ (b : Bool). b || false) (eqb-entry q i))
   behind-entry (At j) q y l =
       let pair = pairOf i j (renamedOf i) zeroSector (ltb i j) in
-      let out = freed-outside (catalogueOf x) x j (entryAt q) (over pair (entryAt q) y) (omega arith) in (
-        over-append pair (freedSectors (catalogueOf x) x j 0) (entryAt q) y ∙ out .0 ∙ pair-over i j (renamedOf i) zeroSector q y ∙ own-entry q (cond (eqb j q) zeroSector y),
-        hits-append pair (freedSectors (catalogueOf x) x j 0) (entryAt q) ∙ ap₂ (λ (a b : Bool). a || b) (pair-hits i j (renamedOf i) zeroSector q (ltb i j)) (out .1) ∙ or-no (eqb i q || eqb j q),
+      let out = freed-outside (ownsFrom (catalogueOf x) j 0) (catalogueOf x .geometry) x (entryAt q) (over pair (entryAt q) y) (omega arith) in (
+        over-append pair (tables j) (entryAt q) y ∙ out .0 ∙ pair-over i j (renamedOf i) zeroSector q y ∙ own-entry q (cond (eqb j q) zeroSector y),
+        hits-append pair (tables j) (entryAt q) ∙ ap₂ (λ (a b : Bool). a || b) (pair-hits i j (renamedOf i) zeroSector q (ltb i j)) (out .1) ∙ or-false (eqb i q || eqb j q),
       )
 
   -- a sector that is neither an entry's nor of the table
@@ -280,9 +143,9 @@ module _ (x : Disk) (i : ℕ) (new : List ℕ) (time : ℕ) where
   behind-miss (At j) s y l p q =
       let pair = pairOf i j (renamedOf i) zeroSector (ltb i j) in
       let m = pair-miss i j (renamedOf i) zeroSector s y (ltb i j) p q in
-      let out = freed-outside (catalogueOf x) x j s (over pair s y) l in (
-        over-append pair (freedSectors (catalogueOf x) x j 0) s y ∙ out .0 ∙ m .0,
-        hits-append pair (freedSectors (catalogueOf x) x j 0) s ∙ ap₂ (λ (a b : Bool). a || b) (m .1) (out .1),
+      let out = freed-outside (ownsFrom (catalogueOf x) j 0) (catalogueOf x .geometry) x s (over pair s y) l in (
+        over-append pair (tables j) s y ∙ out .0 ∙ m .0,
+        hits-append pair (tables j) s ∙ ap₂ (λ (a b : Bool). a || b) (m .1) (out .1),
       )
 
   behind-table : (place : Lowest) (t : ℕ) → i < catalogueOf x .geometry .files → indexOf place < catalogueOf x .geometry .files → t < tableSectors (catalogueOf x .geometry)
@@ -294,9 +157,9 @@ module _ (x : Disk) (i : ℕ) (new : List ℕ) (time : ℕ) where
       let s = tableAt (catalogueOf x .geometry) + t in
       let pair = pairOf i j (renamedOf i) zeroSector (ltb i j) in
       let m = pair-miss i j (renamedOf i) zeroSector s (x s) (ltb i j) (λ e. omega arith) (λ e. omega arith) in
-      let f = freed-inside (catalogueOf x) x j t l in (
-        over-append pair (freedSectors (catalogueOf x) x j 0) s (x s) ∙ ap (over (freedSectors (catalogueOf x) x j 0) s) (m .0) ∙ f .0,
-        hits-append pair (freedSectors (catalogueOf x) x j 0) s ∙ ap₂ (λ (a b : Bool). a || b) (m .1) (f .1),
+      let f = freed-inside (ownsFrom (catalogueOf x) j 0) (catalogueOf x .geometry) x t l in (
+        over-append pair (tables j) s (x s) ∙ ap (over (tables j) s) (m .0) ∙ f .0,
+        hits-append pair (tables j) s ∙ ap₂ (λ (a b : Bool). a || b) (m .1) (f .1),
       )
 
 -- ---- the disk that rename k sees, step by step
@@ -360,7 +223,7 @@ module _ (d : Disk) (names lengths : List ℕ) (time : ℕ) where
       targets-over k superblockAt (seen k superblockAt) (λ e. omega arith)
       ∙ ap (cond (isSame k) (seen k superblockAt))
       (behind-miss (seen k) (movedOf k) (nameOf names lengths (2 * k + 1)) time (replacedOf k) superblockAt (seen k superblockAt) (omega arith) (λ e. omega arith) (λ e. omega arith) .0)
-      ∙ both-same (isSame k) (seen k superblockAt)
+      ∙ cond-same (isSame k) (seen k superblockAt)
 
   pub seen-superblock : (k : ℕ) → seen k superblockAt ≡ d superblockAt
   unfolding diskBefore
@@ -462,7 +325,7 @@ module _ (d : Disk) (names lengths : List ℕ) (time : ℕ) where
         (behind-miss (seen k) (movedOf k) (nameOf names lengths (2 * k + 1)) time (replacedOf k) s (seen k s) h
         (λ e. let j : journalAt (geometryIn (d superblockAt)) ≤ s = out (omega arith) in omega arith)
         (λ e. let j : journalAt (geometryIn (d superblockAt)) ≤ s = out (omega arith) in omega arith) .1)
-        ∙ both-none (isSame k)
+        ∙ cond-same (isSame k) false
 
 -- ---- the names' places
 

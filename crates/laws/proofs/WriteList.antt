@@ -2,10 +2,12 @@
 -- nothing.
 use Prim.Native.Nat.{ℕ, zero, suc, _+_, _*_, _≤_, _<_}
 use mathlib.Core.Path.{_≡_, refl, ap, sym, _∙_}
+use mathlib.Core.Bool.{Bool, true, false, cond, _||_}
 use mathlib.Core.List.{List, [], _∷_, _++_, append-assoc, append-nil}
 use mathlib.Core.Option.{some}
 use native.Mathlib.Nat.{add-zero, not-suc-le-zero}
 use native.Mathlib.Omega.{arith}
+use lib.Dec.{eqb}
 use lib.ListN.{length, getD, length-append, length-map}
 use Rattle.model.specs.declared.Geometry.{Geometry}
 use Rattle.model.specs.Bytes.{beBytes, bytesFrom, put}
@@ -15,7 +17,7 @@ use Rattle.model.specs.Disk.{Disk}
 use Rattle.model.specs.Catalogue.{catalogueOf}
 use Rattle.model.specs.Superblock.{geometryIn}
 use Rattle.model.specs.Journal.{journalSectors, journalSector}
-use Rattle.model.specs.WriteList.{Record, Group, Plan, sectorWrite, barrier, recordSize, numberStart, contentsStart, recordBytes, listBytes, emit, Emitted, stored}
+use Rattle.model.specs.WriteList.{Record, Group, Plan, sectorWrite, barrier, recordSize, numberStart, contentsStart, recordBytes, listBytes, emit, Emitted, stored, over, hits}
 use Rattle.model.specs.WriteList.{stageIn, stagesIn, staging, copies, sectorsOf, journalOf, groupA, groupsOf, groupsFor, listLength, recordCount}
 use Rattle.laws.proofs.Bytes.{length-beBytes, length-bytesFrom, length-put, bytesFrom-all, put-append, put-nil, put-in}
 use Rattle.laws.proofs.Search.{length-tabulate, getD-tab0, tabulate-ext}
@@ -92,6 +94,21 @@ stored-append [] b img = refl
 stored-append (r ∷ a) b img = stored-append a b _
 
 -- ---- a plan's records
+
+-- what writes one after the other leave in a sector, and whether one of them is for it
+pub over-append : (a b : List Record) (s : ℕ) (x : List ℕ) → over (a ++ b) s x ≡ over b s (over a s x)
+unfolding over
+over-append [] b s x = refl
+over-append (w ∷ a) b s x = over-append a b s (cond (eqb s (w .sector)) (w .contents) x)
+
+or-assoc : (a b c : Bool) → (a || (b || c)) ≡ (a || b || c)
+or-assoc true b c = refl
+or-assoc false b c = refl
+
+pub hits-append : (a b : List Record) (s : ℕ) → hits (a ++ b) s ≡ (hits a s || hits b s)
+unfolding hits
+hits-append [] b s = refl
+hits-append (w ∷ a) b s = ap (λ (t : Bool). eqb s (w .sector) || t) (hits-append a b s) ∙ or-assoc (eqb s (w .sector)) (hits a s) (hits b s)
 
 pub sector-at : (ts : Group) (k : ℕ) → k < length ts → getD (sectorsOf ts) k 0 ≡ getD ts k barrier .sector
 sector-at [] k h = absurd (not-suc-le-zero h)

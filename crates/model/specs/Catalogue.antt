@@ -1,6 +1,6 @@
 -- What a volume says, apart from its files' bytes: the geometry, the root, each directory entry, each table entry. What a call
 -- decides is a function of this, so that a disk and the ledger can be asked the same question.
-use Prim.Native.Nat.{ℕ, _+_, _*_, _-_, _/_, _%_}
+use Prim.Native.Nat.{ℕ, _+_, _-_, _/_, _%_}
 use mathlib.Core.Bool.{Bool, true, false, cond, not, _&&_}
 use mathlib.Core.List.{List, [], _∷_}
 use mathlib.Core.Option.{Option, none, some}
@@ -8,8 +8,8 @@ use lib.Dec.{eqb, leb, ltb}
 use lib.ListN.{length, getD, drop}
 use Rattle.model.specs.declared.Geometry.{Geometry}
 use Rattle.model.specs.declared.Lowest.{Lowest}
-use Rattle.model.specs.Search.{first, anyBelow, countBelow, tabulate, concatenated, indexOf, equalBytes}
-use Rattle.model.specs.Geometry.{SectorNumber, ExtentNumber, FileNumber, extentSectors, reserveExtents, superblockAt, rootAt, entryAt, extentAt, tableSectors}
+use Rattle.model.specs.Search.{first, tabulate, concatenated, indexOf, equalBytes}
+use Rattle.model.specs.Geometry.{SectorNumber, ExtentNumber, FileNumber, extentSectors, reserveExtents, superblockAt, rootAt, entryAt, extentAt}
 use Rattle.model.specs.Disk.{Disk}
 use Rattle.model.specs.Superblock.{geometryIn}
 use Rattle.model.specs.Root.{Root, rootIn}
@@ -107,12 +107,9 @@ module _ (c : Catalogue) where
   unfoldable pub sectorOf : FileNumber → ℕ → SectorNumber
   sectorOf i s = extentAt (c .geometry) (extentOf i (s / extentSectors (c .geometry))) + s % extentSectors (c .geometry)
 
-  -- table sector t holds an extent of file i of offset o or more; how many such sectors there are
-  unfoldable pub holdsFrom : FileNumber → ℕ → ℕ → Bool
-  holdsFrom i o t = anyBelow (λ k. ownedFrom i o (c .table (128 * t + k))) 128
-
-  unfoldable pub sectorsFrom : FileNumber → ℕ → ℕ
-  sectorsFrom i o = countBelow (holdsFrom i o) (tableSectors (c .geometry))
+  -- extent e is file i's, of offset o or more
+  abbrev pub ownsFrom : FileNumber → ℕ → ExtentNumber → Bool
+  ownsFrom i o e = ownedFrom i o (c .table e)
 
 -- byte k of file i, and n of its bytes from byte offset on
 unfoldable pub fileByte : Catalogue → Disk → FileNumber → ℕ → ℕ

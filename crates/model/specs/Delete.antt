@@ -1,36 +1,28 @@
 -- "Delete: entry becomes 512 zeros, its extents become 65535, 65535; root as above. Targets 1, the entry, each table sector that
 -- holds one."
-use Prim.Native.Nat.{ℕ, _+_, _*_}
-use mathlib.Core.Bool.{cond}
+use Prim.Native.Nat.{ℕ}
 use mathlib.Core.List.{List, [], _∷_}
 use mathlib.Core.Option.{some}
 use lib.ListN.{length}
 use Rattle.model.specs.declared.Changed.{Changed}
 use Rattle.model.specs.Bytes.{zeroSector}
-use Rattle.model.specs.Search.{concatenated, indexOf}
-use Rattle.model.specs.Geometry.{FileNumber, rootAt, entryAt, tableAt, tableSectors}
+use Rattle.model.specs.Search.{indexOf}
+use Rattle.model.specs.Geometry.{FileNumber, rootAt, entryAt}
 use Rattle.model.specs.Disk.{Disk}
 use Rattle.model.specs.Edition.{badTime}
 use Rattle.model.specs.Root.{updatedRootSector}
-use Rattle.model.specs.Table.{freedIn}
-use Rattle.model.specs.Catalogue.{Catalogue, catalogueOf, fileNamed, ownedFrom, holdsFrom}
+use Rattle.model.specs.Catalogue.{Catalogue, catalogueOf, fileNamed, ownsFrom}
 use Rattle.model.specs.Refusals.{Conditions, refusal}
-use Rattle.model.specs.WriteList.{Plan, Record, sectorWrite, Decision, decided, answerOf, listAfter}
+use Rattle.model.specs.WriteList.{Plan, sectorWrite, Decision, decided, answerOf, listAfter}
+use Rattle.model.specs.Freeing.{freedSectors}
 use Rattle.model.specs.Find.{nameConditions}
-
--- table sector t with file i's extents of offset o or more freed, if it holds one
-unfoldable pub freedSector : Catalogue → Disk → FileNumber → ℕ → ℕ → List Record
-freedSector c d i o t =
-    let at = tableAt (c .geometry) + t in
-    cond (holdsFrom c i o t) (sectorWrite at (freedIn (λ k. ownedFrom i o (c .table (128 * t + k))) (d at) 128) ∷ []) []
-
-unfoldable pub freedSectors : Catalogue → Disk → FileNumber → ℕ → List Record
-freedSectors c d i o = concatenated (freedSector c d i o) 0 (tableSectors (c .geometry))
 
 unfoldable pub deletePlan : Catalogue → Disk → FileNumber → ℕ → Plan
 deletePlan c d i time = record {
   dataSectors = [];
-  targets = sectorWrite rootAt (updatedRootSector (c .geometry .edition) time (d rootAt)) ∷ sectorWrite (entryAt i) zeroSector ∷ freedSectors c d i 0;
+  targets =
+      sectorWrite rootAt (updatedRootSector (c .geometry .edition) time (d rootAt)) ∷ sectorWrite (entryAt i) zeroSector
+      ∷ freedSectors (ownsFrom c i 0) (c .geometry) d;
 }
 
 -- 8 bad time; 8 bad name; 9

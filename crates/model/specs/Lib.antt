@@ -17,6 +17,7 @@ pub mod Lines
 pub mod Scratch
 pub mod Find
 pub mod WriteList
+pub mod Freeing
 pub mod Listing
 pub mod Read
 pub mod Create

@@ -17,10 +17,10 @@ use Rattle.model.specs.Disk.{Disk}
 use Rattle.model.specs.Edition.{badTime}
 use Rattle.model.specs.Root.{updatedRootSector}
 use Rattle.model.specs.Entry.{badName, badNewName, renamedEntrySector}
-use Rattle.model.specs.Catalogue.{Catalogue, catalogueOf, fileNamed}
+use Rattle.model.specs.Catalogue.{Catalogue, catalogueOf, fileNamed, ownsFrom}
 use Rattle.model.specs.Refusals.{Conditions, refusal}
 use Rattle.model.specs.WriteList.{Plan, Record, sectorWrite, Decision, decided, answerOf, listAfter}
-use Rattle.model.specs.Delete.{freedSectors}
+use Rattle.model.specs.Freeing.{freedSectors}
 
 -- 8 bad time; 8 bad old name, bad new name; 9 no file of the old name
 unfoldable pub renameConditions : Catalogue → List ℕ → List ℕ → ℕ → Conditions
@@ -37,7 +37,7 @@ unfoldable pub replacingRecords : Catalogue → Disk → FileNumber → FileNumb
 replacingRecords c d i j name time =
     let this = renamedRecord c d i name time in
     let that = sectorWrite (entryAt j) zeroSector in
-    cond (ltb i j) (this ∷ that ∷ []) (that ∷ this ∷ []) ++ freedSectors c d j 0
+    cond (ltb i j) (this ∷ that ∷ []) (that ∷ this ∷ []) ++ freedSectors (ownsFrom c j 0) (c .geometry) d
 
 -- by where the new name is: nowhere, or at a file that is replaced
 abbrev pub renamingRecords : Catalogue → Disk → FileNumber → Lowest → List ℕ → ℕ → List Record

@@ -3,9 +3,9 @@
 -- delete. Its targets are the changed table sectors only. It runs on clean volumes with any faults. .. Missing extents are reported, never
 -- invented: the answer lists the number of entries freed and the first fault that remains with its place, both 0 if none."
 -- T-12: it "no longer refuses a taken last extent, but refuses 13 if it has a target and fewer than K are free".
-use Prim.Native.Nat.{ℕ, _+_, _*_}
+use Prim.Native.Nat.{ℕ}
 use mathlib.Core.Bool.{Bool, cond, _||_}
-use mathlib.Core.List.{List, [], _∷_}
+use mathlib.Core.List.{List, []}
 use mathlib.Core.Option.{Option, none, some}
 use lib.Dec.{leb}
 use lib.ListN.{length}
@@ -13,15 +13,15 @@ use Rattle.model.specs.declared.Soundness.{Soundness}
 use Rattle.model.specs.declared.Soundness.the-variants.{Sound, Faulty}
 use Rattle.model.specs.declared.Verdict.{Verdict}
 use Rattle.model.specs.declared.Repaired.{Repaired}
-use Rattle.model.specs.Search.{anyBelow, countBelow, concatenated}
-use Rattle.model.specs.Geometry.{ExtentNumber, tableAt, tableSectors, extentsFor}
+use Rattle.model.specs.Search.{anyBelow, countBelow}
+use Rattle.model.specs.Geometry.{ExtentNumber, extentsFor}
 use Rattle.model.specs.Disk.{Disk}
 use Rattle.model.specs.Superblock.{stateOn}
-use Rattle.model.specs.Table.{freedIn}
 use Rattle.model.specs.Catalogue.{Catalogue, catalogueOf, isFree, isPart, entryOr}
 use Rattle.model.specs.Faults.{holdsOf, fault21, faultsIn}
 use Rattle.model.specs.Refusals.{verdictOf, andThen, given, isDone, done, refusal, imageVerdict, stateNumber}
-use Rattle.model.specs.WriteList.{Plan, Record, sectorWrite, groupsFor, listLength, planConditions, Decision, listAfter}
+use Rattle.model.specs.WriteList.{Plan, groupsFor, listLength, planConditions, Decision, listAfter}
+use Rattle.model.specs.Freeing.{freedSectors}
 
 module _ (c : Catalogue) where
   -- extent e is freed: its entry isn't free yet, and names no occupied file, or has an offset at or above the file's count C, or repeats
@@ -32,12 +32,9 @@ module _ (c : Catalogue) where
       isFree (c .entries (w .file)) || leb (extentsFor (c .geometry) (entryOr (c .entries (w .file)) .size)) (w .offset)
       || anyBelow (λ k. isPart (w .file) (w .offset) (c .table k)) e)
 
-  -- how many extents are freed; table sector t holds one
+  -- how many extents are freed
   unfoldable pub strays : ℕ
   strays = countBelow isStray (c .geometry .extents)
-
-  unfoldable pub holdsStray : ℕ → Bool
-  holdsStray t = anyBelow (λ k. isStray (128 * t + k)) 128
 
   -- what the volume will say: these extents are free, and all else is as it was
   unfoldable pub repaired : Catalogue
@@ -45,14 +42,8 @@ module _ (c : Catalogue) where
 
 -- ---- the plan
 
--- table sector t with its strays freed, if it holds one
-unfoldable pub repairedSector : Catalogue → Disk → ℕ → List Record
-repairedSector c d t =
-    let at = tableAt (c .geometry) + t in
-    cond (holdsStray c t) (sectorWrite at (freedIn (λ k. isStray c (128 * t + k)) (d at) 128) ∷ []) []
-
 unfoldable pub repairPlan : Catalogue → Disk → Plan
-repairPlan c d = record { dataSectors = []; targets = concatenated (repairedSector c d) 0 (tableSectors (c .geometry)) }
+repairPlan c d = record { dataSectors = []; targets = freedSectors (isStray c) (c .geometry) d }
 
 -- nothing to free, no plan
 unfoldable pub repairPlanned : Catalogue → Disk → Option Plan

@@ -13,11 +13,11 @@ use Rattle.model.specs.Geometry.{FileNumber, entryAt, extentsFor}
 use Rattle.model.specs.Disk.{Disk}
 use Rattle.model.specs.Edition.{badTime}
 use Rattle.model.specs.Entry.{badName, updatedEntrySector}
-use Rattle.model.specs.Catalogue.{Catalogue, catalogueOf, fileNamed, entryOf}
+use Rattle.model.specs.Catalogue.{Catalogue, catalogueOf, fileNamed, entryOf, ownsFrom}
 use Rattle.model.specs.Refusals.{Conditions, refusal}
 use Rattle.model.specs.WriteList.{Plan, sectorWrite, Decision, decided, answerOf, listAfter}
+use Rattle.model.specs.Freeing.{freedSectors}
 use Rattle.model.specs.Read.{longestTransfer, sizeNamed}
-use Rattle.model.specs.Delete.{freedSectors}
 use Rattle.model.specs.Write.{noRoom, writePlanned}
 
 -- n zeros
@@ -27,7 +27,9 @@ zeros n = bytesFrom [] 0 n
 unfoldable pub shrinkPlan : Catalogue → Disk → FileNumber → ℕ → ℕ → Plan
 shrinkPlan c d i z time = record {
   dataSectors = [];
-  targets = sectorWrite (entryAt i) (updatedEntrySector (c .geometry .edition) z time (d (entryAt i))) ∷ freedSectors c d i (extentsFor (c .geometry) z);
+  targets =
+      sectorWrite (entryAt i) (updatedEntrySector (c .geometry .edition) z time (d (entryAt i)))
+      ∷ freedSectors (ownsFrom c i (extentsFor (c .geometry) z)) (c .geometry) d;
 }
 
 -- a resize to the same size is a write of 0 bytes: "done with an empty list"

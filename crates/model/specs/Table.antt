@@ -4,7 +4,8 @@ use mathlib.Core.Bool.{Bool, cond}
 use mathlib.Core.List.{List, _++_}
 use Rattle.model.specs.declared.Geometry.{Geometry}
 use Rattle.model.specs.Bytes.{Field, field, numberIn, beBytes, put}
-use Rattle.model.specs.Geometry.{SectorNumber, ExtentNumber, FileNumber, tableAt}
+use Rattle.model.specs.Search.{anyBelow, countBelow}
+use Rattle.model.specs.Geometry.{SectorNumber, ExtentNumber, FileNumber, tableAt, tableSectors}
 use Rattle.model.specs.Disk.{Disk}
 
 abbrev pub freeFile : ℕ
@@ -42,3 +43,10 @@ takenIn e file offset s = put s (tableEntryStart e) (tableEntryBytes file offset
 unfoldable pub freedIn : (ℕ → Bool) → List ℕ → ℕ → List ℕ
 freedIn p s zero = s
 freedIn p s (suc k) = let rest = freedIn p s k in cond (p k) (put rest (4 * k) (tableEntryBytes freeFile 65535)) rest
+
+-- table sector t holds the entry of an extent that p picks; how many of the table's sectors do
+unfoldable pub holdsAny : (ExtentNumber → Bool) → ℕ → Bool
+holdsAny p t = anyBelow (λ k. p (128 * t + k)) 128
+
+unfoldable pub sectorsHolding : (ExtentNumber → Bool) → Geometry → ℕ
+sectorsHolding p g = countBelow (holdsAny p) (tableSectors g)

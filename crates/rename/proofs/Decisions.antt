@@ -17,12 +17,11 @@ use Rattle.model.specs.Entry.{badName, badNewName}
 use Rattle.model.specs.Catalogue.{Catalogue, catalogueOf, fileNamed}
 use Rattle.model.specs.Refusals.{Conditions, verdictOf, refusal, done, judged}
 use Rattle.model.specs.WriteList.{Plan}
-use Rattle.model.specs.Rename.{renameConditions, renamePlan, renamePlanned, renameDecision, renameAnswer, renameList}
-use Rattle.model.specs.Opened.{Opened, volumeLength}
+use Rattle.model.specs.Rename.{renameConditions, renamePlanned, renameDecision, renameAnswer, renameList}
+use Rattle.model.specs.Opened.{Opened, volumeLength, inVolume}
 use Rattle.laws.proofs.Named.{editionOn, named-at}
-use Rattle.commit.proofs.Decided.{same-refusal, same-refusals, ComesTo, refused-by-own, done-with-nothing}
-use Rattle.delete.proofs.Decisions.{decided-fitted}
-use Rattle.rename.specs.Renaming.{renamedTo}
+use Rattle.commit.proofs.Decided.{same-refusal, same-refusals, refused-by-own, done-with-nothing, decided-fitted}
+use Rattle.rename.specs.Renaming.{planFor, RenamesTo}
 
 -- ---- where the new name is
 
@@ -34,7 +33,7 @@ place-below {img} {g} (At j) name o e = let low = named-at (view img) name j e .
 
 abbrev pub Comes : List ℕ → List ℕ → List ℕ → List ℕ → ℕ → Changed → List ℕ → Type 0
 Comes img list old new time answer after =
-    (answer ≡ renameAnswer (volumeLength (view img)) (view img) old new time (length list)) × (after ≡ renameList (volumeLength (view img)) (view img) old new time list)
+    (answer ≡ inVolume renameAnswer img old new time (length list)) × (after ≡ inVolume renameList img old new time list)
 
 module _ (img list old new : List ℕ) (time : ℕ) (ok : judged (volumeLength (view img)) (view img) .number ≡ 0) where
   abbrev c : Catalogue
@@ -78,7 +77,8 @@ module _ (img list old new : List ℕ) (time : ℕ) (ok : judged (volumeLength (
     unfolding renameAnswer renameList renameDecision renamePlanned
     rename-itself e = rw e (done-with-nothing (volumeLength (view img)) (view img) cs list ok done own refl)
 
-    pub rename-other : {answer : Changed} {m : List ℕ} → equalBytes old new ≡ false → ComesTo (view img) (renamedTo (view img) i new time (length list)) list answer m
-        → Comes img list old new time answer m
+    pub rename-other : {answer : Changed} {m : List ℕ} → equalBytes old new ≡ false → RenamesTo img i new time list answer m → Comes img list old new time answer m
     unfolding renameAnswer renameList renameDecision renamePlanned
-    rename-other e r = rw (e, decided-fitted (volumeLength (view img)) (view img) cs (some (renamePlan c (view img) (indexOf (fileNamed c old)) (fileNamed c new) new time)) (length list) ok own, found) r
+    rename-other e r =
+        let plan = planFor img (indexOf (fileNamed c old)) (fileNamed c new) new time in
+        rw (e, decided-fitted (volumeLength (view img)) (view img) cs (some plan) (length list) ok own, found) r

@@ -2,7 +2,7 @@
 use Prim.Native.Nat.{ℕ, _+_, _*_}
 use mathlib.Core.Path.{_≡_, refl, sym, ap, _∙_}
 use mathlib.Core.Bool.{Bool, true, false, cond}
-use mathlib.Core.List.{List, [], _∷_}
+use mathlib.Core.List.{List, [], _∷_, _++_}
 use mathlib.Core.Option.{some}
 use native.Mathlib.Omega.{arith}
 use lib.Dec.{ltb}
@@ -12,16 +12,18 @@ use Rattle.model.specs.declared.Lowest.{Lowest}
 use Rattle.model.specs.declared.Lowest.the-variants.{At, Nowhere}
 use Rattle.model.specs.Bytes.{zeroSector}
 use Rattle.model.specs.Geometry.{superblockAt, rootAt, entryAt}
-use Rattle.model.specs.Disk.{Disk}
+use Rattle.model.specs.Disk.{Disk, view}
 use Rattle.model.specs.Superblock.{geometryIn}
 use Rattle.model.specs.Root.{updatedRootSector}
 use Rattle.model.specs.Catalogue.{catalogueOf}
 use Rattle.model.specs.WriteList.{Record, recordSize, recordCount, sectorWrite, groupsFor, listLength}
-use Rattle.model.specs.Delete.{freedSectors}
-use Rattle.model.specs.Rename.{renamedRecord, replacingRecords, renamingRecords, renamePlan}
+use Rattle.model.specs.Freeing.{freedSectors}
+use Rattle.model.specs.Rename.{replacingRecords, renamingRecords, renamePlan}
 use Rattle.laws.proofs.WriteList.{plan-needs}
-use Rattle.delete.proofs.Decisions.{length-freed}
-use Rattle.rename.specs.Renaming.{renamingCount}
+use Rattle.laws.proofs.Freeing.{length-freed}
+use Rattle.table.specs.Owned.{ownedIn}
+use Rattle.table.proofs.Laws.{geometry-of}
+use Rattle.rename.specs.Renaming.{renamingCount, renamedEntry, bothEntries, replacing, renaming, planFor}
 
 -- ---- the plan: its targets, and no data sectors
 
@@ -42,19 +44,26 @@ length-pair : (a b : Record) (t : Bool) → length (cond t (a ∷ b ∷ []) (b �
 length-pair a b true = refl
 length-pair a b false = refl
 
-length-renaming : (d : Disk) (i : ℕ) (place : Lowest) (name : List ℕ) (time : ℕ) → length (renamingRecords (catalogueOf d) d i place name time) ≡ renamingCount (catalogueOf d) place
-unfolding replacingRecords
-length-renaming d i Nowhere name time = refl
-length-renaming d i (At j) name time =
-    let this = renamedRecord (catalogueOf d) d i name time in
-    let that = sectorWrite (entryAt j) zeroSector in
-    length-append (cond (ltb i j) (this ∷ that ∷ []) (that ∷ this ∷ [])) (freedSectors (catalogueOf d) d j 0)
-    ∙ omega (arith, length-pair this that (ltb i j), length-freed (catalogueOf d) d j 0)
+module _ (img : List ℕ) (g : Geometry) (is : g ≡ geometryIn (view img superblockAt)) (i : ℕ) where
+  pub replacing-is : (j : ℕ) (name : List ℕ) (time : ℕ) → replacing img i j name time ≡ bothEntries img i j name time ++ freedSectors (ownedIn img j 0) g (view img)
+  unfolding replacingRecords
+  replacing-is j name time =
+      ap (λ (x : Geometry). bothEntries img i j name time ++ freedSectors (ownedIn img j 0) x (view img)) (geometry-of (view img) g is)
 
-pub rename-needs : (d : Disk) (i : ℕ) (place : Lowest) (name : List ℕ) (time : ℕ)
-    → listLength (groupsFor d (some (renamePlan (catalogueOf d) d i place name time))) ≡ recordCount 0 (1 + renamingCount (catalogueOf d) place) * recordSize
-unfolding renamePlan
-rename-needs d i place name time =
-    plan-needs d (renamePlan (catalogueOf d) d i place name time)
-    ∙ ap (λ n. recordCount 0 n * recordSize)
-    (let e : length (renamePlan (catalogueOf d) d i place name time .targets) ≡ 1 + renamingCount (catalogueOf d) place = omega (arith, length-renaming d i place name time) in e)
+  length-renaming : (place : Lowest) (name : List ℕ) (time : ℕ) → length (renaming img i place name time) ≡ renamingCount img g place
+  length-renaming Nowhere name time = refl
+  length-renaming (At j) name time =
+      ap length (replacing-is j name time) ∙ length-append (bothEntries img i j name time) (freedSectors (ownedIn img j 0) g (view img))
+      ∙ omega (
+        arith,
+        length-pair (renamedEntry img i name time) (sectorWrite (entryAt j) zeroSector) (ltb i j),
+        length-freed (ownedIn img j 0) g (view img),
+      )
+
+  pub rename-needs : (place : Lowest) (name : List ℕ) (time : ℕ)
+      → listLength (groupsFor (view img) (some (planFor img i place name time))) ≡ recordCount 0 (1 + renamingCount img g place) * recordSize
+  unfolding renamePlan
+  rename-needs place name time =
+      plan-needs (view img) (planFor img i place name time)
+      ∙ ap (λ n. recordCount 0 n * recordSize)
+      (let e : length (planFor img i place name time .targets) ≡ 1 + renamingCount img g place = omega (arith, length-renaming place name time) in e)

@@ -5,11 +5,10 @@ use model::Geometry;
 use model::Lowest;
 use model::Sector;
 ghost use mathlib.Core.Path.{_≡_};
-ghost use mathlib.Core.Bool.{cond, _||_};
+ghost use mathlib.Core.Bool.{_||_};
 ghost use mathlib.Core.List.{[], _∷_};
 ghost use mathlib.Core.Option.{some};
 ghost use Prim.Native.Nat.{_+_, _*_, _≤_, _<_};
-ghost use lib.Dec.{ltb};
 ghost use lib.ListN.{length};
 ghost use Rattle.model.specs.Bytes.{zeroSector};
 ghost use Rattle.model.specs.Search.{indexOf};
@@ -17,13 +16,13 @@ ghost use Rattle.model.specs.Geometry.{entryAt, tableSectors};
 ghost use Rattle.model.specs.Disk.{view};
 ghost use Rattle.model.specs.Edition.{layoutOf, badTime};
 ghost use Rattle.model.specs.Entry.{badName, badNewName};
-ghost use Rattle.model.specs.Catalogue.{catalogueOf, sectorsFrom};
-ghost use Rattle.model.specs.WriteList.{sectorWrite, recordSize, recordCount, groupsFor, closed, Emitted, answerOf, listAfter};
-ghost use Rattle.model.specs.Rename.{renamedRecord, replacingRecords, renamingRecords, renamePlan, renameAnswer, renameList};
+ghost use Rattle.model.specs.Table.{sectorsHolding};
+ghost use Rattle.model.specs.WriteList.{sectorWrite, recordSize, recordCount, groupsFor, closed, Emitted};
+ghost use Rattle.model.specs.Rename.{renameAnswer, renameList};
 ghost use Rattle.model.specs.Opened.{Bounded, Opened, inVolume, Accepted};
-ghost use Rattle.commit.specs.Commit.{Stages, StagesOf};
-ghost use Rattle.delete.specs.Staging.{Added};
-ghost use Rattle.rename.specs.Renaming.{renamingCount, renamedTo};
+ghost use Rattle.commit.specs.Commit.{Stages, StagesOf, Added};
+ghost use Rattle.table.specs.Owned.{ownedIn};
+ghost use Rattle.rename.specs.Renaming.{renamingCount, renamedEntry, bothEntries, replacing, renaming, planFor, RenamesTo};
 
 // ---- refusal 8
 
@@ -55,7 +54,8 @@ fn put_renamed(
     requires { ⌜ Opened (now img) g ⌝ }
     requires { ⌜ (i .0 < g .files) × (length (now name) ≤ layoutOf (g .edition) .longestName) ⌝ }
     requires { ⌜ ((k + 1) * recordSize ≤ length (now list)) × (k ≤ 3) × (k < length (now numbers)) ⌝ }
-    ensures { λ r. ⌜ Added g (now (stages .entry)) (now (numbers .entry)) (now (list .entry)) k (renamedRecord (catalogueOf (view (now (img .entry)))) (view (now (img .entry))) (i .0) (now (name .entry)) time ∷ []) (now (numbers .exit)) (now (list .exit)) r ⌝ }
+    ensures { λ r. ⌜ Added g (now (stages .entry)) (now (numbers .entry)) (now (list .entry)) k
+        (renamedEntry (now (img .entry)) (i .0) (now (name .entry)) time ∷ []) (now (numbers .exit)) (now (list .exit)) r ⌝ }
     ensures { λ r. ⌜ r ≡ k + 1 ⌝ }
 {
     let s = directory::renamed_entry(img, g.edition, i, name, time);
@@ -75,7 +75,8 @@ fn put_freed_entry(
     requires { ⌜ Bounded g ⌝ }
     requires { ⌜ j .0 < g .files ⌝ }
     requires { ⌜ ((k + 1) * recordSize ≤ length (now list)) × (k ≤ 3) × (k < length (now numbers)) ⌝ }
-    ensures { λ r. ⌜ Added g (now (stages .entry)) (now (numbers .entry)) (now (list .entry)) k (sectorWrite (entryAt (j .0)) zeroSector ∷ []) (now (numbers .exit)) (now (list .exit)) r ⌝ }
+    ensures { λ r. ⌜ Added g (now (stages .entry)) (now (numbers .entry)) (now (list .entry)) k
+        (sectorWrite (entryAt (j .0)) zeroSector ∷ []) (now (numbers .exit)) (now (list .exit)) r ⌝ }
     ensures { λ r. ⌜ r ≡ k + 1 ⌝ }
 {
     let s = [0u8; 512];
@@ -99,7 +100,8 @@ fn put_entries(
     requires { ⌜ Opened (now img) g ⌝ }
     requires { ⌜ (i .0 < g .files) × (j .0 < g .files) × (length (now name) ≤ layoutOf (g .edition) .longestName) ⌝ }
     requires { ⌜ ((k + 2) * recordSize ≤ length (now list)) × (k ≤ 1) × (k + 1 < length (now numbers)) ⌝ }
-    ensures { λ r. ⌜ Added g (now (stages .entry)) (now (numbers .entry)) (now (list .entry)) k (cond (ltb (i .0) (j .0)) (renamedRecord (catalogueOf (view (now (img .entry)))) (view (now (img .entry))) (i .0) (now (name .entry)) time ∷ sectorWrite (entryAt (j .0)) zeroSector ∷ []) (sectorWrite (entryAt (j .0)) zeroSector ∷ renamedRecord (catalogueOf (view (now (img .entry)))) (view (now (img .entry))) (i .0) (now (name .entry)) time ∷ [])) (now (numbers .exit)) (now (list .exit)) r ⌝ }
+    ensures { λ r. ⌜ Added g (now (stages .entry)) (now (numbers .entry)) (now (list .entry)) k
+        (bothEntries (now (img .entry)) (i .0) (j .0) (now (name .entry)) time) (now (numbers .exit)) (now (list .exit)) r ⌝ }
     ensures { λ r. ⌜ r ≡ k + 2 ⌝ }
 {
     if i.0 < j.0 {
@@ -129,12 +131,14 @@ fn put_replacing(
     requires { ⌜ Stages g (now stages) ⌝ }
     requires { ⌜ Opened (now img) g ⌝ }
     requires { ⌜ (i .0 < g .files) × (j .0 < g .files) × (length (now name) ≤ layoutOf (g .edition) .longestName) ⌝ }
-    requires { ⌜ ((k + 2 + sectorsFrom (catalogueOf (view (now img))) (j .0) 0 + 1) * recordSize ≤ length (now list)) × (k ≤ 1) × (k + 2 + tableSectors g ≤ length (now numbers)) ⌝ }
-    ensures { λ r. ⌜ Added g (now (stages .entry)) (now (numbers .entry)) (now (list .entry)) k (replacingRecords (catalogueOf (view (now (img .entry)))) (view (now (img .entry))) (i .0) (j .0) (now (name .entry)) time) (now (numbers .exit)) (now (list .exit)) r ⌝ }
-    ensures { λ r. ⌜ (r ≡ k + 2 + sectorsFrom (catalogueOf (view (now (img .entry)))) (j .0) 0) × (r ≤ k + 2 + tableSectors g) ⌝ }
+    requires { ⌜ (k + 2 + sectorsHolding (ownedIn (now img) (j .0) 0) g + 1) * recordSize ≤ length (now list) ⌝ }
+    requires { ⌜ (k ≤ 1) × (k + 2 + tableSectors g ≤ length (now numbers)) ⌝ }
+    ensures { λ r. ⌜ Added g (now (stages .entry)) (now (numbers .entry)) (now (list .entry)) k
+        (replacing (now (img .entry)) (i .0) (j .0) (now (name .entry)) time) (now (numbers .exit)) (now (list .exit)) r ⌝ }
+    ensures { λ r. ⌜ (r ≡ k + 2 + sectorsHolding (ownedIn (now (img .entry)) (j .0) 0) g) × (r ≤ k + 2 + tableSectors g) ⌝ }
 {
     let n = put_entries(list, k, numbers, img, g, stages, i, j, name, time);
-    delete::put_freed(list, n, numbers, img, g, stages, j, 0)
+    freeing::put_freed(list, n, numbers, img, g, stages, j, 0)
 }
 
 // The same by where the new name is: nowhere, or at a file that is replaced.
@@ -153,9 +157,11 @@ fn put_renaming(
     requires { ⌜ Stages g (now stages) ⌝ }
     requires { ⌜ Opened (now img) g ⌝ }
     requires { ⌜ (i .0 < g .files) × (indexOf place < g .files) × (length (now name) ≤ layoutOf (g .edition) .longestName) ⌝ }
-    requires { ⌜ ((k + renamingCount (catalogueOf (view (now img))) place + 1) * recordSize ≤ length (now list)) × (k ≤ 1) × (k + 2 + tableSectors g ≤ length (now numbers)) ⌝ }
-    ensures { λ r. ⌜ Added g (now (stages .entry)) (now (numbers .entry)) (now (list .entry)) k (renamingRecords (catalogueOf (view (now (img .entry)))) (view (now (img .entry))) (i .0) place (now (name .entry)) time) (now (numbers .exit)) (now (list .exit)) r ⌝ }
-    ensures { λ r. ⌜ (r ≡ k + renamingCount (catalogueOf (view (now (img .entry)))) place) × (r ≤ k + 2 + tableSectors g) ⌝ }
+    requires { ⌜ (k + renamingCount (now img) g place + 1) * recordSize ≤ length (now list) ⌝ }
+    requires { ⌜ (k ≤ 1) × (k + 2 + tableSectors g ≤ length (now numbers)) ⌝ }
+    ensures { λ r. ⌜ Added g (now (stages .entry)) (now (numbers .entry)) (now (list .entry)) k
+        (renaming (now (img .entry)) (i .0) place (now (name .entry)) time) (now (numbers .exit)) (now (list .exit)) r ⌝ }
+    ensures { λ r. ⌜ (r ≡ k + renamingCount (now (img .entry)) g place) × (r ≤ k + 2 + tableSectors g) ⌝ }
 {
     match place {
         Lowest::At(j) => put_replacing(
@@ -180,14 +186,14 @@ fn put_renaming(
 fn rename_count(img: &[u8], g: Geometry, place: Lowest) -> usize
     requires { ⌜ Opened (now img) g ⌝ }
     requires { ⌜ indexOf place < g .files ⌝ }
-    ensures { λ r. ⌜ r ≡ recordCount 0 (1 + renamingCount (catalogueOf (view (now (img .entry)))) place) ⌝ }
+    ensures { λ r. ⌜ r ≡ recordCount 0 (1 + renamingCount (now (img .entry)) g place) ⌝ }
     ensures { λ r. ⌜ r ≤ 2048 ⌝ }
 {
     match place {
-        Lowest::At(j) => delete::records_for(
+        Lowest::At(j) => commit::records_for(
             3 + table::sectors_from(img, g, FileIndex(j as u64), 0),
         ),
-        Lowest::Nowhere => delete::records_for(2),
+        Lowest::Nowhere => commit::records_for(2),
     }
 }
 
@@ -205,8 +211,9 @@ fn put_rename(
     requires { ⌜ StagesOf g (view (now img)) (now stages) ⌝ }
     requires { ⌜ Opened (now img) g ⌝ }
     requires { ⌜ (i .0 < g .files) × (indexOf place < g .files) × (length (now name) ≤ layoutOf (g .edition) .longestName) ⌝ }
-    requires { ⌜ recordCount 0 (1 + renamingCount (catalogueOf (view (now img))) place) * recordSize ≤ length (now list) ⌝ }
-    ensures { λ r. ⌜ Emitted (now (list .entry)) 0 (closed (groupsFor (view (now (img .entry))) (some (renamePlan (catalogueOf (view (now (img .entry)))) (view (now (img .entry))) (i .0) place (now (name .entry)) time)))) (now (list .exit)) r ⌝ }
+    requires { ⌜ recordCount 0 (1 + renamingCount (now img) g place) * recordSize ≤ length (now list) ⌝ }
+    ensures { λ r. ⌜ Emitted (now (list .entry)) 0
+        (closed (groupsFor (view (now (img .entry))) (some (planFor (now (img .entry)) (i .0) place (now (name .entry)) time)))) (now (list .exit)) r ⌝ }
 {
     let mut numbers = [0u64; 1024];
     let root = directory::updated_root(img, g.edition, time);
@@ -228,8 +235,7 @@ fn rename_file(
 ) -> Changed
     requires { ⌜ Opened (now img) g ⌝ }
     requires { ⌜ (i .0 < g .files) × (length (now name) ≤ layoutOf (g .edition) .longestName) ⌝ }
-    ensures { λ r. ⌜ r ≡ answerOf (view (now (img .entry))) (renamedTo (view (now (img .entry))) (i .0) (now (name .entry)) time (length (now (list .entry)))) ⌝ }
-    ensures { λ _. ⌜ now (list .exit) ≡ listAfter (view (now (img .entry))) (renamedTo (view (now (img .entry))) (i .0) (now (name .entry)) time (length (now (list .entry)))) (now (list .entry)) ⌝ }
+    ensures { λ r. ⌜ RenamesTo (now (img .entry)) (i .0) (now (name .entry)) time (now (list .entry)) r (now (list .exit)) ⌝ }
 {
     let mut stages = [0u64; 5];
     if table::staging(img, g, &mut stages) {

@@ -19,7 +19,7 @@ use Rattle.model.specs.Cut.{kept, landedOf}
 use Rattle.laws.proofs.WriteList.{stored-append}
 use Rattle.laws.proofs.Booleans.{or-none}
 -- the laws of a set of renames need it too
-pub use Rattle.laws.proofs.Renames.{over-append}
+pub use Rattle.laws.proofs.WriteList.{over-append}
 use Rattle.laws.proofs.Bytes.{length-put}
 use Rattle.laws.proofs.Disk.{view-same, view-other}
 

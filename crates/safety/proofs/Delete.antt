@@ -14,7 +14,8 @@ use Rattle.model.specs.Search.{isAt, indexOf}
 use Rattle.model.specs.Geometry.{rootAt, entryAt, journalAt, tableAt, tableSectors}
 use Rattle.model.specs.Disk.{view}
 use Rattle.model.specs.Root.{rootIn, updatedRootSector}
-use Rattle.model.specs.Catalogue.{Catalogue, catalogueOf, fileNamed, lacksReserve, hasName, sectorsFrom}
+use Rattle.model.specs.Table.{sectorsHolding}
+use Rattle.model.specs.Catalogue.{Catalogue, catalogueOf, fileNamed, lacksReserve, hasName, ownsFrom}
 use Rattle.model.specs.Refusals.{Conditions, verdictOf}
 use Rattle.model.specs.WriteList.{Plan, Record, Group, sectorWrite, groupsFor, listLength, recordSize, recordCount, over}
 use Rattle.model.specs.Find.{nameConditions}
@@ -67,13 +68,13 @@ module _ (L : Ledger) (img : List ℕ) (rep : Rep L img) (name : List ℕ) (time
   records = freedRecords L name 0 2
 
   size : listLength (groupsFor (view img) (some p)) ≡ freedRecords L name 0 2 * recordSize
-  unfolding deletePlan freedRecords
+  unfolding deletePlan freedRecords catalogue
   size =
       rw (named-is L name)
       (plan-needs (view img) p
       ∙ ap (λ n. recordCount 0 n * recordSize)
-      (let e : length table-writes ≡ sectorsFrom (catalogue L) i 0 = length-freed L img i 0 in
-      let q : suc (suc (length table-writes)) ≡ 2 + sectorsFrom (catalogue L) i 0 = omega arith in q))
+      (let e : length table-writes ≡ sectorsHolding (ownsFrom (catalogue L) i 0) (L .geometry) = length-freed L img i 0 in
+      let q : suc (suc (length table-writes)) ≡ 2 + sectorsHolding (ownsFrom (catalogue L) i 0) (L .geometry) = omega arith in q))
 
   some-records : 0 < freedRecords L name 0 2
   unfolding freedRecords

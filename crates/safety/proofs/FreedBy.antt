@@ -8,96 +8,91 @@ use mathlib.Core.List.{List}
 use mathlib.Core.Option.{Option, none}
 use native.Mathlib.Omega.{arith}
 use lib.Dec.{ltb}
-use lib.ListN.{length}
 use borrow.Author.Tests.{ltb-true}
 use Rattle.model.specs.declared.Geometry.{Geometry}
-use Rattle.model.specs.Bytes.{beAt}
-use Rattle.model.specs.Search.{anyBelow, concatenated, countBelow}
+use Rattle.model.specs.Bytes.{Field, numberIn}
+use Rattle.model.specs.Search.{concatenated}
 use Rattle.model.specs.Geometry.{superblockAt, tableAt, dataAt, tableSectors}
 use Rattle.model.specs.Disk.{view}
 use Rattle.model.specs.Superblock.{geometryIn}
-use Rattle.model.specs.Table.{tableEntryStart, tableSectorOf, tableFile, tableOffset, freedIn, tableEntryBytes}
+use Rattle.model.specs.Table.{tableField, tableEntryStart, tableSectorOf, tableFile, tableOffset, freedIn, holdsAny}
 use Rattle.model.specs.Catalogue.{Owner, catalogueOf}
 use Rattle.model.specs.WriteList.{Group, over, hits}
+use Rattle.model.specs.Freeing.{freedSector, freedSectors}
 use Rattle.laws.proofs.Disk.{length-view}
-use Rattle.safety.proofs.Searches.{anyBelow-none, countBelow-le}
+use Rattle.safety.proofs.Searches.{anyBelow-none}
 use Rattle.safety.proofs.Apply.{All, all-miss}
 use Rattle.safety.proofs.Journal.{Rising}
 use Rattle.safety.proofs.Plan.{Metadata, Whole, metadata-table}
 use Rattle.safety.proofs.Preserved.{ownerBy, owner-is}
-use Rattle.safety.proofs.FreedSectors.{pick, length-picks, all-picks, rising-picks, over-picks, length-freedIn, freed-at, free-file, free-offset}
+use Rattle.safety.proofs.FreedSectors.{pick, all-picks, rising-picks, over-picks, length-freedIn, FreedField, freed-file, freed-offset}
 
 module _ (g : Geometry) (img : List ℕ) (p : ℕ → Bool) where
-  -- table sector t holds an extent that is freed; what it becomes
-  abbrev pub changed : ℕ → Bool
-  changed t = anyBelow (λ k. p (128 * t + k)) 128
-
-  abbrev pub contents : ℕ → List ℕ
+  -- table sector t, in which the extents are freed
+  abbrev contents : ℕ → List ℕ
   contents t = freedIn (λ k. p (128 * t + k)) (view img (tableAt g + t)) 128
 
   -- ---- the records
 
   abbrev pub freed : Group
-  freed = concatenated (pick (tableAt g) changed contents) 0 (tableSectors g)
+  freed = freedSectors p g (view img)
 
   abbrev T : ℕ
   T = tableSectors g
 
-  pub length-freed : length freed ≡ countBelow changed (tableSectors g)
-  length-freed = length-picks (tableAt g) changed contents T
+  freed-is : freedSectors p g (view img) ≡ concatenated (pick (tableAt g) (holdsAny p) contents) 0 (tableSectors g)
+  unfolding freedSectors freedSector
+  freed-is = refl
 
-  pub freed-few : length freed ≤ tableSectors g
-  freed-few =
-      let e : length freed ≡ countBelow changed T = length-freed in
-      let m : countBelow changed T ≤ T = countBelow-le changed T in
-      omega arith
+  pub freed-metadata : All (Metadata g) (freedSectors p g (view img))
+  freed-metadata =
+      rw freed-is (all-picks (tableAt g) (holdsAny p) contents (Metadata g) T (λ t q e. metadata-table g (tableAt g + t) (omega arith) (omega arith)))
 
-  pub freed-metadata : All (Metadata g) freed
-  freed-metadata = all-picks (tableAt g) changed contents (Metadata g) T (λ t q e. metadata-table g (tableAt g + t) (omega arith) (omega arith))
+  pub freed-whole : All Whole (freedSectors p g (view img))
+  freed-whole =
+      rw freed-is (all-picks (tableAt g) (holdsAny p) contents Whole T
+      (λ t q e. length-freedIn _ (view img (tableAt g + t)) 128 ∙ length-view img (tableAt g + t)))
 
-  pub freed-whole : All Whole freed
-  freed-whole = all-picks (tableAt g) changed contents Whole T (λ t q e. length-freedIn _ (view img (tableAt g + t)) 128 ∙ length-view img (tableAt g + t))
+  pub freed-rising : (lo : ℕ) → lo ≤ tableAt g → Rising lo (freedSectors p g (view img))
+  freed-rising lo h = rw freed-is (rising-picks (tableAt g) (holdsAny p) contents T 0 lo (omega arith))
 
-  pub freed-rising : (lo : ℕ) → lo ≤ tableAt g → Rising lo freed
-  freed-rising lo h = rising-picks (tableAt g) changed contents T 0 lo (omega arith)
-
-  pub freed-miss : (j : ℕ) → (tableAt g ≤ j → j < dataAt g → ⊥) → hits freed j ≡ false
-  freed-miss j h = all-miss j _ (all-picks (tableAt g) changed contents (λ w. j ≢ w .sector) T (λ t l p e. h (omega arith) (omega arith)))
+  pub freed-miss : (j : ℕ) → (tableAt g ≤ j → j < dataAt g → ⊥) → hits (freedSectors p g (view img)) j ≡ false
+  freed-miss j h =
+      rw freed-is (all-miss j _ (all-picks (tableAt g) (holdsAny p) contents (λ w. j ≢ w .sector) T (λ t l p e. h (omega arith) (omega arith))))
 
   -- ---- the table
 
   module _ (out : List ℕ) (eg : geometryIn (view img superblockAt) ≡ g) (eg′ : geometryIn (view out superblockAt) ≡ g)
-      (shows : (t : ℕ) → t < tableSectors g → view out (tableAt g + t) ≡ over freed (tableAt g + t) (view img (tableAt g + t))) where
-    at-table : (t : ℕ) → t < T → view out (tableAt g + t) ≡ cond (changed t) (contents t) (view img (tableAt g + t))
-    at-table t l = shows t l ∙ over-picks (tableAt g) changed contents T t _ l
+      (shows : (t : ℕ) → t < tableSectors g → view out (tableAt g + t) ≡ over (freedSectors p g (view img)) (tableAt g + t) (view img (tableAt g + t))) where
+    at-table : (t : ℕ) → t < T → view out (tableAt g + t) ≡ cond (holdsAny p t) (contents t) (view img (tableAt g + t))
+    at-table t l =
+        shows t l ∙ ap (λ (ws : Group). over ws (tableAt g + t) (view img (tableAt g + t))) freed-is
+        ∙ over-picks (tableAt g) (holdsAny p) contents T t _ l
 
-    -- a half of a table entry
-    half : (e o : ℕ) → e < g .extents → o + 2 ≤ 4 → beAt (tableEntryBytes 65535 65535) o 2 ≡ 65535
-        → beAt (view out (tableSectorOf g e)) (tableEntryStart e + o) 2 ≡ cond (p e) 65535 (beAt (view img (tableSectorOf g e)) (tableEntryStart e + o) 2)
-    half e o l b f =
+    -- a field of a table entry
+    field-is : (f : ℕ → Field) → FreedField f → (e : ℕ) → e < g .extents
+        → numberIn (view out (tableSectorOf g e)) (f (tableEntryStart e)) ≡ cond (p e) 65535 (numberIn (view img (tableSectorOf g e)) (f (tableEntryStart e)))
+    unfolding holdsAny
+    field-is f law e l =
         let q : 128 * (e / 128) + e % 128 ≡ e = omega arith in
-        ap (λ (s : List ℕ). beAt s (tableEntryStart e + o) 2) (at-table (e / 128) (omega arith)) ∙ go (changed (e / 128)) refl
-        ∙ ap (λ x. cond (p x) 65535 (beAt (view img (tableSectorOf g e)) (tableEntryStart e + o) 2)) q
+        ap (λ (s : List ℕ). numberIn s (f (tableEntryStart e))) (at-table (e / 128) (omega arith)) ∙ go (holdsAny p (e / 128)) refl
+        ∙ ap (λ x. cond (p x) 65535 (numberIn (view img (tableSectorOf g e)) (f (tableEntryStart e)))) q
       where
-        go : (t : Bool) → changed (e / 128) ≡ t
-            → beAt (cond t (contents (e / 128)) (view img (tableSectorOf g e))) (tableEntryStart e + o) 2
-            ≡ cond (p (128 * (e / 128) + e % 128)) 65535 (beAt (view img (tableSectorOf g e)) (tableEntryStart e + o) 2)
-        go true z =
-            freed-at (λ k. p (128 * (e / 128) + k)) (view img (tableSectorOf g e)) 128 (e % 128) o (omega arith) (omega arith) (length-view img (tableSectorOf g e)) b f
+        go : (t : Bool) → holdsAny p (e / 128) ≡ t
+            → numberIn (cond t (contents (e / 128)) (view img (tableSectorOf g e))) (f (tableEntryStart e))
+            ≡ cond (p (128 * (e / 128) + e % 128)) 65535 (numberIn (view img (tableSectorOf g e)) (f (tableEntryStart e)))
+        go true z = law (λ k. p (128 * (e / 128) + k)) (view img (tableSectorOf g e)) (e % 128) (omega arith) (length-view img (tableSectorOf g e))
         go false z =
-            sym (ap (λ (x : Bool). cond x 65535 (beAt (view img (tableSectorOf g e)) (tableEntryStart e + o) 2))
+            sym (ap (λ (x : Bool). cond x 65535 (numberIn (view img (tableSectorOf g e)) (f (tableEntryStart e))))
             (anyBelow-none (λ k. p (128 * (e / 128) + k)) 128 z (e % 128) (omega arith)))
 
     file-is : (e : ℕ) → e < g .extents → tableFile g (view out) e ≡ cond (p e) 65535 (tableFile g (view img) e)
     unfolding tableFile
-    file-is e l =
-        ap (λ o. beAt (view out (tableSectorOf g e)) o 2) (let q : tableEntryStart e ≡ tableEntryStart e + 0 = omega arith in q)
-        ∙ half e 0 l (omega arith) free-file
-        ∙ ap (λ o. cond (p e) 65535 (beAt (view img (tableSectorOf g e)) o 2)) (let q : tableEntryStart e + 0 ≡ tableEntryStart e = omega arith in q)
+    file-is = field-is (λ at. tableField at .file) freed-file
 
     offset-is : (e : ℕ) → e < g .extents → tableOffset g (view out) e ≡ cond (p e) 65535 (tableOffset g (view img) e)
     unfolding tableOffset
-    offset-is e l = half e 2 l (omega arith) free-offset
+    offset-is = field-is (λ at. tableField at .offset) freed-offset
 
     pub table-after : (e : ℕ) → catalogueOf (view out) .table e ≡ cond (p e) none (catalogueOf (view img) .table e)
     table-after e =

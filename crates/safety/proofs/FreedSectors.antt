@@ -6,12 +6,12 @@ use mathlib.Core.Bool.{Bool, true, false, cond}
 use mathlib.Core.List.{List, [], _∷_, _++_}
 use native.Mathlib.Omega.{arith}
 use native.Mathlib.Decide.{decLt}
-use native.Mathlib.Nat.{not-suc-le-zero, zero-add}
+use native.Mathlib.Nat.{not-suc-le-zero, zero-add, add-zero}
 use lib.ListN.{length, length-append}
-use Rattle.model.specs.Bytes.{beAt, beBytes, put}
+use Rattle.model.specs.Bytes.{Field, numberIn, beAt, beBytes, put}
 use Rattle.model.specs.Search.{concatenated, countBelow}
 use Rattle.model.specs.WriteList.{Record, sectorWrite, Group, over}
-use Rattle.model.specs.Table.{tableEntryBytes, freedIn}
+use Rattle.model.specs.Table.{tableField, tableEntryBytes, freedIn}
 use Rattle.laws.proofs.Search.{concatenated-front}
 use Rattle.laws.proofs.Bytes.{length-put, beAt-put-other, beAt-put-in}
 use Rattle.safety.proofs.Apply.{over-append, over-here, over-skip, over-none, over-miss, All, all-append, all-miss}
@@ -109,11 +109,11 @@ module _ (p : ℕ → Bool) (s : List ℕ) where
       go false ih = ih
 
   -- a half of entry k
-  pub freed-at : (n k o : ℕ) → k < n → n ≤ 128 → length s ≡ 512 → o + 2 ≤ 4 → beAt free4 o 2 ≡ 65535
+  freed-half : (n k o : ℕ) → k < n → n ≤ 128 → length s ≡ 512 → o + 2 ≤ 4 → beAt free4 o 2 ≡ 65535
       → beAt (freedIn p s n) (4 * k + o) 2 ≡ cond (p k) 65535 (beAt s (4 * k + o) 2)
   unfolding freedIn
-  freed-at zero k o h m l b f = absurd (not-suc-le-zero h)
-  freed-at (suc n) k o h m l b f = go (decLt k n) (λ q. freed-at n k o q (omega arith) l b f)
+  freed-half zero k o h m l b f = absurd (not-suc-le-zero h)
+  freed-half (suc n) k o h m l b f = go (decLt k n) (λ q. freed-half n k o q (omega arith) l b f)
     where
       skip : (t : Bool) → k < n → beAt (cond t (put (freedIn p s n) (4 * n) free4) (freedIn p s n)) (4 * k + o) 2 ≡ beAt (freedIn p s n) (4 * k + o) 2
       skip true q =
@@ -135,10 +135,21 @@ module _ (p : ℕ → Bool) (s : List ℕ) where
           let e : k ≡ n = omega arith in
           ap (λ j. beAt (cond (p n) (put (freedIn p s n) (4 * n) free4) (freedIn p s n)) (4 * j + o) 2) e ∙ here (p n) ∙ ap (λ j. cond (p j) 65535 (beAt s (4 * j + o) 2)) (sym e)
 
-pub free-file : beAt (tableEntryBytes 65535 65535) 0 2 ≡ 65535
+free-file : beAt free4 0 2 ≡ 65535
 unfolding beAt beBytes
 free-file = refl
 
-pub free-offset : beAt (tableEntryBytes 65535 65535) 2 2 ≡ 65535
+free-offset : beAt free4 2 2 ≡ 65535
 unfolding beAt beBytes
 free-offset = refl
+
+-- what a field of entry k holds after a sector's entries that p picks were freed
+abbrev pub FreedField : (ℕ → Field) → Type 0
+FreedField f =
+    (p : ℕ → Bool) (s : List ℕ) (k : ℕ) → k < 128 → length s ≡ 512 → numberIn (freedIn p s 128) (f (4 * k)) ≡ cond (p k) 65535 (numberIn s (f (4 * k)))
+
+pub freed-file : FreedField (λ at. tableField at .file)
+freed-file p s k h l = rw add-zero at (freed-half p s 128 k 0 h (omega arith) l (omega arith) free-file)
+
+pub freed-offset : FreedField (λ at. tableField at .offset)
+freed-offset p s k h l = freed-half p s 128 k 2 h (omega arith) l (omega arith) free-offset

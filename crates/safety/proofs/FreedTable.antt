@@ -10,10 +10,11 @@ use native.Mathlib.Omega.{arith}
 use lib.ListN.{length}
 use Rattle.model.specs.Geometry.{journalAt, tableAt, dataAt, tableSectors}
 use Rattle.model.specs.Disk.{view}
-use Rattle.model.specs.Catalogue.{Owner, catalogueOf, ownedFrom, holdsFrom, sectorsFrom, sectorOf}
+use Rattle.model.specs.Table.{sectorsHolding}
+use Rattle.model.specs.Catalogue.{Owner, catalogueOf, ownedFrom, ownsFrom, sectorOf}
 use Rattle.model.specs.WriteList.{Group, over, hits}
-use Rattle.model.specs.Delete.{freedSector, freedSectors}
 use Rattle.model.specs.Ledger.{Ledger, File, catalogue}
+use Rattle.laws.proofs.Freeing as laws
 use Rattle.safety.proofs.Apply.{over-append, over-miss, All, all-map, all-miss}
 use Rattle.safety.proofs.Journal.{Rising}
 use Rattle.safety.proofs.Plan.{Metadata, Whole}
@@ -24,34 +25,29 @@ use Rattle.safety.proofs.Preserved.{out-front, out-data, free-said, byt
 use Rattle.safety.proofs.FreedBy as by
 
 module _ (L : Ledger) (img : List ℕ) (i n : ℕ) where
-  abbrev pub freed : Group
-  freed = freedSectors (catalogue L) (view img) i n
-
   abbrev picks : ℕ → Bool
-  picks e = ownedFrom i n (catalogue L .table e)
+  picks = ownsFrom (catalogue L) i n
 
-  freed-is : freed ≡ by.freed (L .geometry) img (λ e. ownedFrom i n (catalogue L .table e))
-  unfolding freedSectors freedSector catalogue holdsFrom
-  freed-is = refl
+  abbrev pub freed : Group
+  freed = by.freed (L .geometry) img (ownsFrom (catalogue L) i n)
 
-  pub length-freed : length freed ≡ sectorsFrom (catalogue L) i n
-  unfolding sectorsFrom holdsFrom catalogue
-  length-freed = ap length freed-is ∙ by.length-freed (L .geometry) img picks
+  pub length-freed : length freed ≡ sectorsHolding (ownsFrom (catalogue L) i n) (L .geometry)
+  length-freed = laws.length-freed picks (L .geometry) (view img)
 
   pub freed-few : length freed ≤ tableSectors (L .geometry)
-  freed-few = rw freed-is (by.freed-few (L .geometry) img picks)
+  freed-few = laws.freed-few picks (L .geometry) (view img)
 
   pub freed-metadata : All (Metadata (L .geometry)) freed
-  freed-metadata = rw freed-is (by.freed-metadata (L .geometry) img picks)
+  freed-metadata = by.freed-metadata (L .geometry) img picks
 
   pub freed-whole : All Whole freed
-  freed-whole = rw freed-is (by.freed-whole (L .geometry) img picks)
+  freed-whole = by.freed-whole (L .geometry) img picks
 
   pub freed-rising : (lo : ℕ) → lo ≤ tableAt (L .geometry) → Rising lo freed
-  freed-rising lo h = rw freed-is (by.freed-rising (L .geometry) img picks lo h)
+  freed-rising = by.freed-rising (L .geometry) img picks
 
-  pub freed-miss : (j : ℕ) → (tableAt (L .geometry) ≤ j → j < dataAt (L .geometry) → ⊥) → hits freed j ≡ false
-  freed-miss j h = rw freed-is (by.freed-miss (L .geometry) img picks j h)
+  freed-miss : (j : ℕ) → (tableAt (L .geometry) ≤ j → j < dataAt (L .geometry) → ⊥) → hits freed j ≡ false
+  freed-miss = by.freed-miss (L .geometry) img picks
 
   -- ---- the table
 
@@ -72,12 +68,11 @@ module _ (L : Ledger) (img : List ℕ) (i n : ℕ) where
         ∙ over-miss freed j _ (freed-miss j (λ a b. omega arith)) ∙ over-miss front j _ (front-miss j (omega arith)))
 
     at-table : (t : ℕ) → t < tableSectors (L .geometry)
-        → view out (tableAt (L .geometry) + t) ≡ over (by.freed (L .geometry) img picks) (tableAt (L .geometry) + t) (view img (tableAt (L .geometry) + t))
+        → view out (tableAt (L .geometry) + t) ≡ over freed (tableAt (L .geometry) + t) (view img (tableAt (L .geometry) + t))
     at-table t l =
         shows (tableAt (L .geometry) + t) (record { journal = λ x y. omega arith; reserve = λ k h q. omega (arith, q .0) }) (λ e. omega arith)
         ∙ over-append front freed (tableAt (L .geometry) + t) _
         ∙ ap (over freed (tableAt (L .geometry) + t)) (over-miss front (tableAt (L .geometry) + t) _ (front-miss (tableAt (L .geometry) + t) (omega arith)))
-        ∙ ap (λ (ws : Group). over ws (tableAt (L .geometry) + t) (view img (tableAt (L .geometry) + t))) freed-is
 
     pub table-after : (e : ℕ) → catalogueOf (view out) .table e ≡ cond (ownedFrom i n (catalogue L .table e)) none (catalogue L .table e)
     table-after e =

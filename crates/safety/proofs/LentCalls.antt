@@ -20,8 +20,8 @@ use Rattle.model.specs.Disk.{Disk, view}
 use Rattle.model.specs.Superblock.{geometryIn, journalLength, stateOf}
 use Rattle.model.specs.Root.{updatedRootSector, accessedRootSector}
 use Rattle.model.specs.Entry.{fieldsOf, accessedEntrySector, newEntrySector, renamedEntrySector}
-use Rattle.model.specs.Table.{freedIn}
-use Rattle.model.specs.Catalogue.{Catalogue, catalogueOf, hasName, fileNamed, freeEntry, lacksReserve, entryOf, holdsFrom, ownedFrom}
+use Rattle.model.specs.Table.{freedIn, holdsAny}
+use Rattle.model.specs.Catalogue.{Catalogue, catalogueOf, hasName, fileNamed, freeEntry, lacksReserve, entryOf, ownsFrom}
 use Rattle.model.specs.Refusals.{Conditions, verdictOf, refusal, andThen, given, isDone, imageVerdict}
 use Rattle.model.specs.WriteList.{Record, sectorWrite, Plan, Group, oneTarget, hits, over, apply, groupsFor, closed, emit, listLength, isPlanned, planConditions, Decision, decided, answerOf}
 use Rattle.model.specs.Summary.{noSummary, summaryAnswer, checkAnswer}
@@ -29,7 +29,8 @@ use Rattle.model.specs.Find.{nameConditions, foundBy, findAnswer}
 use Rattle.model.specs.Listing.{listConditions, listPlan, listPlanned, listDecision, notListed, listedOf, copiedOf, listAnswer, listCopies}
 use Rattle.model.specs.Read.{readCount, sizeNamed, readConditions, readPlan, readPlanned, readDecision, notRead, readOf, readAnswer}
 use Rattle.model.specs.Create.{createConditions, createPlan, createDecision}
-use Rattle.model.specs.Delete.{freedSector, freedSectors, deletePlan, deleteConditions, deleteDecision}
+use Rattle.model.specs.Freeing.{freedSector, freedSectors}
+use Rattle.model.specs.Delete.{deletePlan, deleteConditions, deleteDecision}
 use Rattle.model.specs.Rename.{renameConditions, renamedRecord, replacingRecords, renamingRecords, renamePlan, renamePlanned, renameDecision}
 use Rattle.model.specs.RenameSet.{badSet, nameOf, targetsOf, placedAt, renameTargets, diskBefore, renamesConditions, isTouched, setTargets, setPlanned, renameSetConditions, renameSetDecision}
 use Rattle.model.specs.Ledger.{Call, summary, check, find, list, read, create, delete, rename, renameSet, summarized, checked, found, listed, changed}
@@ -64,12 +65,13 @@ module _ (d d′ : Disk) (same : Agrees d d′) where
   unfolding fileNamed catalogueOf
   named-entry name = same (entryAt (indexOf (fileNamed c name))) (omega (arith, found-most (λ i. hasName name (c .entries i)) (c .geometry .files)))
 
-  pub same-freed : (i o : ℕ) → freedSectors (catalogueOf d) d′ i o ≡ freedSectors (catalogueOf d) d i o
+  pub same-freed : (freed : ℕ → Bool) → freedSectors freed (catalogueOf d .geometry) d′ ≡ freedSectors freed (catalogueOf d .geometry) d
   unfolding freedSectors freedSector catalogueOf
-  same-freed i o =
-      concatenated-ext (freedSector c d′ i o) (freedSector c d i o) 0 (tableSectors (c .geometry)) (λ t a b.
-      ap (λ (s : List ℕ). cond (holdsFrom c i o t) (sectorWrite (tableAt (c .geometry) + t) (freedIn (λ k. ownedFrom i o (c .table (128 * t + k))) s 128) ∷ []) [])
-      (same (tableAt (c .geometry) + t) (omega arith)))
+  same-freed freed =
+      let g = c .geometry in
+      concatenated-ext (freedSector freed g d′) (freedSector freed g d) 0 (tableSectors g) (λ t a b.
+      ap (λ (s : List ℕ). cond (holdsAny freed t) (sectorWrite (tableAt g + t) (freedIn (λ k. freed (128 * t + k)) s 128) ∷ []) [])
+      (same (tableAt g + t) (omega arith)))
 
   pub same-list-planned : (time : ℕ) → listPlanned (catalogueOf d′) d′ time ≡ listPlanned (catalogueOf d) d time
   unfolding listPlanned listPlan
@@ -99,7 +101,7 @@ module _ (d d′ : Disk) (same : Agrees d d′) where
       → deletePlan (catalogueOf d′) d′ (indexOf (fileNamed (catalogueOf d′) name)) time ≡ deletePlan (catalogueOf d) d (indexOf (fileNamed (catalogueOf d) name)) time
   unfolding deletePlan
   same-delete-plan name time =
-      ap (λ (c : Catalogue). deletePlan c d′ (indexOf (fileNamed c name)) time) (same-catalogue d d′ same) ∙ rw (same-root d d′ same, same-freed (indexOf (fileNamed c name)) 0) refl
+      ap (λ (c : Catalogue). deletePlan c d′ (indexOf (fileNamed c name)) time) (same-catalogue d d′ same) ∙ rw (same-root d d′ same, same-freed (ownsFrom c (indexOf (fileNamed c name)) 0)) refl
 
   same-moved : (name new : List ℕ) (time : ℕ) → renamedRecord c d′ (indexOf (fileNamed c name)) new time ≡ renamedRecord c d (indexOf (fileNamed c name)) new time
   unfolding renamedRecord
@@ -113,7 +115,7 @@ module _ (d d′ : Disk) (same : Agrees d d′) where
   same-renaming name new time (At j) =
       ap₂ (λ (r : Record) (rs : List Record).
       cond (ltb (indexOf (fileNamed c name)) j) (r ∷ sectorWrite (entryAt j) zeroSector ∷ []) (sectorWrite (entryAt j) zeroSector ∷ r ∷ []) ++ rs)
-      (same-moved name new time) (same-freed j 0)
+      (same-moved name new time) (same-freed (ownsFrom c j 0))
 
   pub same-rename-planned : (old new : List ℕ) (time : ℕ) → renamePlanned (catalogueOf d′) d′ old new time ≡ renamePlanned (catalogueOf d) d old new time
   unfolding renamePlanned renamePlan

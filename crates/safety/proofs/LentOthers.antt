@@ -11,20 +11,18 @@ use Rattle.model.specs.declared.Soundness.{Soundness}
 use Rattle.model.specs.declared.State.{State}
 use Rattle.model.specs.declared.Verdict.{Verdict}
 use Rattle.model.specs.Search.{anyBelow}
-use Rattle.model.specs.Geometry.{superblockAt, tableAt, tableSectors}
+use Rattle.model.specs.Geometry.{superblockAt}
 use Rattle.model.specs.Disk.{Disk, view}
 use Rattle.model.specs.Superblock.{geometryIn, journalLength, stateOf, stateOn}
-use Rattle.model.specs.Table.{freedIn}
 use Rattle.model.specs.Catalogue.{Catalogue, catalogueOf}
 use Rattle.model.specs.Faults.{fault21, faultsIn, firstFault}
 use Rattle.model.specs.Refusals.{Conditions, verdictOf, refusal, andThen, given, isDone, imageVerdict, stateNumber, faultVerdict}
 use Rattle.model.specs.WriteList.{Record, sectorWrite, Plan, Group, groupsFor, closed, emit, listLength, planConditions, Decision, listAfter}
 use Rattle.model.specs.Scratch.{scratchNumbers, soundVerdictWith, judgedWith, checkWithAnswer}
-use Rattle.model.specs.Repair.{isStray, strays, holdsStray, repaired, repairedSector, repairPlan, repairPlanned, repairVerdict, repairDecision, doneBut, notRepaired, repairAnswer, repairList}
-use Rattle.laws.proofs.Search.{concatenated-ext}
+use Rattle.model.specs.Repair.{isStray, strays, repaired, repairPlan, repairPlanned, repairVerdict, repairDecision, doneBut, notRepaired, repairAnswer, repairList}
 use Rattle.safety.specs.LentForms.{Lends, goesBy, LentOthers}
 use Rattle.safety.proofs.LentFront.{Agrees, same-superblock, same-catalogue, same-state, same-faults-in, same-fault, same-groups, lent-agrees, lent-image}
-use Rattle.safety.proofs.LentCalls.{same-conditions}
+use Rattle.safety.proofs.LentCalls.{same-freed, same-conditions}
 
 module _ (len len′ : ℕ) (d d′ : Disk) (same : Agrees d d′) (image : imageVerdict len′ d′ ≡ imageVerdict len d) where
   abbrev c : Catalogue
@@ -46,12 +44,8 @@ module _ (len len′ : ℕ) (d d′ : Disk) (same : Agrees d d′) (image : imag
   -- ---- repair
 
   same-strays : repairPlan c d′ ≡ repairPlan c d
-  unfolding repairPlan repairedSector catalogueOf
-  same-strays =
-      ap (λ (rs : List Record). record { dataSectors = []; targets = rs })
-      (concatenated-ext (repairedSector c d′) (repairedSector c d) 0 (tableSectors (c .geometry)) (λ t a b.
-      ap (λ (s : List ℕ). cond (holdsStray c t) (sectorWrite (tableAt (c .geometry) + t) (freedIn (λ k. isStray c (128 * t + k)) s 128) ∷ []) [])
-      (same (tableAt (c .geometry) + t) (omega arith))))
+  unfolding repairPlan
+  same-strays = ap (λ (rs : List Record). record { dataSectors = []; targets = rs }) (same-freed d d′ same (isStray c))
 
   same-repair-planned : repairPlanned (catalogueOf d′) d′ ≡ repairPlanned (catalogueOf d) d
   unfolding repairPlanned

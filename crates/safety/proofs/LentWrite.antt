@@ -20,7 +20,7 @@ use Rattle.model.specs.Disk.{Disk, view}
 use Rattle.model.specs.Superblock.{geometryIn}
 use Rattle.model.specs.Entry.{updatedEntrySector}
 use Rattle.model.specs.Table.{tableSectorOf, takenIn}
-use Rattle.model.specs.Catalogue.{Catalogue, catalogueOf, isFree, fileNamed, freeExtent, lacksReserve, entryOf}
+use Rattle.model.specs.Catalogue.{Catalogue, catalogueOf, isFree, fileNamed, freeExtent, lacksReserve, entryOf, ownsFrom}
 use Rattle.model.specs.Refusals.{Conditions, verdictOf, andThen, isDone, refusal, judged}
 use Rattle.model.specs.WriteList.{Record, sectorWrite, barrier, recordSize, emit, Plan, Group, staging, copies, sectorsOf, journalOf, groupA}
 use Rattle.model.specs.WriteList.{superblockGroup, groupsOf, groupsFor, closed, listLength, recordCount, Decision, isPlanned, planConditions, decided, answerOf}
@@ -386,7 +386,7 @@ module _ (img front : List ℕ) (count : ℕ) (lends : Lends img front count) (n
     unfolding shrinkPlan
     same-shrink =
         ap₂ (λ (s : List ℕ) (rs : Group). record { dataSectors = []; targets = sectorWrite (entryAt file) (updatedEntrySector (of .geometry .edition) z time s) ∷ rs }) file-entry
-        (same-freed (view img) (view front) agree file (extentsFor (of .geometry) z))
+        (same-freed (view img) (view front) agree (ownsFrom of file (extentsFor (of .geometry) z)))
 
     resize-by : (b : Bool) (room : ℕ) → Same img (resized b (view front) room) (resized b (view img) room) (resizeAsks b room) room
     unfolding decided

@@ -30,7 +30,7 @@ use Rattle.model.specs.Disk.{Disk, view}
 use Rattle.model.specs.Superblock.{geometryIn, journalLength, stateOn}
 use Rattle.model.specs.Edition.{badTime}
 use Rattle.model.specs.Entry.{badName}
-use Rattle.model.specs.Catalogue.{Catalogue, catalogueOf, fileNamed, lacksReserve, isFree, entryOf, holdsFrom}
+use Rattle.model.specs.Catalogue.{Catalogue, catalogueOf, fileNamed, lacksReserve, isFree, entryOf, ownsFrom}
 use Rattle.model.specs.Faults.{fault21, faultsIn, firstFault}
 use Rattle.model.specs.Refusals.{Conditions, verdictOf, andThen, given, isDone, refusal, done, stateNumber, faultVerdict, fitsImage, imageVerdict, soundVerdict, judged}
 use Rattle.model.specs.WriteList.{Record, Plan, Group, sectorWrite, superblockGroup, groupsFor, listLength, recordSize, recordCount, isPlanned, planConditions, ownVerdict, decided, barrier}
@@ -39,12 +39,13 @@ use Rattle.model.specs.Find.{nameConditions, notFound, foundBy, findAnswer}
 use Rattle.model.specs.Listing.{listConditions, listPlan, listPlanned, listDecision, notListed, listedOf, listAnswer}
 use Rattle.model.specs.Read.{longestTransfer, sizeNamed, readCount, readConditions, readPlan, readPlanned, readDecision, notRead, readOf, readAnswer}
 use Rattle.model.specs.Create.{createConditions, createPlan, createDecision}
-use Rattle.model.specs.Delete.{freedSector, freedSectors, deleteConditions, deletePlan, deleteDecision}
+use Rattle.model.specs.Freeing.{freedSectors}
+use Rattle.model.specs.Delete.{deleteConditions, deletePlan, deleteDecision}
 use Rattle.model.specs.Write.{touchedSectors, dataSector, grows, sizeAfter, writePlan, writePlanned, writeConditions, writeDecision}
 use Rattle.model.specs.Resize.{zeros, shrinkPlan, resizePlanned, resizeConditions, resizeDecision}
 use Rattle.model.specs.Rename.{renamedRecord, replacingRecords, renamingRecords, renamePlan, renamePlanned, renameConditions, renameDecision}
 use Rattle.model.specs.RenameSet.{badSet, renamesConditions, isTouched, setTargets, setPlanned, renameSetConditions, renameSetDecision}
-use Rattle.model.specs.Repair.{isStray, holdsStray, repaired, doneBut, notRepaired, repairedSector, repairPlan, repairPlanned, repairVerdict, repairDecision, repairAnswer}
+use Rattle.model.specs.Repair.{isStray, repaired, doneBut, notRepaired, repairPlan, repairPlanned, repairVerdict, repairDecision, repairAnswer}
 use Rattle.model.specs.Recovery.{goodEntry, badJournal, replayGroups, differs, isCopied, copied, slicedGroups, recoveryGroups, recoveryVerdict, recoveryListed, recoveryAnswer}
 use Rattle.model.specs.Recovery.{sliceGroups, sliceVerdict, sliceListed, sliceAnswer}
 use Rattle.model.specs.Lengths.{mostEntries, longestRecords, longestList}
@@ -52,7 +53,8 @@ use Rattle.laws.proofs.Booleans.{and-true, and-left, and-right, or-none}
 use Rattle.laws.proofs.Refusals.{image-passed}
 use Rattle.laws.proofs.Judged.{judged-image}
 use Rattle.laws.proofs.Bytes.{length-bytesFrom}
-use Rattle.laws.proofs.Count.{countBelow-le, length-concatenated}
+use Rattle.laws.proofs.Count.{countBelow-le}
+use Rattle.laws.proofs.Freeing.{freed-few}
 use Rattle.laws.proofs.Search.{allBelow-at, length-tabulate}
 use Rattle.laws.proofs.Recovery.{copied-is}
 use Rattle.laws.proofs.WriteList.{plan-needs}
@@ -89,19 +91,6 @@ either-short d m false x y h k = k refl
 -- fewer targets, fewer records
 fewer-targets : (s t u v : ℕ) → s ≤ u → t ≤ v → recordCount s t ≤ recordCount u v
 fewer-targets s t u v h k = omega arith
-
-one-or-none : (b : Bool) (w : Record) → length (cond b (w ∷ []) []) ≡ cond b 1 0
-one-or-none true w = refl
-one-or-none false w = refl
-
-freed-few : (c : Catalogue) (d : Disk) (i o : ℕ) → length (freedSectors c d i o) ≤ tableSectors (c .geometry)
-unfolding freedSectors freedSector
-freed-few c d i o =
-    omega (
-      arith,
-      length-concatenated (freedSector c d i o) (holdsFrom c i o) (tableSectors (c .geometry)) (λ t. one-or-none (holdsFrom c i o t) _),
-      countBelow-le (holdsFrom c i o) (tableSectors (c .geometry)),
-    )
 
 -- ---- what a decision makes of a plan's list
 
@@ -180,7 +169,7 @@ create-short d name id mode time = plan-short d (createPlan (catalogueOf d) d na
 delete-short : (d : Disk) (i time : ℕ) → listLength (groupsFor d (some (deletePlan (catalogueOf d) d i time))) ≤ longestList 3 (geometryIn (d superblockAt))
 unfolding deletePlan longestList longestRecords catalogueOf
 delete-short d i time =
-    plan-short d (deletePlan (catalogueOf d) d i time) (recordCount 0 (2 + tableSectors (geometryIn (d superblockAt)))) (omega (arith, freed-few (catalogueOf d) d i 0))
+    plan-short d (deletePlan (catalogueOf d) d i time) (recordCount 0 (2 + tableSectors (geometryIn (d superblockAt)))) (omega (arith, freed-few (ownsFrom (catalogueOf d) i 0) (catalogueOf d .geometry) d))
 
 -- a renamed entry, or two and what is freed
 two-of : (b : Bool) (x y : Record) → length (cond b (x ∷ y ∷ []) (y ∷ x ∷ [])) ≡ 2
@@ -194,7 +183,13 @@ renaming-few c d i Nowhere name time = omega arith
 renaming-few c d i (At j) name time =
     let this = renamedRecord c d i name time in
     let that = sectorWrite (entryAt j) zeroSector in
-    omega (arith, length-append (cond (ltb i j) (this ∷ that ∷ []) (that ∷ this ∷ [])) (freedSectors c d j 0), two-of (ltb i j) this that, freed-few c d j 0)
+    let freed = ownsFrom c j 0 in
+    omega (
+      arith,
+      length-append (cond (ltb i j) (this ∷ that ∷ []) (that ∷ this ∷ [])) (freedSectors freed (c .geometry) d),
+      two-of (ltb i j) this that,
+      freed-few freed (c .geometry) d,
+    )
 
 rename-short : (d : Disk) (old new : List ℕ) (time : ℕ)
     → listLength (groupsFor d (renamePlanned (catalogueOf d) d old new time)) ≤ longestList 4 (geometryIn (d superblockAt))
@@ -246,7 +241,7 @@ resize-short d name z time e =
     ltb-false (size + 65536) z
     (not-more (isAt (fileNamed c name)) (ltb (size + 65536) z) (or-none (badName (c .geometry .edition) name) (isAt (fileNamed c name) && ltb (size + 65536) z) (passed .1 .0) .1) (passed .1 .1 .0)) in
     either-short d _ (ltb z size) (some (shrinkPlan c d i z time)) (writePlanned c i d size (zeros (z - size)) time)
-    (λ q. plan-short d (shrinkPlan c d i z time) (max (recordCount 0 (1 + t)) (recordCount 129 2)) (omega (arith, freed-few c d i (extentsFor (c .geometry) z))))
+    (λ q. plan-short d (shrinkPlan c d i z time) (max (recordCount 0 (1 + t)) (recordCount 129 2)) (omega (arith, freed-few (ownsFrom c i (extentsFor (c .geometry) z)) (c .geometry) d)))
     (λ q. let w = write-short d i size (zeros (z - size)) time (omega (arith, length-bytesFrom [] 0 (z - size), grown)) in omega (arith, w))
 
 -- ---- a set of renames
@@ -302,14 +297,14 @@ set-not-14 d names lengths time =
 -- ---- repair
 
 repair-short : (d : Disk) → listLength (groupsFor d (repairPlanned (catalogueOf d) d)) ≤ longestList 8 (geometryIn (d superblockAt))
-unfolding repairPlanned repairPlan repairedSector longestList longestRecords catalogueOf
+unfolding repairPlanned repairPlan longestList longestRecords catalogueOf
 repair-short d =
     let c = catalogueOf d in
     let t = tableSectors (geometryIn (d superblockAt)) in
     either-short d _ (anyBelow (isStray c) (c .geometry .extents)) (some (repairPlan c d)) none
     (λ e. plan-short d (repairPlan c d) (recordCount 0 t)
     (fewer-targets 0 _ 0 t (omega arith)
-    (omega (arith, length-concatenated (repairedSector c d) (holdsStray c) t (λ k. one-or-none (holdsStray c k) _), countBelow-le (holdsStray c) t)))) (λ e. none-short d _)
+    (omega (arith, freed-few (isStray c) (c .geometry) d)))) (λ e. none-short d _)
 
 -- ---- recovery, whole or a slice
 

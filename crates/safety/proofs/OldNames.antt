@@ -15,19 +15,21 @@ use Rattle.model.specs.Search.{isAt, equalBytes}
 use Rattle.model.specs.Geometry.{tableSectors, reserveExtents, extentBytes}
 use Rattle.model.specs.Edition.{badTime}
 use Rattle.model.specs.Entry.{badName, badNewName}
-use Rattle.model.specs.Catalogue.{Catalogue, lacksReserve, holdsFrom, sectorsFrom}
+use Rattle.model.specs.Table.{sectorsHolding}
+use Rattle.model.specs.Catalogue.{lacksReserve, ownsFrom}
 use Rattle.model.specs.Refusals.{verdictOf, refusal, done}
 use Rattle.model.specs.WriteList.{recordSize, recordCount}
 use Rattle.model.specs.Ledger.{Ledger, fileOr, catalogue, rename, Answer, Feed, numberOf, slotNamed, freedRecords, renamedRecords, isFrozen, unfitTime, unfitName, unfitNewName, step}
 use Rattle.model.specs.Ledger.{answer, ledgerFrom}
 use Rattle.model.specs.Run.{volumeAnswer, Fits, steady}
 use Rattle.laws.proofs.Booleans.{and-false}
+use Rattle.laws.proofs.Freeing.{sectors-few}
 use Rattle.safety.specs.Described.{SoundRun}
 use Rattle.safety.specs.Naming.{Contents, fileOn, contentsIn, fileIn}
 use Rattle.safety.specs.Room.{geometryOn, freeOn}
 use Rattle.safety.proofs.OwnWords.{frozen-is, name-if, time-is, name-is, new-name-is, number-is}
-use Rattle.safety.proofs.Searches.{or-left-no, is-no, countBelow-le}
-use Rattle.safety.proofs.Rep.{Rep, cat-is, catalogue-geometry}
+use Rattle.safety.proofs.Searches.{or-left-no, is-no}
+use Rattle.safety.proofs.Rep.{Rep, cat-is}
 use Rattle.safety.proofs.KeptFile.{well-named}
 use Rattle.safety.proofs.Renamed.{named-so}
 use Rattle.safety.proofs.Naming.{filled, Found, found-by, slotOf}
@@ -46,20 +48,14 @@ there L name x e = go (slotNamed L name) e
     go (At i) q = refl
 
 -- the longest list
-sectors-few : (c : Catalogue) (i o : ℕ) → sectorsFrom c i o ≤ tableSectors (c .geometry)
-unfolding sectorsFrom
-sectors-few c i o = countBelow-le (holdsFrom c i o) (tableSectors (c .geometry))
-
 few-records : (L : Ledger) (img : List ℕ) → Rep L img → (old new : List ℕ) → renamedRecords L old new ≤ recordCount 0 515
 unfolding renamedRecords freedRecords catalogue
 few-records L img rep old new = go (equalBytes old new) (isAt (slotNamed L new))
   where
-    go : (a b : Bool) → cond a 0 (cond b (recordCount 0 (3 + sectorsFrom (catalogue L) (slotOf L new) 0)) (recordCount 0 2)) ≤ recordCount 0 515
+    go : (a b : Bool) → cond a 0 (cond b (recordCount 0 (3 + sectorsHolding (ownsFrom (catalogue L) (slotOf L new) 0) (L .geometry))) (recordCount 0 2)) ≤ recordCount 0 515
     go true b = omega arith
     go false true =
-        let m : sectorsFrom (catalogue L) (slotOf L new) 0 ≤ tableSectors (catalogue L .geometry) = sectors-few (catalogue L) (slotOf L new) 0 in
-        let t : catalogue L .geometry .extents ≤ 65535 = subst (λ (g : Geometry). g .extents ≤ 65535) (sym (catalogue-geometry L)) (rep .bounded .extents-high) in
-        omega arith
+        omega (arith, sectors-few (ownsFrom (catalogue L) (slotOf L new) 0) (L .geometry), rep .bounded .extents-high)
     go false false = omega arith
 
 -- a rename that no condition refuses

@@ -11,7 +11,8 @@ use Rattle.model.specs.declared.Lowest.{Lowest}
 use Rattle.model.specs.declared.Lowest.the-variants.{At, Nowhere}
 use Rattle.model.specs.Search.{isAt, indexOf, equalBytes}
 use Rattle.model.specs.Disk.{view}
-use Rattle.model.specs.Catalogue.{Catalogue, lacksReserve, fileNamed, sectorsFrom}
+use Rattle.model.specs.Table.{sectorsHolding}
+use Rattle.model.specs.Catalogue.{Catalogue, lacksReserve, fileNamed, ownsFrom}
 use Rattle.model.specs.Refusals.{Conditions, verdictOf}
 use Rattle.model.specs.WriteList.{Plan, groupsFor, listLength, recordSize, recordCount, isPlanned}
 use Rattle.model.specs.Rename.{renameConditions, renamePlan, renamePlanned, renameDecision}
@@ -48,7 +49,7 @@ module _ (L : Ledger) (img : List ℕ) (rep : Rep L img) (old new : List ℕ) (t
   size = rw (named-is L new) (go (equalBytes old new) (fileNamed (catalogue L) new))
     where
       go : (b : Bool) (r : Lowest) → listLength (groupsFor (view img) (cond b none (some (planAt r))))
-          ≡ cond b 0 (cond (isAt r) (recordCount 0 (3 + sectorsFrom (catalogue L) (indexOf r) 0)) (recordCount 0 2)) * recordSize
+          ≡ cond b 0 (cond (isAt r) (recordCount 0 (3 + sectorsHolding (ownsFrom (catalogue L) (indexOf r) 0) (L .geometry))) (recordCount 0 2)) * recordSize
       go true r = refl
       go false Nowhere = plan-needs (view img) (planAt Nowhere) ∙ ap (λ n. recordCount 0 n * recordSize) (count-at L img rep old new time Nowhere)
       go false (At j) = plan-needs (view img) (planAt (At j)) ∙ ap (λ n. recordCount 0 n * recordSize) (count-at L img rep old new time (At j))

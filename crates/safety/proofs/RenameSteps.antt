@@ -19,7 +19,8 @@ use Rattle.model.specs.Search.{anyBelow, concatenated, isAt, indexOf, equalByte
 use Rattle.model.specs.Geometry.{superblockAt, rootAt, entryAt, tableAt, tableSectors}
 use Rattle.model.specs.Disk.{Disk, view}
 use Rattle.model.specs.Superblock.{geometryIn}
-use Rattle.model.specs.Catalogue.{Catalogue, catalogueOf, fileNamed, holdsFrom}
+use Rattle.model.specs.Table.{holdsAny}
+use Rattle.model.specs.Catalogue.{Catalogue, catalogueOf, fileNamed, ownsFrom}
 use Rattle.model.specs.Refusals.{Conditions, verdictOf, done}
 use Rattle.model.specs.Recovery.{isMetadata}
 use Rattle.model.specs.WriteList.{Plan, Group, stored, over, apply, hits}
@@ -65,7 +66,7 @@ unless-same : (b z : Bool) → cond b false z ≡ (not b && z)
 unless-same true z = refl
 unless-same false z = refl
 
-held-is : (b : Bool) (r : Lowest) (c : Catalogue) (t : ℕ) → cond b false (heldFor r c t) ≡ (not b && isAt r && holdsFrom c (indexOf r) 0 t)
+held-is : (b : Bool) (r : Lowest) (c : Catalogue) (t : ℕ) → cond b false (heldFor r c t) ≡ (not b && isAt r && holdsAny (ownsFrom c (indexOf r) 0) t)
 held-is true r c t = refl
 held-is false Nowhere c t = refl
 held-is false (At j) c t = refl
@@ -207,7 +208,7 @@ module _ (d : Disk) (names lengths : List ℕ) (time : ℕ) where
       some-files = let e = ap (λ (x : Geometry). x .files) geometry-is in omega (arith, rep .bounded .files-low)
 
       at-table : (t : ℕ) → t < tableSectors (geometryIn (d superblockAt)) → touches (tableAt (geometryIn (d superblockAt)) + t) k
-          ≡ (not (equalBytes (oldOf k) (newOf k)) && isAt (slotNamed L (newOf k)) && holdsFrom (catalogue L) (indexOf (slotNamed L (newOf k))) 0 t)
+          ≡ (not (equalBytes (oldOf k) (newOf k)) && isAt (slotNamed L (newOf k)) && holdsAny (ownsFrom (catalogue L) (indexOf (slotNamed L (newOf k))) 0) t)
       at-table t l =
           table-hit d names lengths time some-files k t l
           ∙ ap₂ (λ (p : Lowest) (x : Catalogue). cond (equalBytes (oldOf k) (newOf k)) false (heldFor p x t))
@@ -241,7 +242,7 @@ module _ (d : Disk) (names lengths : List ℕ) (time : ℕ) where
         bare-both : (b : Bool) → equalBytes (oldOf k) (newOf k) ≡ b → (not b || anyFrom (touches rootAt) (suc k) m) ≡ false → (t : ℕ) → freesIn L (renamesFrom k (suc m)) time t ≡ false
         unfolding pairsFrom freesIn
         bare-both true e h t =
-            ap (λ (b : Bool). (not b && isAt (slotNamed L (newOf k)) && holdsFrom (catalogue L) (indexOf (slotNamed L (newOf k))) 0 t) || freesIn L1 (renamesFrom (suc k) m) time t) e
+            ap (λ (b : Bool). (not b && isAt (slotNamed L (newOf k)) && holdsAny (ownsFrom (catalogue L) (indexOf (slotNamed L (newOf k))) 0) t) || freesIn L1 (renamesFrom (suc k) m) time t) e
             ∙ rest .bare h t
         bare-both false e h t = absurd (true≢false h)
 

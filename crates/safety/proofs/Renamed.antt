@@ -20,7 +20,8 @@ use Rattle.model.specs.Geometry.{rootAt, entryAt, journalAt, tableAt, tableSect
 use Rattle.model.specs.Disk.{view}
 use Rattle.model.specs.Root.{Root, rootIn, updatedRootSector}
 use Rattle.model.specs.Entry.{badName, badNewName}
-use Rattle.model.specs.Catalogue.{Catalogue, catalogueOf, isFree, ownedFrom, fileNamed, hasName, sectorsFrom}
+use Rattle.model.specs.Table.{sectorsHolding}
+use Rattle.model.specs.Catalogue.{Catalogue, catalogueOf, isFree, ownedFrom, fileNamed, hasName, ownsFrom}
 use Rattle.model.specs.WriteList.{Plan, Record, Group, sectorWrite, stored, over}
 use Rattle.model.specs.Rename.{renameConditions, renamedRecord, replacingRecords, renamePlan}
 use Rattle.model.specs.Ledger.{Ledger, File, fileOr, entryOfFile, catalogue, updatedRoot, renamedFile, withSlot, slotsWithout, afterRename, slotNamed, unfitTime, unfitName, unfitNewName}
@@ -109,12 +110,12 @@ module _ (L : Ledger) (img : List ℕ) (rep : Rep L img) (old new : List ℕ) (t
   abbrev both : Bool → ℕ → Group
   both b j = cond b (w2 ∷ zeroed j ∷ []) (zeroed j ∷ w2 ∷ []) ++ freed L img j 0
 
-  length-both : (b : Bool) (j : ℕ) → length (w1 ∷ both b j) ≡ 3 + sectorsFrom (catalogue L) j 0
-  length-both true j = let e : length (freed L img j 0) ≡ sectorsFrom (catalogue L) j 0 = length-freed L img j 0 in omega arith
-  length-both false j = let e : length (freed L img j 0) ≡ sectorsFrom (catalogue L) j 0 = length-freed L img j 0 in omega arith
+  length-both : (b : Bool) (j : ℕ) → length (w1 ∷ both b j) ≡ 3 + sectorsHolding (ownsFrom (catalogue L) j 0) (L .geometry)
+  length-both true j = omega (arith, length-freed L img j 0)
+  length-both false j = omega (arith, length-freed L img j 0)
 
   -- how many targets it has
-  pub count-at : (r : Lowest) → length (planAt r .targets) ≡ cond (isAt r) (3 + sectorsFrom (catalogue L) (indexOf r) 0) 2
+  pub count-at : (r : Lowest) → length (planAt r .targets) ≡ cond (isAt r) (3 + sectorsHolding (ownsFrom (catalogue L) (indexOf r) 0) (L .geometry)) 2
   unfolding renamePlan replacingRecords catalogue
   count-at Nowhere = refl
   count-at (At j) = length-both (ltb i j) j

@@ -23,19 +23,20 @@ use Rattle.model.specs.Geometry.{superblockAt, entryAt, extentSectors, journalA
 use Rattle.model.specs.Disk.{Disk, view}
 use Rattle.model.specs.Superblock.{geometryIn, stateOn}
 use Rattle.model.specs.Root.{rootIn}
-use Rattle.model.specs.Table.{freeFile, tableSectorOf, tableFile, tableOffset}
+use Rattle.model.specs.Table.{freeFile, tableSectorOf, tableFile, tableOffset, holdsAny, sectorsHolding}
 use Rattle.model.specs.Catalogue.{Catalogue, Owner, catalogueOf, isFree, lacksReserve, stagingExtents}
 use Rattle.model.specs.Refusals.{isDone, refusal, imageVerdict, stateNumber}
 use Rattle.model.specs.WriteList.{Plan, Group, stored, groupsFor, groupsOf, closed, listLength, isPlanned, planConditions, over}
 use Rattle.model.specs.Cut.{Cut, landed, startMark}
 use Rattle.model.specs.Opened.{Bounded}
-use Rattle.model.specs.Repair.{isStray, holdsStray, repaired, repairedSector, repairPlan, repairPlanned, repairVerdict, repairDecision, repairAnswer, notRepaired}
+use Rattle.model.specs.Repair.{isStray, repaired, repairPlan, repairPlanned, repairVerdict, repairDecision, repairAnswer, notRepaired}
 use Rattle.laws.proofs.Bytes.{pow-more}
 use Rattle.laws.proofs.Count.{countBelow-anyBelow}
 use Rattle.laws.proofs.Disk.{length-view, getD-view}
 use Rattle.laws.proofs.Refusals.{image-passed, readable, opened}
 use Rattle.laws.proofs.Search.{anyBelow-true, none-at}
 use Rattle.laws.proofs.Seeking.{anyBelow-first}
+use Rattle.laws.proofs.Freeing.{length-freed, freed-few}
 use Rattle.laws.proofs.Staging.{free, InExtent, one-extent}
 use Rattle.safety.specs.Repairing.{OfBytes, Repairs, repairedImage}
 use Rattle.safety.proofs.Searches.{place-found}
@@ -184,7 +185,7 @@ module _ (img : List ℕ) where
     p = repairPlan (catalogueOf (view img)) (view img)
 
     targets-are : p .targets ≡ by.freed g img (isStray (catalogueOf (view img)))
-    unfolding repairPlan repairedSector holdsStray catalogueOf
+    unfolding repairPlan catalogueOf
     targets-are = refl
 
     no-data : p .dataSectors ≡ []
@@ -194,20 +195,20 @@ module _ (img : List ℕ) where
     module _ (q : anyBelow (isStray (catalogueOf (view img))) (catalogueOf (view img) .geometry .extents) ≡ true) where
       -- the sector of a stray is among them
       has-target : 0 < length (p .targets)
-      unfolding catalogueOf
+      unfolding catalogueOf holdsAny sectorsHolding
       has-target =
           let r = place-found (isStray c) (g .extents) (sym (anyBelow-first (isStray c) (g .extents)) ∙ q) in
           let e = indexOf (first (isStray c) (g .extents)) in
           let z : 128 * (e / 128) + e % 128 ≡ e = omega arith in
           let h : anyBelow (λ k. isStray c (128 * (e / 128) + k)) 128 ≡ true = anyBelow-true (λ k. isStray c (128 * (e / 128) + k)) (e % 128) 128 (omega arith) (ap (isStray c) z ∙ r .1) in
-          let n : 0 < countBelow (by.changed g img (isStray c)) (tableSectors g) =
-          countBelow-anyBelow (by.changed g img (isStray c)) (tableSectors g) (anyBelow-true (by.changed g img (isStray c)) (e / 128) (tableSectors g) (omega (arith, r .0)) h) in
-          rw (targets-are, by.length-freed g img (isStray c)) n
+          let n : 0 < countBelow (holdsAny (isStray c)) (tableSectors g) =
+          countBelow-anyBelow (holdsAny (isStray c)) (tableSectors g) (anyBelow-true (holdsAny (isStray c)) (e / 128) (tableSectors g) (omega (arith, r .0)) h) in
+          rw (targets-are, length-freed (isStray c) g (view img)) n
 
       fits : WellFormed g (view img) p
       unfolding repairPlan catalogueOf
       fits =
-          let few = by.freed-few g img (isStray c) in
+          let few = freed-few (isStray c) g (view img) in
           record {
             geometry = refl;
             there = pass .there q;

@@ -14,7 +14,8 @@ use Rattle.model.specs.Search.{tabulate, isAt, indexOf}
 use Rattle.model.specs.Geometry.{extentsFor}
 use Rattle.model.specs.Disk.{view}
 use Rattle.model.specs.Entry.{badName}
-use Rattle.model.specs.Catalogue.{Catalogue, lacksReserve, hasName, fileNamed, entryOf, sectorsFrom}
+use Rattle.model.specs.Table.{sectorsHolding}
+use Rattle.model.specs.Catalogue.{Catalogue, lacksReserve, hasName, fileNamed, entryOf, ownsFrom}
 use Rattle.model.specs.Refusals.{Conditions, verdictOf}
 use Rattle.model.specs.WriteList.{Plan, groupsFor, listLength, recordSize, recordCount, stored, isPlanned}
 use Rattle.model.specs.Read.{longestTransfer, sizeNamed}
@@ -88,7 +89,7 @@ module _ (L : Ledger) (img : List ℕ) (rep : Rep L img) (name : List ℕ) (z ti
       s = entryOf (catalogue L) i .size
 
       go : (b : Bool) → listLength (groupsFor (view img) (cond b (some (shrinkPlan (catalogue L) (view img) i z time)) (writePlanned (catalogue L) i (view img) s (zeros (z - s)) time)))
-          ≡ cond b (recordCount 0 (1 + sectorsFrom (catalogue L) i (extentsFor (catalogue L .geometry) z))) (writtenRecords L s s (z - s)) * recordSize
+          ≡ cond b (recordCount 0 (1 + sectorsHolding (ownsFrom (catalogue L) i (extentsFor (L .geometry) z)) (L .geometry))) (writtenRecords L s s (z - s)) * recordSize
       go true = shrink-length L img i z time
       go false = write-length L img i s (zeros (z - s)) time ∙ ap (λ m. writtenRecords L s s m * recordSize) (length-bytesFrom [] 0 (z - s))
 

@@ -18,7 +18,8 @@ use Rattle.model.specs.Geometry.{extentSectors, extentBytes, rootAt, entryAt, j
 use Rattle.model.specs.Disk.{Disk, view}
 use Rattle.model.specs.Root.{rootIn}
 use Rattle.model.specs.Entry.{updatedEntrySector}
-use Rattle.model.specs.Catalogue.{Catalogue, Owner, catalogueOf, lacksReserve, isPart, ownedFrom, extentOf, sectorOf, fileByte, fileBytes, sectorsFrom}
+use Rattle.model.specs.Table.{sectorsHolding}
+use Rattle.model.specs.Catalogue.{Catalogue, Owner, catalogueOf, lacksReserve, isPart, ownedFrom, extentOf, sectorOf, fileByte, fileBytes, ownsFrom}
 use Rattle.model.specs.Faults.{exact}
 use Rattle.model.specs.WriteList.{Plan, Record, Group, sectorWrite, stored, groupsFor, listLength, recordSize, recordCount, over}
 use Rattle.model.specs.Resize.{shrinkPlan}
@@ -95,12 +96,14 @@ module _ (L : Ledger) (img : List ℕ) (i z time : ℕ) where
   table-writes = freed L img i (extentsFor (L .geometry) z)
 
   -- the list's length
-  pub shrink-length : listLength (groupsFor (view img) (some p)) ≡ recordCount 0 (1 + sectorsFrom (catalogue L) i (extentsFor (catalogue L .geometry) z)) * recordSize
+  pub shrink-length : listLength (groupsFor (view img) (some p))
+      ≡ recordCount 0 (1 + sectorsHolding (ownsFrom (catalogue L) i (extentsFor (L .geometry) z)) (L .geometry)) * recordSize
   unfolding shrinkPlan catalogue
   shrink-length =
       plan-needs (view img) p
       ∙ ap (λ m. recordCount 0 m * recordSize)
-      (let e : length table-writes ≡ sectorsFrom (catalogue L) i n = length-freed L img i n in let q : suc (length table-writes) ≡ 1 + sectorsFrom (catalogue L) i n = omega arith in q)
+      (let e : length table-writes ≡ sectorsHolding (ownsFrom (catalogue L) i n) (L .geometry) = length-freed L img i n in
+      let q : suc (length table-writes) ≡ 1 + sectorsHolding (ownsFrom (catalogue L) i n) (L .geometry) = omega arith in q)
 
   module _ (rep : Rep L img) (reserve : lacksReserve (catalogue L) ≡ false) (there : L .slots i ≡ some (fileOr (L .slots i))) (within : i < L .geometry .files)
       (less : z < fileOr (L .slots i) .entry .size) (ht : Timely L time) where

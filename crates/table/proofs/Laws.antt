@@ -4,21 +4,20 @@ use mathlib.Core.Path.{_≡_, refl, sym, ap, _∙_}
 use mathlib.Core.Bool.{Bool, true, false, cond, not, _&&_}
 use mathlib.Core.List.{List}
 use mathlib.Core.Option.{none, some}
-use native.Mathlib.Numerals.{add-one}
 use native.Mathlib.Nat.{div-add-mod', div-lt-iff-lt-mul, mul-le-mul-left, suc-mul, mod-lt}
 use native.Mathlib.Omega.{arith}
 use lib.Arith.{digits-div}
 use lib.Dec.{eqb, leb}
 use borrow.Author.Tests.{le-ltb, eq-eqb, ne-eqb, eqb-true, eqb-false}
 use Rattle.model.specs.declared.Geometry.{Geometry}
-use Rattle.model.specs.Bytes.{beAt, put}
+use Rattle.model.specs.Bytes.{beAt}
 use Rattle.model.specs.declared.Lowest.the-variants.{Nowhere}
-use Rattle.model.specs.Search.{scan, anyBelow, first, countBelow, indexOf}
-use Rattle.model.specs.Geometry.{tableAt, tableSectors}
+use Rattle.model.specs.Search.{scan, anyBelow, first, indexOf}
+use Rattle.model.specs.Geometry.{tableAt}
 use Rattle.model.specs.Disk.{Disk, view}
 use Rattle.model.specs.Superblock.{geometryIn}
-use Rattle.model.specs.Table.{freeFile, tableFile, tableOffset, tableEntryBytes, freedIn}
-use Rattle.model.specs.Catalogue.{Owner, catalogueOf, isFree, isPart, ownedFrom, freeExtent, extentOf, holdsFrom, sectorsFrom}
+use Rattle.model.specs.Table.{freeFile, tableFile, tableOffset}
+use Rattle.model.specs.Catalogue.{Owner, catalogueOf, isFree, isPart, ownedFrom, freeExtent, extentOf}
 use Rattle.laws.proofs.Disk.{beAt-view}
 use Rattle.laws.proofs.Search.{first-ext, scan-none, none-at}
 use Rattle.laws.proofs.Catalogue.{table-on, part-is}
@@ -74,15 +73,6 @@ module _ (d : Disk) (g : Geometry) (is : g ≡ geometryIn (d 0)) where
   pub beyond-past : (i o e : ℕ) → g .extents ≤ e → ownedFrom i o (catalogueOf d .table e) ≡ false
   unfolding catalogueOf
   beyond-past i o e h = rw (le-ltb e (geometryIn (d 0) .extents) (rw is at h))
-
-  pub sectors-from-is : (i o : ℕ) → sectorsFrom (catalogueOf d) i o ≡ countBelow (holdsFrom (catalogueOf d) i o) (tableSectors g)
-  unfolding sectorsFrom catalogueOf
-  sectors-from-is i o = rw is
-
-pub freed-more : (p : ℕ → Bool) (s : List ℕ) (k : ℕ)
-    → freedIn p s (k + 1) ≡ cond (p k) (put (freedIn p s k) (4 * k) (tableEntryBytes freeFile 65535)) (freedIn p s k)
-unfolding freedIn
-freed-more p s k = rw add-one
 
 -- z / e rounded up, as a quotient and what is left
 module _ (z e : ℕ) (pos : 0 < e) where

@@ -1,4 +1,4 @@
-// The allocation table: its entries, the searches of it, and its sectors with a file's extents freed.
+// The allocation table: its entries, the searches of it, and which entries of its sectors are a file's.
 use model::Extent;
 use model::FileIndex;
 use model::Geometry;
@@ -10,14 +10,15 @@ ghost use lib.Dec.{eqb};
 ghost use lib.ListN.{length, replicate};
 ghost use Rattle.model.specs.Bytes.{put, beAt};
 ghost use Rattle.model.specs.Search.{anyBelow, allBelow, scan, indexOf};
-ghost use Rattle.model.specs.Geometry.{tableAt, tableSectors, extentsFor};
+ghost use Rattle.model.specs.Geometry.{tableSectors, extentsFor};
 ghost use Rattle.model.specs.Disk.{view};
 ghost use Rattle.model.specs.Opened.{Bounded, Opened};
 ghost use Rattle.commit.specs.Commit.{StagesOf};
-ghost use Rattle.model.specs.Table.{tableFile, tableOffset, tableEntryBytes, freeFile, freedIn};
-ghost use Rattle.model.specs.Catalogue.{catalogueOf, freeExtent, lacksReserve, extentOf, isPart, ownedFrom, holdsFrom, sectorsFrom};
+ghost use Rattle.model.specs.Table.{tableFile, tableOffset, tableEntryBytes, freeFile, freedIn, holdsAny, sectorsHolding};
+ghost use Rattle.model.specs.Catalogue.{catalogueOf, freeExtent, lacksReserve, extentOf, isPart};
 ghost use Rattle.table.specs.Word.{swapped, entryWord};
 ghost use Rattle.table.specs.Highest.{Highest};
+ghost use Rattle.table.specs.Owned.{ownedIn, isMarked, Marks};
 
 // The file that extent e's entry names; 65535 where it is free.
 pub fn table_file(img: &[u8], g: Geometry, e: Extent) -> u64
@@ -290,7 +291,7 @@ pub fn extent_of(img: &[u8], g: Geometry, i: FileIndex, o: u64) -> Extent
 fn owned_from(img: &[u8], g: Geometry, i: FileIndex, o: u64, e: Extent) -> bool
     requires { ⌜ Opened (now img) g ⌝ }
     requires { ⌜ i .0 < freeFile ⌝ }
-    ensures { λ r. ⌜ r ≡ ownedFrom (i .0) o (catalogueOf (view (now (img .entry))) .table (e .0)) ⌝ }
+    ensures { λ r. ⌜ r ≡ ownedIn (now (img .entry)) (i .0) o (e .0) ⌝ }
 {
     if e.0 < g.extents {
         if table_file(img, g, e) == i.0 {
@@ -305,7 +306,7 @@ fn owned_from(img: &[u8], g: Geometry, i: FileIndex, o: u64, e: Extent) -> bool
 pub fn holds_from(img: &[u8], g: Geometry, i: FileIndex, o: u64, t: u64) -> bool
     requires { ⌜ Opened (now img) g ⌝ }
     requires { ⌜ (i .0 < freeFile) × (t < tableSectors g) ⌝ }
-    ensures { λ r. ⌜ r ≡ holdsFrom (catalogueOf (view (now (img .entry)))) (i .0) o t ⌝ }
+    ensures { λ r. ⌜ r ≡ holdsAny (ownedIn (now (img .entry)) (i .0) o) t ⌝ }
 {
     let mut k: u64 = 0;
     while k < 128 {
@@ -317,31 +318,40 @@ pub fn holds_from(img: &[u8], g: Geometry, i: FileIndex, o: u64, t: u64) -> bool
     false
 }
 
-fn one_if(b: bool) -> u64
-    ensures { λ r. ⌜ (r ≡ cond b 1 0) × (r ≤ 1) ⌝ }
-{
-    if b {
-        return 1;
-    }
-    0
-}
-
 // How many table sectors hold one.
 pub fn sectors_from(img: &[u8], g: Geometry, i: FileIndex, o: u64) -> u64
     requires { ⌜ Opened (now img) g ⌝ }
     requires { ⌜ i .0 < freeFile ⌝ }
-    ensures { λ r. ⌜ r ≡ sectorsFrom (catalogueOf (view (now (img .entry)))) (i .0) o ⌝ }
+    ensures { λ r. ⌜ r ≡ sectorsHolding (ownedIn (now (img .entry)) (i .0) o) g ⌝ }
     ensures { λ r. ⌜ r ≤ tableSectors g ⌝ }
 {
     let n = g.table_sectors();
     let mut found: u64 = 0;
     let mut t: u64 = 0;
     while t < n {
-        found += one_if(holds_from(img, g, i, o, t));
+        found += fields::bit(holds_from(img, g, i, o, t)) as u64;
         t += 1;
     }
     found
 }
+
+// A byte for each entry of table sector t: 1 marks one of file i's, of offset o or more.
+pub fn marks_from(img: &[u8], g: Geometry, i: FileIndex, o: u64, t: u64) -> [u8; 128]
+    requires { ⌜ Opened (now img) g ⌝ }
+    requires { ⌜ (i .0 < freeFile) × (t < tableSectors g) ⌝ }
+    ensures { λ r. ⌜ Marks (λ k. ownedIn (now (img .entry)) (i .0) o (128 * t + k)) 128 r ⌝ }
+{
+    let mut marks = [0u8; 128];
+    let mut k: usize = 0;
+    while k < 128 {
+        let hit = owned_from(img, g, i, o, g.table_extent(t, k as u64));
+        marks[k] = fields::bit(hit);
+        k += 1;
+    }
+    marks
+}
+
+// ---- freed entries
 
 // Entry k of a table sector becomes 65535, 65535, if it is hit.
 pub fn free_one(s: &mut [u8], k: usize, hit: bool)
@@ -354,20 +364,16 @@ pub fn free_one(s: &mut [u8], k: usize, hit: bool)
     }
 }
 
-// Table sector t, with file i's entries of offset o or more freed.
-pub fn freed(img: &[u8], g: Geometry, i: FileIndex, o: u64, t: u64) -> [u8; 512]
-    requires { ⌜ Opened (now img) g ⌝ }
-    requires { ⌜ (i .0 < freeFile) × (t < tableSectors g) ⌝ }
-    ensures { λ r. ⌜ r ≡ freedIn (λ k. ownedFrom (i .0) o (catalogueOf (view (now (img .entry))) .table (128 * t + k))) (view (now (img .entry)) (tableAt g + t)) 128 ⌝ }
+// The marked ones of a table sector's entries are freed: byte k of the marks is entry k's.
+pub fn free_marked(s: &mut [u8], marks: &[u8])
+    requires { ⌜ (length (now s) ≡ 512) × (128 ≤ length (now marks)) ⌝ }
+    ensures { λ _. ⌜ now (s .exit) ≡ freedIn (isMarked (now (marks .entry))) (now (s .entry)) 128 ⌝ }
 {
-    let mut a = fields::sector(img, g.table_sector(t));
     let mut k: usize = 0;
     while k < 128 {
-        let hit = owned_from(img, g, i, o, g.table_extent(t, k as u64));
-        free_one(&mut a, k, hit);
+        free_one(s, k, marks[k] == 1);
         k += 1;
     }
-    a
 }
 
 // How many extents a size needs: z / E rounded up. In this order no sum can overflow, whatever an entry says.

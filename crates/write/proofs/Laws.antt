@@ -36,8 +36,9 @@ use Rattle.laws.proofs.Staging.{free-first, reserve-there, length-staging, lowe
 use Rattle.table.proofs.Laws.{geometry-of, free-extent-is}
 use Rattle.laws.proofs.WriteList.{plan-needs}
 use Rattle.commit.proofs.Records.{emitted-length}
-use Rattle.commit.proofs.Decided.{same-refusals, ComesTo, refused-by-own, refused-as-full, refused-as-short, done-as-planned, done-with-nothing}
-use Rattle.write.specs.FileWrite.{Asked, fileConditions, fileDecision, roomDecision}
+use Rattle.commit.specs.Decided.{ComesTo}
+use Rattle.commit.proofs.Decided.{same-refusals, refused-by-own, refused-as-full, refused-as-short, done-as-planned, done-with-nothing}
+use Rattle.write.specs.FileWrite.{Asked, fileConditions, fileDecision, roomDecision, FileWritesTo, PlanWritesTo}
 
 -- ---- what a new size needs
 
@@ -204,10 +205,10 @@ module _ (img : List ℕ) (ok : judged (volumeLength (view img)) (view img) .num
     plan = writePlan (catalogueOf (view img)) i (view img) offset bytes time
 
     abbrev Room : Changed → List ℕ → Type 0
-    Room answer after = ComesTo (view img) (roomDecision (volumeLength (view img)) (view img) i offset bytes time (length list)) list answer after
+    Room = PlanWritesTo img i offset bytes time list
 
     abbrev File : Changed → List ℕ → Type 0
-    File answer after = ComesTo (view img) (fileDecision (volumeLength (view img)) (view img) i offset bytes time (length list)) list answer after
+    File = FileWritesTo img i offset bytes time list
 
     -- a write of 0 bytes
     pub room-none : length bytes ≡ 0 → Room (refusedBy 0) list
@@ -326,7 +327,7 @@ module _ (img : List ℕ) (ok : judged (volumeLength (view img)) (view img) .num
       write-missing h = own-refusal conditions planned 9 (λ (e : _≡_ {A = ℕ} 9 0). omega arith) (write-tests ∙ rw (good, le-ltb longestTransfer (length bytes) most, h))
 
       pub write-found : {answer : Changed} {after : List ℕ} (i : ℕ) → At i ≡ fileNamed (catalogueOf (view img)) name
-          → ComesTo (view img) (fileDecision (volumeLength (view img)) (view img) i offset bytes time (length list)) list answer after → Written answer after
+          → FileWritesTo img i offset bytes time list answer after → Written answer after
       unfolding writeAnswer writeList writeDecision fileDecision fileConditions verdictOf
       write-found i e r =
           rw (

@@ -27,10 +27,10 @@ use Rattle.model.specs.Resize.{resizeConditions, resizePlanned, resizeDecision,
 use Rattle.model.specs.Lent.{noPart, partAt, partly, partlyCovered, isAsked, writeAsking, writeLent, resizeLent, takesWrite}
 use Rattle.model.specs.Opened.{volumeLength}
 use Rattle.laws.proofs.Booleans.{and-left, and-right}
-use Rattle.commit.proofs.Decided.{ComesTo, refused-as-judged}
+use Rattle.commit.proofs.Decided.{refused-as-judged}
 use Rattle.write.specs.declared.Begun.{Begun}
-use Rattle.write.specs.FileWrite.{Asked, Spans, Named, fileDecision}
-use Rattle.write.specs.FileResize.{sizeDecision}
+use Rattle.write.specs.FileWrite.{Asked, Spans, Named, FileWritesTo}
+use Rattle.write.specs.FileResize.{sizeDecision, FileResizesTo}
 use Rattle.write.proofs.Laws.{file-12}
 use Rattle.write.proofs.Resizes.{size-far}
 
@@ -86,8 +86,7 @@ module _ (c : Catalogue) (i offset n : ℕ) where
 -- a span that has a list ends below 2 ^ 63
 module _ (img : List ℕ) (g : Geometry) (list : List ℕ) (i size : ℕ) {answer : Changed} {after : List ℕ} where
   pub write-ends : (offset : ℕ) (bytes : List ℕ) (time : ℕ) → Asked img g i size (length bytes)
-      → ComesTo (view img) (fileDecision (volumeLength (view img)) (view img) i offset bytes time (length list)) list answer after
-      → 0 < answer .length → offset + length bytes < 2 ^ 63
+      → FileWritesTo img i offset bytes time list answer after → 0 < answer .length → offset + length bytes < 2 ^ 63
   write-ends offset bytes time a r l = go (decLt size offset)
     where
       go : Dec (size < offset) → offset + length bytes < 2 ^ 63
@@ -98,8 +97,7 @@ module _ (img : List ℕ) (g : Geometry) (list : List ℕ) (i size : ℕ) {answe
       go (no h) = omega (arith, a .fits, a .short)
 
   pub resize-ends : (z time : ℕ) → Asked img g i size 0
-      → ComesTo (view img) (sizeDecision (volumeLength (view img)) (view img) i z time (length list)) list answer after
-      → 0 < answer .length → z < 2 ^ 63
+      → FileResizesTo img i z time list answer after → 0 < answer .length → z < 2 ^ 63
   resize-ends z time a r l = go (decLt (size + longestTransfer) z)
     where
       go : Dec (size + longestTransfer < z) → z < 2 ^ 63

@@ -21,7 +21,8 @@ use Rattle.commit.proofs.Decided.{edition-is}
 use Rattle.commit.proofs.Laws.{staged-none, staged-more, committed-for}
 use Rattle.write.proofs.Laws.{sectorsOut, entryOut, tableOut, plan-more, plan-kept}
 
-module _ (img : List ℕ) (g : Geometry) (o : Opened img g) {es : List ℕ} (staging : StagesOf g (view img) es) (i offset : ℕ) (bytes : List ℕ) (time z : ℕ) (after : z ≡ sizeAfter (catalogueOf (view img)) i offset (length bytes)) where
+module _ (img : List ℕ) (g : Geometry) (o : Opened img g) {es : List ℕ} (staging : StagesOf g (view img) es) (i offset : ℕ) (bytes : List ℕ) (time z : ℕ)
+    (after : z ≡ sizeAfter (catalogueOf (view img)) i offset (length bytes)) where
   abbrev c : Catalogue
   c = catalogueOf (view img)
 

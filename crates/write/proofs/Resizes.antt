@@ -1,8 +1,8 @@
--- How a resize is decided, from the tests that the code makes. Assumes nothing.
-use Prim.Native.Nat.{ℕ, _+_, _*_, _-_, _/_, _≤_, _<_, max}
-use mathlib.Core.Path.{_≡_, refl, _∙_}
+-- The plan of a resize that shrinks, and how a resize is decided, from the tests that the code makes. Assumes nothing.
+use Prim.Native.Nat.{ℕ, suc, _+_, _*_, _-_, _/_, _≤_, _<_, max}
+use mathlib.Core.Path.{_≡_, refl, ap, ap₂, _∙_}
 use mathlib.Core.Bool.{Bool, true, false, cond, not, _&&_, _||_}
-use mathlib.Core.List.{List, []}
+use mathlib.Core.List.{List, [], _∷_}
 use mathlib.Core.Option.{Option, some}
 use native.Mathlib.Nat.{le-div-iff-mul-le, div-mul-le-self}
 use native.Mathlib.Omega.{arith}
@@ -14,25 +14,30 @@ use Rattle.model.specs.declared.Geometry.{Geometry}
 use Rattle.model.specs.declared.Lowest.the-variants.{At}
 use Rattle.model.specs.declared.Verdict.{Verdict}
 use Rattle.model.specs.Search.{isAt, indexOf}
-use Rattle.model.specs.Geometry.{extentBytes, extentsFor, superblockAt}
+use Rattle.model.specs.Geometry.{extentBytes, extentsFor, superblockAt, entryAt}
 use Rattle.model.specs.Disk.{view}
 use Rattle.model.specs.Superblock.{geometryIn}
 use Rattle.model.specs.Edition.{badTime}
-use Rattle.model.specs.Entry.{badName}
-use Rattle.model.specs.Catalogue.{Catalogue, catalogueOf, fileNamed, lacksReserve, entryOf, sectorsFrom}
+use Rattle.model.specs.Entry.{badName, updatedEntrySector}
+use Rattle.model.specs.Table.{sectorsHolding}
+use Rattle.model.specs.Catalogue.{Catalogue, catalogueOf, fileNamed, lacksReserve, entryOf}
 use Rattle.model.specs.Refusals.{Conditions, verdictOf, refusal, done, judged}
-use Rattle.model.specs.WriteList.{Plan, recordSize, recordCount, groupsFor, listLength, closed, Emitted}
+use Rattle.model.specs.WriteList.{Plan, sectorWrite, recordSize, recordCount, groupsFor, listLength, closed, Emitted}
+use Rattle.model.specs.Freeing.{freedSectors}
 use Rattle.model.specs.Read.{longestTransfer, sizeNamed}
 use Rattle.model.specs.Write.{grows, noRoom, writePlanned}
 use Rattle.model.specs.Resize.{zeros, shrinkPlan, resizePlanned, resizeConditions, resizeDecision, resizeAnswer, resizeList}
-use Rattle.model.specs.Opened.{Bounded, Opened, volumeLength}
+use Rattle.model.specs.Opened.{Bounded, Opened, volumeLength, inVolume}
 use Rattle.laws.proofs.Bytes.{length-bytesFrom}
 use Rattle.laws.proofs.Named.{editionOn}
+use Rattle.laws.proofs.Freeing.{length-freed}
+use Rattle.laws.proofs.WriteList.{plan-needs}
 use Rattle.commit.proofs.Records.{emitted-length}
-use Rattle.commit.proofs.Decided.{same-refusals, ComesTo, refused-as-full, refused-as-short, done-as-planned}
-use Rattle.delete.proofs.Decisions.{shrink-needs}
-use Rattle.write.specs.FileWrite.{fileConditions, fileDecision}
-use Rattle.write.specs.FileResize.{sizeConditions, sizeDecision, shrinkDecision}
+use Rattle.commit.proofs.Decided.{same-refusals, refused-as-full, refused-as-short, done-as-planned}
+use Rattle.table.specs.Owned.{ownedIn}
+use Rattle.table.proofs.Laws.{geometry-of}
+use Rattle.write.specs.FileWrite.{fileConditions, fileDecision, FileWritesTo}
+use Rattle.write.specs.FileResize.{sizeConditions, sizeDecision, shrinkDecision, shrinkFor, FileResizesTo, FileShrinksTo}
 use Rattle.write.proofs.Laws.{decided-same, refusedBy, sized, own-refusal}
 
 -- a smaller size needs no more extents
@@ -40,6 +45,32 @@ extents-less : (g : Geometry) → Bounded g → (a b : ℕ) → a ≤ b → exte
 extents-less g b x y h =
     le-div-iff-mul-le (let q : 0 < extentBytes g = omega (arith, b .extent-low) in q) .1
     (let q : (x + (extentBytes g - 1)) / extentBytes g * extentBytes g ≤ x + (extentBytes g - 1) = div-mul-le-self (x + (extentBytes g - 1)) (extentBytes g) in omega arith)
+
+-- ---- the plan where the file shrinks
+
+pub shrink-alone : (img : List ℕ) (i z time : ℕ) → shrinkFor img i z time .dataSectors ≡ []
+unfolding shrinkPlan
+shrink-alone img i z time = refl
+
+module _ (img : List ℕ) (g : Geometry) (is : g ≡ geometryIn (view img superblockAt)) (i z time : ℕ) where
+  -- entry i, then the table sectors that hold an extent past the new size
+  pub shrink-targets : shrinkFor img i z time .targets
+      ≡ sectorWrite (entryAt i) (updatedEntrySector (g .edition) z time (view img (entryAt i))) ∷ freedSectors (ownedIn img i (extentsFor g z)) g (view img)
+  unfolding shrinkPlan
+  shrink-targets =
+      ap (λ (x : Geometry).
+      sectorWrite (entryAt i) (updatedEntrySector (x .edition) z time (view img (entryAt i))) ∷ freedSectors (ownedIn img i (extentsFor x z)) x (view img))
+      (geometry-of (view img) g is)
+
+  shrink-needs : listLength (groupsFor (view img) (some (shrinkFor img i z time))) ≡ recordCount 0 (1 + sectorsHolding (ownedIn img i (extentsFor g z)) g) * recordSize
+  shrink-needs =
+      let freed = ownedIn img i (extentsFor g z) in
+      plan-needs (view img) (shrinkFor img i z time)
+      ∙ ap₂ (λ m n. recordCount m n * recordSize) (ap length (shrink-alone img i z time))
+      (ap length shrink-targets
+      ∙ (let e : suc (length (freedSectors freed g (view img))) ≡ 1 + sectorsHolding freed g = omega (arith, length-freed freed g (view img)) in e))
+
+-- ---- the tests of a file that was found
 
 module _ (img : List ℕ) (g : Geometry) (o : Opened img g) where
   abbrev c : Catalogue
@@ -55,30 +86,34 @@ module _ (img : List ℕ) (g : Geometry) (o : Opened img g) where
   module _ (ok : judged (volumeLength (view img)) (view img) .number ≡ 0) (list : List ℕ) where
     module _ (i z time : ℕ) where
       abbrev plan : Plan
-      plan = shrinkPlan c (view img) i z time
+      plan = shrinkFor img i z time
 
       abbrev Shrunk : Changed → List ℕ → Type 0
-      Shrunk answer after = ComesTo (view img) (shrinkDecision (volumeLength (view img)) (view img) i z time (length list)) list answer after
+      Shrunk = FileShrinksTo img i z time list
 
       abbrev Sized : Changed → List ℕ → Type 0
-      Sized answer after = ComesTo (view img) (sizeDecision (volumeLength (view img)) (view img) i z time (length list)) list answer after
+      Sized = FileResizesTo img i z time list
 
-      needs : listLength (groupsFor (view img) (some plan)) ≡ recordCount 0 (1 + sectorsFrom c i (extentsFor g z)) * recordSize
-      needs = shrink-needs (view img) g (o .is) i z time
+      -- how many bytes its list takes
+      abbrev needed : ℕ
+      needed = recordCount 0 (1 + sectorsHolding (ownedIn img i (extentsFor g z)) g) * recordSize
+
+      needs : listLength (groupsFor (view img) (some plan)) ≡ needed
+      needs = shrink-needs img g (o .is) i z time
 
       pub shrink-count : {l m : List ℕ} {j : ℕ} → Emitted l 0 (closed (groupsFor (view img) (some plan))) m j
-          → j * recordSize ≡ recordCount 0 (1 + sectorsFrom c i (extentsFor g z)) * recordSize
+          → j * recordSize ≡ needed
       shrink-count q = emitted-length (groupsFor (view img) (some plan)) q ∙ needs
 
       pub shrink-full : lacksReserve c ≡ true → Shrunk (refusedBy 13) list
       unfolding shrinkDecision verdictOf
       shrink-full f = refused-as-full (volumeLength (view img)) (view img) [] (some plan) list ok done refl refl f
 
-      pub shrink-short : lacksReserve c ≡ false → length list < recordCount 0 (1 + sectorsFrom c i (extentsFor g z)) * recordSize → Shrunk (refusedBy 14) list
+      pub shrink-short : lacksReserve c ≡ false → length list < needed → Shrunk (refusedBy 14) list
       unfolding shrinkDecision verdictOf
       shrink-short f l = refused-as-short (volumeLength (view img)) (view img) [] (some plan) list ok done refl f refl (rw needs l)
 
-      pub shrink-done : {m : List ℕ} {j : ℕ} → lacksReserve c ≡ false → recordCount 0 (1 + sectorsFrom c i (extentsFor g z)) * recordSize ≤ length list
+      pub shrink-done : {m : List ℕ} {j : ℕ} → lacksReserve c ≡ false → needed ≤ length list
           → Emitted list 0 (closed (groupsFor (view img) (some plan))) m j → Shrunk (record { verdict = done; length = j * recordSize }) m
       unfolding shrinkDecision verdictOf
       shrink-done f l q =
@@ -117,7 +152,7 @@ module _ (img : List ℕ) (g : Geometry) (o : Opened img g) where
           more-planned = rw (← says, le-ltb z size l)
 
           pub size-grows : {answer : Changed} {after : List ℕ}
-              → ComesTo (view img) (fileDecision (volumeLength (view img)) (view img) i size (zeros (z - size)) time (length list)) list answer after → Sized answer after
+              → FileWritesTo img i size (zeros (z - size)) time list answer after → Sized answer after
           unfolding sizeDecision fileDecision
           size-grows r =
               rw (
@@ -142,7 +177,7 @@ module _ (img : List ℕ) (ok : judged (volumeLength (view img)) (view img) .num
 
     abbrev Resized : Changed → List ℕ → Type 0
     Resized answer after =
-        (answer ≡ resizeAnswer (volumeLength (view img)) (view img) name z time (length list)) × (after ≡ resizeList (volumeLength (view img)) (view img) name z time list)
+        (answer ≡ inVolume resizeAnswer img name z time (length list)) × (after ≡ inVolume resizeList img name z time list)
 
     -- the code's tests
     abbrev isBad : Bool
@@ -168,7 +203,7 @@ module _ (img : List ℕ) (ok : judged (volumeLength (view img)) (view img) .num
       resize-missing h = own-refusal img ok list conditions planned 9 (λ (e : _≡_ {A = ℕ} 9 0). omega arith) (resize-tests ∙ rw (good, h))
 
       pub resize-found : {answer : Changed} {after : List ℕ} (i : ℕ) → At i ≡ fileNamed cat name
-          → ComesTo (view img) (sizeDecision (volumeLength (view img)) (view img) i z time (length list)) list answer after → Resized answer after
+          → FileResizesTo img i z time list answer after → Resized answer after
       unfolding resizeAnswer resizeList resizeDecision sizeDecision sizeConditions verdictOf
       resize-found i e r =
           rw (decided-same (volumeLength (view img)) (view img) conditions (sizeConditions cat i z) planned (length list) (resize-tests ∙ rw (good, ← e, sized cat name i e)), ← e) r

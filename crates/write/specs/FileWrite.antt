@@ -5,6 +5,7 @@ use mathlib.Core.Bool.{not}
 use mathlib.Core.List.{List, [], _∷_}
 use lib.Dec.{ltb}
 use lib.ListN.{length}
+use Rattle.model.specs.declared.Changed.{Changed}
 use Rattle.model.specs.declared.Geometry.{Geometry}
 use Rattle.model.specs.Search.{indexOf}
 use Rattle.model.specs.Geometry.{FileNumber, reserveExtents}
@@ -13,9 +14,10 @@ use Rattle.model.specs.Table.{freeFile}
 use Rattle.model.specs.Catalogue.{Catalogue, catalogueOf, fileNamed, freeExtent, freeExtents, entryOf}
 use Rattle.model.specs.Refusals.{Conditions, refusal}
 use Rattle.model.specs.Read.{longestTransfer}
-use Rattle.model.specs.WriteList.{Decision, decided}
-use Rattle.model.specs.Write.{heldExtents, grows, noRoom, sizeAfter, writePlanned}
-use Rattle.model.specs.Opened.{Opened, Accepted}
+use Rattle.model.specs.WriteList.{Plan, Decision, decided}
+use Rattle.model.specs.Write.{heldExtents, grows, noRoom, sizeAfter, writePlan, writePlanned}
+use Rattle.model.specs.Opened.{Opened, inVolume, Accepted}
+use Rattle.commit.specs.Decided.{ComesTo}
 use Rattle.write.specs.declared.Growth.{Growth}
 use Rattle.write.specs.declared.Begun.{Begun}
 
@@ -58,3 +60,14 @@ fileDecision len d i offset bytes time room =
 
 unfoldable pub roomDecision : ℕ → Disk → FileNumber → ℕ → List ℕ → ℕ → ℕ → Decision
 roomDecision len d i offset bytes time room = decided len d [] (writePlanned (catalogueOf d) i d offset bytes time) room
+
+-- in an image: the plan of a write of some bytes, and what both decisions come to
+module _ (img : List ℕ) (i : FileNumber) (offset : ℕ) (bytes : List ℕ) (time : ℕ) where
+  abbrev pub planFor : Plan
+  planFor = writePlan (catalogueOf (view img)) i (view img) offset bytes time
+
+  abbrev pub FileWritesTo : List ℕ → Changed → List ℕ → Type 0
+  FileWritesTo list answer after = ComesTo (view img) (inVolume fileDecision img i offset bytes time (length list)) list answer after
+
+  abbrev pub PlanWritesTo : List ℕ → Changed → List ℕ → Type 0
+  PlanWritesTo list answer after = ComesTo (view img) (inVolume roomDecision img i offset bytes time (length list)) list answer after

@@ -16,20 +16,22 @@ ghost use Prim.Native.Nat.{_+_, _*_, _-_, _/_, _≤_, _<_, _^_};
 ghost use lib.Dec.{eqb, ltb};
 ghost use lib.ListN.{length};
 ghost use Rattle.model.specs.Search.{indexOf};
+ghost use Rattle.model.specs.Geometry.{extentsFor};
 ghost use Rattle.model.specs.Disk.{view};
-ghost use Rattle.model.specs.Table.{tableSectorOf, takenIn};
+ghost use Rattle.model.specs.Table.{freeFile, tableSectorOf, takenIn, sectorsHolding};
 ghost use Rattle.model.specs.Catalogue.{catalogueOf, freeExtent, lacksReserve, entryOf};
 ghost use Rattle.model.specs.Refusals.{refusal};
 ghost use Rattle.model.specs.Read.{longestTransfer};
-ghost use Rattle.model.specs.WriteList.{recordSize, recordCount, groupsFor, closed, Emitted, answerOf, listAfter};
-ghost use Rattle.model.specs.Write.{touchedSectors, sizeAfter, writePlan, writeAnswer, writeList};
+ghost use Rattle.model.specs.WriteList.{recordSize, recordCount, groupsFor, closed, Emitted};
+ghost use Rattle.model.specs.Write.{touchedSectors, sizeAfter, writeAnswer, writeList};
 ghost use Rattle.model.specs.Resize.{zeros, resizeAnswer, resizeList};
 ghost use Rattle.model.specs.Lent.{noPart, partAt, partly, partlyCovered, writeAsking, writeLent, resizeLent, takesWrite, writeTaken, writeNotTaken, writeStep, completed, writeStepList};
 ghost use Rattle.model.specs.Opened.{Opened, inVolume, Accepted};
 ghost use Rattle.commit.specs.Commit.{StagesOf};
+ghost use Rattle.table.specs.Owned.{ownedIn};
 ghost use Rattle.spans.specs.Touched.{Lent, Source, spanOf};
-ghost use Rattle.write.specs.FileWrite.{Grown, Asked, Spans, Named, fileDecision, roomDecision};
-ghost use Rattle.write.specs.FileResize.{shrinkDecision, sizeDecision};
+ghost use Rattle.write.specs.FileWrite.{Grown, Asked, Spans, Named, planFor, FileWritesTo, PlanWritesTo};
+ghost use Rattle.write.specs.FileResize.{shrinkFor, FileShrinksTo, FileResizesTo};
 
 // What a new size needs: the extents that the file has, whether it takes one more, whether K + 1 are free, and the lowest of these.
 pub struct Growth {
@@ -122,7 +124,9 @@ fn put_write(
     requires { ⌜ (i .0 < g .files) × (0 < len) × (offset + len < 2 ^ 63) × Source (now bytes) len ⌝ }
     requires { ⌜ z ≡ sizeAfter (catalogueOf (view (now img))) (i .0) offset len ⌝ }
     requires { ⌜ recordCount (touchedSectors offset len) (cond (w .more) 2 1) * recordSize ≤ length (now list) ⌝ }
-    ensures { λ r. ⌜ Emitted (now (list .entry)) 0 (closed (groupsFor (view (now (img .entry))) (some (writePlan (catalogueOf (view (now (img .entry)))) (i .0) (view (now (img .entry))) offset (spanOf (now (bytes .entry)) len) time)))) (now (list .exit)) r ⌝ }
+    ensures { λ r. ⌜ Emitted (now (list .entry)) 0
+        (closed (groupsFor (view (now (img .entry))) (some (planFor (now (img .entry)) (i .0) offset (spanOf (now (bytes .entry)) len) time))))
+        (now (list .exit)) r ⌝ }
 {
     let first = offset / 512;
     let touched = (offset + len + 511) / 512 - first;
@@ -181,8 +185,7 @@ fn put_if_room(
     requires { ⌜ Grown (catalogueOf (view (now img))) (i .0) z w × (w .next .0 < g .extents) ⌝ }
     requires { ⌜ (i .0 < g .files) × (len ≤ longestTransfer) × (offset + len < 2 ^ 63) × Source (now bytes) len ⌝ }
     requires { ⌜ z ≡ sizeAfter (catalogueOf (view (now img))) (i .0) offset len ⌝ }
-    ensures { λ r. ⌜ r ≡ answerOf (view (now (img .entry))) (inVolume roomDecision (now (img .entry)) (i .0) offset (spanOf (now (bytes .entry)) len) time (length (now (list .entry)))) ⌝ }
-    ensures { λ _. ⌜ now (list .exit) ≡ listAfter (view (now (img .entry))) (inVolume roomDecision (now (img .entry)) (i .0) offset (spanOf (now (bytes .entry)) len) time (length (now (list .entry)))) (now (list .entry)) ⌝ }
+    ensures { λ r. ⌜ PlanWritesTo (now (img .entry)) (i .0) offset (spanOf (now (bytes .entry)) len) time (now (list .entry)) r (now (list .exit)) ⌝ }
 {
     if list.len() < records(w.more, offset, len) * lists::RECORD_SIZE {
         return commit::refused(volume::refusal(14));
@@ -212,8 +215,7 @@ fn write_staged(
     requires { ⌜ (lacksReserve (catalogueOf (view (now img))) ≡ false) × (0 < len) × (offset ≤ size) ⌝ }
     requires { ⌜ Asked (now img) g (i .0) size len ⌝ }
     requires { ⌜ Source (now bytes) len ⌝ }
-    ensures { λ r. ⌜ r ≡ answerOf (view (now (img .entry))) (inVolume fileDecision (now (img .entry)) (i .0) offset (spanOf (now (bytes .entry)) len) time (length (now (list .entry)))) ⌝ }
-    ensures { λ _. ⌜ now (list .exit) ≡ listAfter (view (now (img .entry))) (inVolume fileDecision (now (img .entry)) (i .0) offset (spanOf (now (bytes .entry)) len) time (length (now (list .entry)))) (now (list .entry)) ⌝ }
+    ensures { λ r. ⌜ FileWritesTo (now (img .entry)) (i .0) offset (spanOf (now (bytes .entry)) len) time (now (list .entry)) r (now (list .exit)) ⌝ }
 {
     let z = fields::most(size, offset + len);
     let w = need_for(img, g, stages, i, size, z);
@@ -240,8 +242,7 @@ fn write_file(
 ) -> Changed
     requires { ⌜ Asked (now img) g (i .0) size len ⌝ }
     requires { ⌜ Source (now bytes) len ⌝ }
-    ensures { λ r. ⌜ r ≡ answerOf (view (now (img .entry))) (inVolume fileDecision (now (img .entry)) (i .0) offset (spanOf (now (bytes .entry)) len) time (length (now (list .entry)))) ⌝ }
-    ensures { λ _. ⌜ now (list .exit) ≡ listAfter (view (now (img .entry))) (inVolume fileDecision (now (img .entry)) (i .0) offset (spanOf (now (bytes .entry)) len) time (length (now (list .entry)))) (now (list .entry)) ⌝ }
+    ensures { λ r. ⌜ FileWritesTo (now (img .entry)) (i .0) offset (spanOf (now (bytes .entry)) len) time (now (list .entry)) r (now (list .exit)) ⌝ }
 {
     if size < offset {
         return commit::refused(volume::refusal(12));
@@ -323,20 +324,55 @@ pub fn write_in(
 
 // ---- resize
 
+// How many records the list has that shrinks file i to z.
+fn shrink_count(img: &[u8], g: Geometry, i: FileIndex, z: u64) -> usize
+    requires { ⌜ Opened (now img) g ⌝ }
+    requires { ⌜ i .0 < freeFile ⌝ }
+    ensures { λ r. ⌜ r ≡ recordCount 0 (1 + sectorsHolding (ownedIn (now (img .entry)) (i .0) (extentsFor g z)) g) ⌝ }
+    ensures { λ r. ⌜ r ≤ 2048 ⌝ }
+{
+    let first = table::extents_for(g, z);
+    commit::records_for(1 + table::sectors_from(img, g, i, first))
+}
+
+// The whole list, which has room for it.
+fn put_shrink(
+    img: &[u8],
+    g: Geometry,
+    stages: &[u64],
+    i: FileIndex,
+    z: u64,
+    time: u64,
+    list: &mut [u8],
+) -> usize
+    requires { ⌜ StagesOf g (view (now img)) (now stages) ⌝ }
+    requires { ⌜ Opened (now img) g ⌝ }
+    requires { ⌜ i .0 < g .files ⌝ }
+    requires { ⌜ recordCount 0 (1 + sectorsHolding (ownedIn (now img) (i .0) (extentsFor g z)) g) * recordSize ≤ length (now list) ⌝ }
+    ensures { λ r. ⌜ Emitted (now (list .entry)) 0
+        (closed (groupsFor (view (now (img .entry))) (some (shrinkFor (now (img .entry)) (i .0) z time)))) (now (list .exit)) r ⌝ }
+{
+    let mut numbers = [0u64; 1024];
+    let s = directory::updated_entry(img, g.edition, i, z, time);
+    let k = commit::put_copy(list, 0, g, stages, &mut numbers, 0, i.sector(), s);
+    let first = table::extents_for(g, z);
+    let n = freeing::put_freed(list, k, &mut numbers, img, g, stages, i, first);
+    commit::put_commit(list, n, img, g, stages, &numbers, n)
+}
+
 // File i is shrunk to z: refusals 13 and 14, or the list.
 fn shrink_file(img: &[u8], g: Geometry, i: FileIndex, z: u64, time: u64, list: &mut [u8]) -> Changed
     requires { ⌜ Accepted (now img) ⌝ }
     requires { ⌜ Opened (now img) g ⌝ }
     requires { ⌜ i .0 < g .files ⌝ }
-    ensures { λ r. ⌜ r ≡ answerOf (view (now (img .entry))) (inVolume shrinkDecision (now (img .entry)) (i .0) z time (length (now (list .entry)))) ⌝ }
-    ensures { λ _. ⌜ now (list .exit) ≡ listAfter (view (now (img .entry))) (inVolume shrinkDecision (now (img .entry)) (i .0) z time (length (now (list .entry)))) (now (list .entry)) ⌝ }
+    ensures { λ r. ⌜ FileShrinksTo (now (img .entry)) (i .0) z time (now (list .entry)) r (now (list .exit)) ⌝ }
 {
     let mut stages = [0u64; 5];
     if table::staging(img, g, &mut stages) {
-        if list.len() < delete::shrink_count(img, g, i, z) * lists::RECORD_SIZE {
+        if list.len() < shrink_count(img, g, i, z) * lists::RECORD_SIZE {
             return commit::refused(volume::refusal(14));
         }
-        let n = delete::shrink(img, g, &stages, i, z, time, list);
+        let n = put_shrink(img, g, &stages, i, z, time, list);
         let verdict = volume::refusal(0);
         return Changed {
             verdict,
@@ -357,8 +393,7 @@ fn write_zeros(
     list: &mut [u8],
 ) -> Changed
     requires { ⌜ Asked (now img) g (i .0) size n ⌝ }
-    ensures { λ r. ⌜ r ≡ answerOf (view (now (img .entry))) (inVolume fileDecision (now (img .entry)) (i .0) size (zeros n) time (length (now (list .entry)))) ⌝ }
-    ensures { λ _. ⌜ now (list .exit) ≡ listAfter (view (now (img .entry))) (inVolume fileDecision (now (img .entry)) (i .0) size (zeros n) time (length (now (list .entry)))) (now (list .entry)) ⌝ }
+    ensures { λ r. ⌜ FileWritesTo (now (img .entry)) (i .0) size (zeros n) time (now (list .entry)) r (now (list .exit)) ⌝ }
 {
     let zeros = [0u8; 512];
     write_file(img, g, i, size, size, &zeros, n, time, list)
@@ -375,8 +410,7 @@ fn resize_file(
     list: &mut [u8],
 ) -> Changed
     requires { ⌜ Asked (now img) g (i .0) size 0 ⌝ }
-    ensures { λ r. ⌜ r ≡ answerOf (view (now (img .entry))) (inVolume sizeDecision (now (img .entry)) (i .0) z time (length (now (list .entry)))) ⌝ }
-    ensures { λ _. ⌜ now (list .exit) ≡ listAfter (view (now (img .entry))) (inVolume sizeDecision (now (img .entry)) (i .0) z time (length (now (list .entry)))) (now (list .entry)) ⌝ }
+    ensures { λ r. ⌜ FileResizesTo (now (img .entry)) (i .0) z time (now (list .entry)) r (now (list .exit)) ⌝ }
 {
     if z < size {
         return shrink_file(img, g, i, z, time, list);

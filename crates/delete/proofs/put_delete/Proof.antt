@@ -6,9 +6,9 @@ use native.Mathlib.Omega.{arith}
 use lib.ListN.{length, replicate}
 use Rattle.model.specs.Bytes.{zeroSector}
 use Rattle.model.specs.Disk.{view}
-use Rattle.model.specs.Catalogue.{catalogueOf}
-use Rattle.model.specs.Delete.{deletePlan}
-use Rattle.delete.proofs.Laws.{left, added-then, added-copy, added-committed, delete-targets, delete-alone}
+use Rattle.commit.proofs.Laws.{left, added-then, added-copy, added-committed}
+use Rattle.delete.specs.Deleting.{planFor}
+use Rattle.delete.proofs.Laws.{delete-targets, delete-alone}
 use borrow.Author.Needs.{needs}
 use Rattle.delete.proofs.put_delete.Statement.{statement}
 use Rattle.delete.proofs.put_delete.Tie as tie
@@ -77,10 +77,11 @@ returns c =
     let d = view (a .img .now) in
     let root = added-copy {numbers = replicate 1024 0} (p .put-copy .ensures .0) (p .put-copy .ensures .1) (omega arith) in
     let many : length (left (p .put-copy .ensures .1)) ≡ 1024 = ap (λ (l : List ℕ). length l) (p .put-copy .ensures .1) in
-    let entry = added-copy {numbers = left (p .put-copy .ensures .1)} {k = p .put-copy .result} {s = q .before .sector .result .0} (q .put-copy2 .ensures .0) (q .put-copy2 .ensures .1)
-    (omega (arith, many, p .put-copy .ensures .0 .next)) in
+    let entry =
+    added-copy {numbers = left (p .put-copy .ensures .1)} {k = p .put-copy .result} {s = q .before .sector .result .0}
+    (q .put-copy2 .ensures .0) (q .put-copy2 .ensures .1) (omega (arith, many, p .put-copy .ensures .0 .next)) in
     let staged = added-then {numbers = replicate 1024 0} (added-then {numbers = replicate 1024 0} root entry) (f .put-freed .ensures .0) in
-    added-committed d (deletePlan (catalogueOf d) d (a .i .0) (a .time)) staged (m .put-commit .ensures .0) (s .pre .1 .0 .is) (s .pre .0)
+    added-committed d (planFor (a .img .now) (a .i .0) (a .time)) staged (m .put-commit .ensures .0) (s .pre .1 .0 .is) (s .pre .0)
     (rw (q .before .sector .ensures, p .before .before .before .updated-root .ensures) (sym (delete-targets d (a .g) (s .pre .1 .0 .is) (a .i .0) (a .time))))
     (delete-alone d (a .i .0) (a .time))
     (omega (arith, p .put-copy .ensures .0 .next, q .put-copy2 .ensures .0 .next, f .put-freed .ensures .1 .0))

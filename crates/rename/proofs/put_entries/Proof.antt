@@ -1,16 +1,20 @@
 -- `rename::put_entries` meets its contract. The lower entry goes first.
 use native.Mathlib.Omega.{arith}
 use borrow.Author.Tests.{lt-ltb, le-ltb}
-use Rattle.delete.proofs.Laws.{added-then}
+use Rattle.commit.proofs.Laws.{added-then}
 use borrow.Author.Needs.{needs}
 use Rattle.rename.proofs.put_entries.Statement.{statement}
 use Rattle.rename.proofs.put_entries.Tie as tie
 
 put-renamed-requires : tie.Need-put-renamed-requires
-put-renamed-requires c κs = let s = c .before .before .before .before .before .before .before .before .before .before in (s .pre .0, (s .pre .1 .0, ((omega arith, omega arith), (omega arith, omega arith, omega arith))))
+put-renamed-requires c κs =
+    let s = c .before .before .before .before .before .before .before .before .before .before in
+    (s .pre .0, (s .pre .1 .0, ((omega arith, omega arith), (omega arith, omega arith, omega arith))))
 
 put-freed-entry-requires : tie.Need-put-freed-entry-requires
-put-freed-entry-requires c κs = let s = c .before .before .before .before .before .before .before .before .before .before .before .before .before .before .before .before .before in (s .pre .0, (s .pre .1 .0 .bounded, (omega arith, (omega arith, omega arith, omega arith))))
+put-freed-entry-requires c κs =
+    let s = c .before .before .before .before .before .before .before .before .before .before .before .before .before .before .before .before .before in
+    (s .pre .0, (s .pre .1 .0 .bounded, (omega arith, (omega arith, omega arith, omega arith))))
 
 same-length : tie.Need-same-length
 same-length c = search needs
@@ -27,10 +31,14 @@ returns c =
     )
 
 put-freed-entry-requires-2 : tie.Need-put-freed-entry-requires-2
-put-freed-entry-requires-2 c κs = let s = c .before .before .before .before .before .before .before .before .before .before in (s .pre .0, (s .pre .1 .0 .bounded, (omega arith, (omega arith, omega arith, omega arith))))
+put-freed-entry-requires-2 c κs =
+    let s = c .before .before .before .before .before .before .before .before .before .before in
+    (s .pre .0, (s .pre .1 .0 .bounded, (omega arith, (omega arith, omega arith, omega arith))))
 
 put-renamed-requires-2 : tie.Need-put-renamed-requires-2
-put-renamed-requires-2 c κs = let s = c .before .before .before .before .before .before .before .before .before .before .before .before .before .before .before .before .before in (s .pre .0, (s .pre .1 .0, ((omega arith, omega arith), (omega arith, omega arith, omega arith))))
+put-renamed-requires-2 c κs =
+    let s = c .before .before .before .before .before .before .before .before .before .before .before .before .before .before .before .before .before in
+    (s .pre .0, (s .pre .1 .0, ((omega arith, omega arith), (omega arith, omega arith, omega arith))))
 
 same-length-3 : tie.Need-same-length-3
 same-length-3 c = search needs

@@ -2,7 +2,7 @@
 use native.Mathlib.Omega.{arith}
 use Rattle.model.specs.Bytes.{zeroSector}
 use Rattle.model.specs.Geometry.{entryAt}
-use Rattle.delete.proofs.Laws.{added-copy}
+use Rattle.commit.proofs.Laws.{added-copy}
 use borrow.Author.Needs.{needs}
 use Rattle.rename.proofs.put_freed_entry.Statement.{statement}
 use Rattle.rename.proofs.put_freed_entry.Tie as tie
@@ -24,7 +24,10 @@ unfolding zeroSector
 returns c =
     let q = c .before .before .before .before in
     let a = c .before .before .before .before .before .before .before .before .before .before .before .args in
-    (added-copy {s = entryAt (a .j .0)} (q .put-copy .ensures .0) (rw (← q .before .sector .ensures) (q .put-copy .ensures .1)) (omega arith), omega (arith, q .put-copy .ensures .0 .next))
+    (
+      added-copy {s = entryAt (a .j .0)} (q .put-copy .ensures .0) (rw (← q .before .sector .ensures) (q .put-copy .ensures .1)) (omega arith),
+      omega (arith, q .put-copy .ensures .0 .next),
+    )
 
 pub put-freed-entry-spec : {M : Type 1} → statement M
 put-freed-entry-spec =

@@ -3,9 +3,8 @@ use mathlib.Core.Path.{sym}
 use native.Mathlib.Omega.{arith}
 use lib.ListN.{replicate}
 use Rattle.model.specs.Disk.{view}
-use Rattle.model.specs.Catalogue.{catalogueOf}
-use Rattle.model.specs.Rename.{renamePlan}
-use Rattle.delete.proofs.Laws.{added-then, added-copy, added-committed}
+use Rattle.commit.proofs.Laws.{added-then, added-copy, added-committed}
+use Rattle.rename.specs.Renaming.{planFor}
 use Rattle.rename.proofs.Laws.{rename-targets, rename-alone}
 use borrow.Author.Needs.{needs}
 use Rattle.rename.proofs.put_rename.Statement.{statement}
@@ -27,7 +26,7 @@ put-renaming-requires : tie.Need-put-renaming-requires
 put-renaming-requires c κs =
     let first = c .before .before .before .before .before .put-copy .ensures .0 .next in
     let s = c .before .before .before .before .before .before .before .before .before .before .before .before .before in
-    (s .pre .0 .inside, (s .pre .1 .0, ((omega arith, omega arith, omega arith), (omega (arith, first), omega (arith, first), omega (arith, first)))))
+    (s .pre .0 .inside, (s .pre .1 .0, ((omega arith, omega arith, omega arith), (omega (arith, first), (omega (arith, first), omega (arith, first))))))
 
 slice-aggregate-put-commit : tie.Need-slice-aggregate-put-commit
 slice-aggregate-put-commit c = search needs
@@ -54,7 +53,7 @@ returns c =
     let d = view (a .img .now) in
     let root = added-copy {numbers = replicate 1024 0} (p .put-copy .ensures .0) (p .put-copy .ensures .1) (omega arith) in
     let staged = added-then {numbers = replicate 1024 0} root (f .put-renaming .ensures .0) in
-    added-committed d (renamePlan (catalogueOf d) d (a .i .0) (a .place) (a .name .now) (a .time)) staged (m .put-commit .ensures .0) (s .pre .1 .0 .is) (s .pre .0)
+    added-committed d (planFor (a .img .now) (a .i .0) (a .place) (a .name .now) (a .time)) staged (m .put-commit .ensures .0) (s .pre .1 .0 .is) (s .pre .0)
     (rw (p .before .before .before .updated-root .ensures) (sym (rename-targets d (a .g) (s .pre .1 .0 .is) (a .i .0) (a .place) (a .name .now) (a .time))))
     (rename-alone d (a .i .0) (a .place) (a .name .now) (a .time))
     (omega (arith, p .put-copy .ensures .0 .next, f .put-renaming .ensures .1 .0))

@@ -3,7 +3,7 @@ use native.Mathlib.Omega.{arith}
 use Rattle.model.specs.Geometry.{entryAt}
 use Rattle.model.specs.Rename.{renamedRecord}
 use Rattle.commit.proofs.Decided.{edition-is}
-use Rattle.delete.proofs.Laws.{added-copy}
+use Rattle.commit.proofs.Laws.{added-copy}
 use borrow.Author.Needs.{needs}
 use Rattle.rename.proofs.put_renamed.Statement.{statement}
 use Rattle.rename.proofs.put_renamed.Tie as tie

@@ -3,8 +3,6 @@ use mathlib.Core.Path.{ap}
 use native.Mathlib.Omega.{arith}
 use Rattle.model.specs.declared.Lowest.{Lowest}
 use Rattle.model.specs.Search.{indexOf}
-use Rattle.model.specs.Disk.{view}
-use Rattle.model.specs.Catalogue.{catalogueOf}
 use Rattle.rename.specs.Renaming.{renamingCount}
 use borrow.Author.Needs.{needs}
 use Rattle.rename.proofs.put_renaming.Statement.{statement}
@@ -18,8 +16,8 @@ put-replacing-requires c κs =
     let s = c .before .before .before .before .before .before .before .before .before .before in
     let at = c .before .before .before .place .given .1 in
     let low = ap (λ (x : Lowest). indexOf x) at in
-    let n = ap (λ (x : Lowest). renamingCount (catalogueOf (view (s .args .img .now))) x) at in
-    (s .pre .0, (s .pre .1 .0, ((omega arith, omega (arith, low), omega arith), (omega (arith, n), omega arith, omega arith))))
+    let n = ap (λ (x : Lowest). renamingCount (s .args .img .now) (s .args .g) x) at in
+    (s .pre .0, (s .pre .1 .0, ((omega arith, omega (arith, low), omega arith), (omega (arith, n), (omega arith, omega arith)))))
 
 enum-told : tie.Need-enum-told
 enum-told c = search needs
@@ -27,7 +25,7 @@ enum-told c = search needs
 put-renamed-requires : tie.Need-put-renamed-requires
 put-renamed-requires c κs =
     let s = c .before .before .before .before .before .before .before .before .before in
-    let n = ap (λ (x : Lowest). renamingCount (catalogueOf (view (s .args .img .now))) x) (c .before .before .enum-told .given .1) in
+    let n = ap (λ (x : Lowest). renamingCount (s .args .img .now) (s .args .g) x) (c .before .before .enum-told .given .1) in
     (s .pre .0, (s .pre .1 .0, ((omega arith, omega arith), (omega (arith, n), omega arith, omega arith))))
 
 same-length : tie.Need-same-length

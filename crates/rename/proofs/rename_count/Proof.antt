@@ -4,8 +4,6 @@ use mathlib.Core.Path.{_≡_, ap, _∙_}
 use native.Mathlib.Omega.{arith}
 use Rattle.model.specs.declared.Lowest.{Lowest}
 use Rattle.model.specs.Search.{indexOf}
-use Rattle.model.specs.Disk.{view}
-use Rattle.model.specs.Catalogue.{catalogueOf}
 use Rattle.model.specs.WriteList.{recordCount}
 use Rattle.rename.specs.Renaming.{renamingCount}
 use borrow.Author.Needs.{needs}
@@ -34,16 +32,15 @@ records-for-requires-2 c κs = search needs
 returns : tie.Need-returns
 returns c =
     let a = c .before .before .before .before .before .before .args in
-    let d = catalogueOf (view (a .img .now)) in
-    let e = ap (λ (x : Lowest). renamingCount d x) (c .before .before .before .place .given .1) in
+    let e = ap (λ (x : Lowest). renamingCount (a .img .now) (a .g) x) (c .before .before .before .place .given .1) in
     let n = c .before .sectors-from .ensures in
-    let m : 3 + c .before .sectors-from .result ≡ 1 + renamingCount d (a .place) = omega (arith, e, n .0) in
+    let m : 3 + c .before .sectors-from .result ≡ 1 + renamingCount (a .img .now) (a .g) (a .place) = omega (arith, e, n .0) in
     (c .records-for .ensures ∙ ap (λ (x : ℕ). recordCount 0 x) m, omega (arith, c .records-for .ensures, n .1))
 
 returns-2 : tie.Need-returns-2
 returns-2 c =
     let s = c .before .before .before .before in
-    let e = ap (λ (x : Lowest). renamingCount (catalogueOf (view (s .args .img .now))) x) (c .before .enum-told .given .1) in
+    let e = ap (λ (x : Lowest). renamingCount (s .args .img .now) (s .args .g) x) (c .before .enum-told .given .1) in
     (rw e (c .records-for2 .ensures), omega (arith, c .records-for2 .ensures))
 
 pub rename-count-spec : {M : Type 1} → statement M

@@ -6,8 +6,8 @@ use native.Mathlib.Omega.{arith}
 use Rattle.model.specs.Disk.{view}
 use Rattle.model.specs.Catalogue.{catalogueOf, fileNamed}
 use Rattle.model.specs.WriteList.{recordSize}
-use Rattle.model.specs.Rename.{renamePlan}
-use Rattle.delete.proofs.Decisions.{fitted-full, fitted-short, fitted-done}
+use Rattle.commit.proofs.Decided.{fitted-full, fitted-short, fitted-done}
+use Rattle.rename.specs.Renaming.{planFor}
 use Rattle.rename.proofs.Laws.{rename-needs}
 use Rattle.rename.proofs.Decisions.{place-below}
 use borrow.Author.Needs.{needs}
@@ -47,15 +47,18 @@ same-length c = search needs
 
 returns : tie.Need-returns
 returns c =
-    let s = c .before .before .before .before .before .before .before .before .before .before .before .before .before .before .before .before in
+    let k = c .before .before .before .before .before .before .before in
+    let t = k .before .before .before .before in
+    let s = t .before .before .before .before .before in
     let a = s .args in
     let d = view (a .img .now) in
-    let place = c .before .before .before .before .before .before .before .before .file-named in
-    let n = c .before .before .before .before .before .before .before .rename-count .ensures .0 in
-    let needs = rename-needs d (a .i .0) (place .result) (a .name .now) (a .time) in
+    let place = k .before .file-named in
+    let n = k .rename-count .ensures .0 in
+    let there = t .staging .ensures .0 ∙ ap not (k .before .before .if1 .taken) in
+    let needs = rename-needs (a .img .now) (a .g) (s .pre .0 .is) (a .i .0) (place .result) (a .name .now) (a .time) in
     rw (c .refusal .ensures, ← place .ensures)
-    (fitted-done d (renamePlan (catalogueOf d) d (a .i .0) (place .result) (a .name .now) (a .time)) (a .list .now) (c .before .before .before .before .before .before .before .before .before .before .before .staging .ensures .0 ∙ ap not (c .before .before .before .before .before .before .before .before .before .if1 .taken))
-    {n = recordSize * c .before .before .before .before .before .before .before .rename-count .result} (omega (arith, n, needs)) (omega (arith, c .before .before .before .before .before .before .if2 .taken)) (c .before .before .before .put-rename .ensures))
+    (fitted-done d (planFor (a .img .now) (a .i .0) (place .result) (a .name .now) (a .time)) (a .list .now) there {n = recordSize * k .rename-count .result}
+    (omega (arith, n, needs)) (omega (arith, c .before .before .before .before .before .before .if2 .taken)) (c .before .before .before .put-rename .ensures))
 
 refusal-requires-2 : tie.Need-refusal-requires-2
 refusal-requires-2 c κs = search needs
@@ -65,14 +68,16 @@ refused-requires c κs = search needs
 
 returns-2 : tie.Need-returns-2
 returns-2 c =
-    let s = c .before .before .before .before .before .before .before .before .before .before .before .before in
+    let t = c .before .before .before .before .before .before .before in
+    let s = t .before .before .before .before .before in
     let a = s .args in
     let d = view (a .img .now) in
+    let there = t .staging .ensures .0 ∙ ap not (c .before .before .before .before .before .if1 .taken) in
     let place = c .before .before .before .before .file-named in
     let n = c .before .before .before .rename-count .ensures .0 in
-    let needs = rename-needs d (a .i .0) (place .result) (a .name .now) (a .time) in
+    let needs = rename-needs (a .img .now) (a .g) (s .pre .0 .is) (a .i .0) (place .result) (a .name .now) (a .time) in
     rw (c .refused .ensures, c .before .refusal2 .ensures, ← place .ensures)
-    (fitted-short d (renamePlan (catalogueOf d) d (a .i .0) (place .result) (a .name .now) (a .time)) (a .list .now) (c .before .before .before .before .before .before .before .staging .ensures .0 ∙ ap not (c .before .before .before .before .before .if1 .taken))
+    (fitted-short d (planFor (a .img .now) (a .i .0) (place .result) (a .name .now) (a .time)) (a .list .now) there
     (omega (arith, n, needs, c .before .before .if2 .left)))
 
 refusal-requires-3 : tie.Need-refusal-requires-3
@@ -87,7 +92,7 @@ returns-3 c =
     let a = s .args in
     let d = view (a .img .now) in
     rw (c .refused2 .ensures, c .before .refusal3 .ensures)
-    (fitted-full d (renamePlan (catalogueOf d) d (a .i .0) (fileNamed (catalogueOf d) (a .name .now)) (a .name .now) (a .time)) (a .list .now)
+    (fitted-full d (planFor (a .img .now) (a .i .0) (fileNamed (catalogueOf d) (a .name .now)) (a .name .now) (a .time)) (a .list .now)
     (c .before .before .before .before .staging .ensures .0 ∙ ap not (c .before .before .if1 .left)))
 
 pub rename-file-spec : {M : Type 1} → statement M

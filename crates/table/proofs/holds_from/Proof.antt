@@ -5,15 +5,15 @@ use mathlib.Core.Bool.{Bool, false}
 use mathlib.Core.List.{List}
 use native.Mathlib.Omega.{arith}
 use Rattle.model.specs.Search.{anyBelow}
-use Rattle.model.specs.Disk.{view}
-use Rattle.model.specs.Catalogue.{catalogueOf, ownedFrom, holdsFrom}
+use Rattle.model.specs.Table.{holdsAny}
 use Rattle.laws.proofs.Search.{anyBelow-more, anyBelow-true}
+use Rattle.table.specs.Owned.{ownedIn}
 use borrow.Author.Needs.{needs}
 use Rattle.table.proofs.holds_from.Statement.{statement}
 use Rattle.table.proofs.holds_from.Tie as tie
 
 abbrev hit : List ℕ → ℕ → ℕ → ℕ → ℕ → Bool
-hit img i o t k = ownedFrom i o (catalogueOf (view img) .table (128 * t + k))
+hit img i o t k = ownedIn img i o (128 * t + k)
 
 abbrev Inv-loop : tie.InvT-loop
 Inv-loop img g i o t k₀ k = (k ≤ 128) × (anyBelow (hit img (i .0) o t) k ≡ false)
@@ -32,7 +32,7 @@ owned-from-requires : tie.Need-owned-from-requires Inv-loop μ-loop
 owned-from-requires c κs = search needs
 
 returns : tie.Need-returns Inv-loop μ-loop
-unfolding holdsFrom
+unfolding holdsAny
 returns c =
     let a = c .before .before .before .before .before .before .args in
     sym (anyBelow-true (hit (a .img .now) (a .i .0) (a .o) (a .t)) (c .before .before .before .before .loop .k) 128 (omega arith)
@@ -48,10 +48,11 @@ loop-again : tie.Need-loop-again Inv-loop μ-loop
 loop-again c =
     let l = c .before .before .before .before .loop in
     let a = c .before .before .before .before .before .before .args in
-    (omega arith, rw (anyBelow-more (hit (a .img .now) (a .i .0) (a .o) (a .t)) (l .k), ← c .before .before .table-extent .ensures, ← c .before .owned-from .ensures, c .if1 .left) (l .inv .1))
+    let hit = hit (a .img .now) (a .i .0) (a .o) (a .t) in
+    (omega arith, rw (anyBelow-more hit (l .k), ← c .before .before .table-extent .ensures, ← c .before .owned-from .ensures, c .if1 .left) (l .inv .1))
 
 returns-2 : tie.Need-returns-2 Inv-loop μ-loop
-unfolding holdsFrom
+unfolding holdsAny
 returns-2 c =
     let e : c .before .loop .k ≡ 128 = omega arith in
     sym (rw e at (c .before .loop .inv .1))

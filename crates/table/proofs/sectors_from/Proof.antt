@@ -5,16 +5,15 @@ use mathlib.Core.Bool.{Bool}
 use mathlib.Core.List.{List}
 use native.Mathlib.Omega.{arith}
 use Rattle.model.specs.Search.{countBelow}
-use Rattle.model.specs.Disk.{view}
-use Rattle.model.specs.Catalogue.{catalogueOf, holdsFrom}
+use Rattle.model.specs.Table.{holdsAny, sectorsHolding}
 use Rattle.laws.proofs.Search.{countBelow-more}
-use Rattle.table.proofs.Laws.{sectors-from-is}
+use Rattle.table.specs.Owned.{ownedIn}
 use borrow.Author.Needs.{needs}
 use Rattle.table.proofs.sectors_from.Statement.{statement}
 use Rattle.table.proofs.sectors_from.Tie as tie
 
 abbrev hit : List ℕ → ℕ → ℕ → ℕ → Bool
-hit img i o = holdsFrom (catalogueOf (view img)) i o
+hit img i o = holdsAny (ownedIn img i o)
 
 abbrev Inv-loop : tie.InvT-loop
 Inv-loop img g i o n found₀ t₀ found t = (t ≤ n) × (found ≤ t) × (found ≡ countBelow (hit img (i .0) o) t)
@@ -32,8 +31,11 @@ loop-holds c = (omega arith, omega arith, refl)
 holds-from-requires : tie.Need-holds-from-requires Inv-loop μ-loop
 holds-from-requires c κs = search needs
 
-one-if-requires : tie.Need-one-if-requires Inv-loop μ-loop
-one-if-requires c κs = search needs
+bit-requires : tie.Need-bit-requires Inv-loop μ-loop
+bit-requires c κs = search needs
+
+cast-found : tie.Need-cast-found Inv-loop μ-loop
+cast-found c = search needs
 
 add-found : tie.Need-add-found Inv-loop μ-loop
 add-found c = search needs
@@ -50,16 +52,15 @@ loop-again c =
     let a = c .before .before .before .before .before .before .args in (
       omega arith,
       omega arith,
-      rw (countBelow-more (hit (a .img .now) (a .i .0) (a .o)) (l .t), ← c .before .holds-from .ensures, ← c .one-if .ensures .0, ← l .inv .2) (omega arith),
+      rw (countBelow-more (hit (a .img .now) (a .i .0) (a .o)) (l .t), ← c .before .holds-from .ensures, ← c .bit .ensures .0, ← l .inv .2) (omega arith),
     )
 
 returns : tie.Need-returns Inv-loop μ-loop
+unfolding sectorsHolding
 returns c =
     let l = c .before .loop in
-    let s = c .before .before .before .before in
-    let a = s .args in
     let e : l .t ≡ c .before .before .table-sectors .result = omega arith in
-    (rw (sectors-from-is (view (a .img .now)) (a .g) (s .pre .0 .is) (a .i .0) (a .o), ← c .before .before .table-sectors .ensures) (rw e at (l .inv .2)), omega arith)
+    (rw (← c .before .before .table-sectors .ensures) (rw e at (l .inv .2)), omega arith)
 
 pub sectors-from-spec : {M : Type 1} → statement M
 sectors-from-spec =
@@ -70,7 +71,8 @@ sectors-from-spec =
     table-sectors-requires
     loop-holds
     holds-from-requires
-    one-if-requires
+    bit-requires
+    cast-found
     add-found
     add-t
     loop-less

@@ -4,7 +4,7 @@ use lib.ListN.{length, replicate}
 use Prim.Native.Nat.{ℕ}
 use mathlib.Core.Path.{_≡_, sym, ap, _∙_}
 use mathlib.Core.List.{List}
-use Rattle.delete.proofs.Laws.{left}
+use Rattle.commit.proofs.Laws.{left}
 use Rattle.model.specs.Disk.{view}
 use Rattle.model.specs.Catalogue.{catalogueOf}
 use Rattle.model.specs.Write.{touchedSectors, sizeAfter}
@@ -52,7 +52,9 @@ put-copy-requires : tie.Need-put-copy-requires
 put-copy-requires c κs = (c .before .before .before .before .before .before .before .before .before .before .before .before .pre .0 .inside, search needs)
 
 taken-sector-requires : tie.Need-taken-sector-requires
-taken-sector-requires c κs = let s = c .before .before .before .before .before .before .before .before .before .before .before .before .before .before .before .before .before in (s .pre .1 .0, s .pre .1 .1 .0 .1)
+taken-sector-requires c κs =
+    let s = c .before .before .before .before .before .before .before .before .before .before .before .before .before .before .before .before .before in
+    (s .pre .1 .0, s .pre .1 .1 .0 .1)
 
 slice-aggregate-put-copy-2 : tie.Need-slice-aggregate-put-copy-2
 slice-aggregate-put-copy-2 c = search needs

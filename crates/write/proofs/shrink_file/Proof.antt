@@ -34,11 +34,11 @@ returns c =
     (c .before .before .before .before .before .before .staging .ensures .0 ∙ ap not (c .before .before .before .before .if1 .taken))
     (rw (c .before .before .before .shrink-count .ensures .0) at (c .before .before .if2 .taken)))
 
-slice-aggregate-shrink : tie.Need-slice-aggregate-shrink
-slice-aggregate-shrink c = search needs
+slice-aggregate-put-shrink : tie.Need-slice-aggregate-put-shrink
+slice-aggregate-put-shrink c = search needs
 
-shrink-requires : tie.Need-shrink-requires
-shrink-requires c κs =
+put-shrink-requires : tie.Need-put-shrink-requires
+put-shrink-requires c κs =
     let s = c .before .before .before .before .before .before .before .before .before .before in
     let k = c .before .before .before .before .before .before .staging .ensures .1 (c .before .before .before .before .if1 .taken) in
     (k, (s .pre .1 .0, (s .pre .1 .1, omega (arith, c .before .before .before .shrink-count .ensures .0, c .before .before .if2 .left))))
@@ -55,7 +55,7 @@ mul-t13 c =
       c .before .before .before .before .before .before .before .shrink-count .ensures .0,
       c .before .before .before .before .before .before .before .shrink-count .ensures .1,
       shrink-count (a .img .now) (a .g) (s .pre .1 .0) (s .pre .0 .verdict) (a .list .now) (a .i .0) (a .z) (a .time)
-          (c .before .before .before .shrink .ensures),
+          (c .before .before .before .put-shrink .ensures),
     )
 
 same-length : tie.Need-same-length
@@ -67,9 +67,10 @@ returns-2 c =
     let a = s .args in
     rw (c .refusal2 .ensures)
     (shrink-done (a .img .now) (a .g) (s .pre .1 .0) (s .pre .0 .verdict) (a .list .now) (a .i .0) (a .z) (a .time)
-    (c .before .before .before .before .before .before .before .before .before .before .staging .ensures .0 ∙ ap not (c .before .before .before .before .before .before .before .before .if1 .taken))
+    (c .before .before .before .before .before .before .before .before .before .before .staging .ensures .0
+    ∙ ap not (c .before .before .before .before .before .before .before .before .if1 .taken))
     (omega (arith, c .before .before .before .before .before .before .before .shrink-count .ensures .0, c .before .before .before .before .before .before .if2 .left))
-    (c .before .before .before .shrink .ensures))
+    (c .before .before .before .put-shrink .ensures))
 
 refusal-requires-3 : tie.Need-refusal-requires-3
 refusal-requires-3 c κs = search needs
@@ -96,8 +97,8 @@ shrink-file-spec =
     refusal-requires
     refused-requires
     returns
-    slice-aggregate-shrink
-    shrink-requires
+    slice-aggregate-put-shrink
+    put-shrink-requires
     refusal-requires-2
     mul-t13
     same-length

@@ -1,8 +1,8 @@
--- `delete::shrink_count` meets its contract.
+-- `write::shrink_count` meets its contract.
 use native.Mathlib.Omega.{arith}
 use borrow.Author.Needs.{needs}
-use Rattle.delete.proofs.shrink_count.Statement.{statement}
-use Rattle.delete.proofs.shrink_count.Tie as tie
+use Rattle.write.proofs.shrink_count.Statement.{statement}
+use Rattle.write.proofs.shrink_count.Tie as tie
 
 extents-for-requires : tie.Need-extents-for-requires
 extents-for-requires c κs = search needs

@@ -1,14 +1,16 @@
--- `delete::shrink` meets its contract.
+-- `write::put_shrink` meets its contract.
 use mathlib.Core.Path.{sym, ap}
 use native.Mathlib.Omega.{arith}
 use lib.ListN.{replicate}
 use Rattle.model.specs.Disk.{view}
-use Rattle.model.specs.Catalogue.{catalogueOf, sectorsFrom}
-use Rattle.model.specs.Resize.{shrinkPlan}
-use Rattle.delete.proofs.Laws.{added-then, added-copy, added-committed, shrink-targets, shrink-alone}
+use Rattle.model.specs.Table.{sectorsHolding}
+use Rattle.commit.proofs.Laws.{added-then, added-copy, added-committed}
+use Rattle.table.specs.Owned.{ownedIn}
+use Rattle.write.specs.FileResize.{shrinkFor}
+use Rattle.write.proofs.Resizes.{shrink-targets, shrink-alone}
 use borrow.Author.Needs.{needs}
-use Rattle.delete.proofs.shrink.Statement.{statement}
-use Rattle.delete.proofs.shrink.Tie as tie
+use Rattle.write.proofs.put_shrink.Statement.{statement}
+use Rattle.write.proofs.put_shrink.Tie as tie
 
 updated-entry-requires : tie.Need-updated-entry-requires
 updated-entry-requires c κs = search needs
@@ -34,7 +36,7 @@ put-freed-requires c κs =
     let s = p .before .before .before .before .before .before .before .before in
     let a = s .args in
     let size = c .before .before .extents-for .ensures .0 in
-    let same = ap (sectorsFrom (catalogueOf (view (a .img .now))) (a .i .0)) size in
+    let same = ap (λ o. sectorsHolding (ownedIn (a .img .now) (a .i .0) o) (a .g)) size in
     let first = p .put-copy .ensures .0 .next in
     (s .pre .0 .inside, (s .pre .1 .0, (omega arith, (omega (arith, same, first), (omega (arith, first), omega (arith, first))))))
 
@@ -48,7 +50,7 @@ put-commit-requires c κs =
     let s = p .before .before .before .before .before .before .before .before in
     let a = s .args in
     let size = f .before .before .before .extents-for .ensures .0 in
-    let same = ap (sectorsFrom (catalogueOf (view (a .img .now))) (a .i .0)) size in
+    let same = ap (λ o. sectorsHolding (ownedIn (a .img .now) (a .i .0) o) (a .g)) size in
     let first = p .put-copy .ensures .0 .next in
     let all = f .put-freed .ensures .1 in
     (s .pre .0 .inside, (omega (arith, same, first, all .0), (omega arith, (s .pre .1 .0 .bounded, (omega (arith, first, all .1), omega (arith, first, all .1), omega arith)))))
@@ -64,17 +66,19 @@ returns c =
     let s = p .before .before .before .before .before .before .before .before in
     let a = s .args in
     let d = view (a .img .now) in
-    let z = a .size in
+    let z = a .z in
     let size = f .before .before .before .extents-for .ensures .0 in
-    let same = ap (sectorsFrom (catalogueOf d) (a .i .0)) size in
-    let staged = added-then {numbers = replicate 1024 0} (added-copy (p .put-copy .ensures .0) (p .put-copy .ensures .1) (omega arith)) (f .put-freed .ensures .0) in
-    added-committed d (shrinkPlan (catalogueOf d) d (a .i .0) z (a .time)) staged (m .put-commit .ensures .0) (s .pre .1 .0 .is) (s .pre .0)
-    (rw (p .before .sector .ensures, p .before .before .before .before .updated-entry .ensures, size) (sym (shrink-targets d (a .g) (s .pre .1 .0 .is) (a .i .0) z (a .time))))
-    (shrink-alone d (a .i .0) z (a .time))
+    let same = ap (λ o. sectorsHolding (ownedIn (a .img .now) (a .i .0) o) (a .g)) size in
+    let entry = added-copy {numbers = replicate 1024 0} (p .put-copy .ensures .0) (p .put-copy .ensures .1) (omega arith) in
+    let staged = added-then {numbers = replicate 1024 0} entry (f .put-freed .ensures .0) in
+    added-committed d (shrinkFor (a .img .now) (a .i .0) z (a .time)) staged (m .put-commit .ensures .0) (s .pre .1 .0 .is) (s .pre .0)
+    (rw (p .before .sector .ensures, p .before .before .before .before .updated-entry .ensures, size)
+    (sym (shrink-targets (a .img .now) (a .g) (s .pre .1 .0 .is) (a .i .0) z (a .time))))
+    (shrink-alone (a .img .now) (a .i .0) z (a .time))
     (omega (arith, same, p .put-copy .ensures .0 .next, f .put-freed .ensures .1 .0))
 
-pub shrink-spec : {M : Type 1} → statement M
-shrink-spec =
+pub put-shrink-spec : {M : Type 1} → statement M
+put-shrink-spec =
     tie.close
     (tie.spec
     updated-entry-requires

@@ -1,0 +1,2 @@
+-- Freed table sectors as targets, one after the other.
+pub mod Laws

@@ -1,0 +1,2 @@
+-- What the contracts of the inner functions speak of.
+pub mod Marked

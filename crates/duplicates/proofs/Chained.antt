@@ -10,7 +10,7 @@ use Rattle.model.specs.Disk.{Disk}
 use Rattle.model.specs.Entry.{isOccupied}
 use Rattle.duplicates.specs.declared.Key.{Key}
 use Rattle.duplicates.specs.Keys.{placeOf}
-use Rattle.duplicates.specs.Chains.{Chains, lastIn, beforeIn, tagIn, Joined, member, Chained}
+use Rattle.duplicates.specs.Chains.{Chains, lastIn, beforeIn, Joined, member, Chained}
 use Rattle.duplicates.proofs.Chains.{chains-none, up-to, chains-pass, chains-enter}
 use Rattle.duplicates.proofs.Keys.{member-own, member-other, member-none}
 

@@ -14,7 +14,7 @@ use lib.Seq.{getD-set-same, getD-set-other}
 use borrow.Author.Tests.{eqb-true, eqb-false}
 use Rattle.model.specs.Search.{anyBelow}
 use Rattle.laws.proofs.Search.{anyBelow-more, anyBelow-true}
-use Rattle.duplicates.specs.Chains.{lastBelow, Chain, Chains, Enters, headIn, nextIn, Entered, topIn, linkIn, lastIn, beforeIn, tagIn, Joined}
+use Rattle.duplicates.specs.Chains.{lastBelow, Chain, Chains, Enters, headIn, nextIn, Entered, topIn, linkIn, lastIn, Joined}
 
 -- ---- the last index of a bucket
 

@@ -1,5 +1,6 @@
 // Faults 23 and 24: a name or an id that an occupied entry of lower index has too. Entries are taken in index order, each joins
-// the chain of the bucket that its key's hash picks, and it is compared with the entries of that chain alone.
+// the chain of the bucket that its key's hash picks, and it is compared with the entries of that chain alone, and only where their
+// tags, 8 bits more of the hash, are the same.
 use model::FileIndex;
 use model::Geometry;
 use model::Lowest;
@@ -48,7 +49,7 @@ fn half(s: &[u8], at: usize) -> u64
     wide(s[at]) + 256 * wide(s[at + 1]) + 65536 * (wide(s[at + 2]) + 256 * wide(s[at + 3]))
 }
 
-// What the eight bytes at `at` add to a name's hash: the product of their halves, each moved by `k`, so that another place tells.
+// What the eight bytes at `at` add to a name's hash: the product of their halves. `k` is added to both, so that the order of words matters.
 fn part(s: &[u8], at: usize, k: usize) -> u64
     requires { ⌜ at + 8 ≤ length (now s) ⌝ }
     requires { ⌜ k ≤ 64 ⌝ }
@@ -61,7 +62,8 @@ fn part(s: &[u8], at: usize, k: usize) -> u64
     low * high / 65536
 }
 
-// The parts of all words of eight bytes, and of the last eight bytes: no part waits for another.
+// The sum of the parts of all words of eight bytes, and of the last eight bytes. No part depends on another, so that the compiler takes
+// several at once.
 fn name_hash(name: &[u8]) -> u32
     requires { ⌜ length (now name) ≤ 512 ⌝ }
     ensures { λ r. ⌜ r ≡ nameHash (now (name .entry)) ⌝ }
@@ -87,7 +89,7 @@ fn key_hash(img: &[u8], key: Key, i: FileIndex) -> u32
 {
     match key {
         Key::Name(edition) => name_hash(directory::name_at(img, edition, i)),
-        // a remainder needs the whole id, which is then read at once
+        // of its halves the compiler would read each byte by itself; a remainder takes the whole id
         Key::Id => mixed(0, directory::id_at(img, i) % 4294967291),
     }
 }
@@ -142,8 +144,8 @@ fn is_reserved(img: &[u8], key: Key, i: FileIndex) -> bool
     }
 }
 
-// ---- chains of numbers with 16 bits each: the upper ones of number b are bucket b's last entry, the lower ones of number j the entry
-// before j. `repair` has these.
+// ---- chains without tags, which `repair` has: the upper 16 bits of number b are bucket b's last entry, the lower ones of number j the
+// entry before j
 
 // Entry i becomes the last of bucket b.
 pub fn enter(i: usize, b: usize, chains: &mut [u32])
@@ -155,8 +157,8 @@ pub fn enter(i: usize, b: usize, chains: &mut [u32])
     chains[b] = (i as u32 + 1) * 65536 + chains[b] % 65536;
 }
 
-// ---- chains with tags: number j has the entry before j in its lowest 16 bits and the tag of j's key in the next 8. The upper 8 bits of
-// the numbers 2 b and 2 b + 1 are bucket b's last entry. Where tags differ so do the keys, and the directory isn't read.
+// ---- chains with tags: number j has a link, the entry before j in the lowest 16 bits and the tag of j's key in the next 8. The upper 8
+// bits of the numbers 2 b and 2 b + 1 are bucket b's last entry, the lower byte first.
 
 fn last(chains: &[u32], b: usize) -> u32
     requires { ⌜ 2 * b + 1 < length (now chains) ⌝ }
@@ -166,6 +168,7 @@ fn last(chains: &[u32], b: usize) -> u32
     chains[2 * b] / 16777216 + chains[2 * b + 1] / 16777216 * 256
 }
 
+// Half of a bucket's last entry.
 fn put_top(k: usize, top: u32, chains: &mut [u32])
     requires { ⌜ (k < length (now chains)) × (top < 256) ⌝ }
     ensures { λ _. ⌜ now (chains .exit) ≡ set (now (chains .entry)) k (top * 16777216 + linkIn (now (chains .entry)) k) ⌝ }
@@ -192,7 +195,7 @@ fn join(i: usize, place: usize, chains: &mut [u32])
     put_top(2 * b + 1, (i as u32 + 1) / 256, chains);
 }
 
-// Whether entry j, which is before i in the chain of `place`, has its key.
+// Whether entry j, whose link this is, has entry i's key. Where the tags differ it has not, and the directory isn't read.
 fn is_shared(img: &[u8], key: Key, i: usize, j: usize, place: usize, link: u32) -> bool
     requires { ⌜ 512 * entryAt i + 512 ≤ length (now img) ⌝ }
     requires { ⌜ 512 * entryAt j + 512 ≤ length (now img) ⌝ }
@@ -345,7 +348,7 @@ fn first_cleared(img: &[u8], g: Geometry, key: Key, chains: &mut [u32]) -> Lowes
     first_in(img, g, key, chains)
 }
 
-// Four numbers for each entry, up to the most that a place can tell apart: the fewer entries share a bucket.
+// Four numbers for each entry, so that few entries share a bucket; more than 65,536 in all made the check slower.
 fn first_faulty_with(img: &[u8], g: Geometry, key: Key, scratch: &mut [u32]) -> Lowest
     requires { ⌜ Opened (now img) g ⌝ }
     requires { ⌜ KeysFit key (view (now img)) (g .files) ⌝ }

@@ -1,6 +1,5 @@
 -- `duplicates::half` meets its contract.
 use borrow.Author.Needs.{needs}
-use native.Mathlib.Omega.{arith}
 use Rattle.duplicates.specs.Keys.{halfAt}
 use Rattle.duplicates.proofs.half.Statement.{statement}
 use Rattle.duplicates.proofs.half.Tie as tie

@@ -1,8 +1,8 @@
 -- `duplicates::is_repeated` meets its contract. The loop's invariant: an occupied entry below i has the key exactly if one below
 -- j has it, and j is 0 or entry j - 1 stands in the bucket.
 use borrow.Author.Needs.{needs}
-use Prim.Native.Nat.{_+_, _-_, _*_, _/_, _%_}
-use mathlib.Core.Path.{refl, sym, ap, _∙_}
+use Prim.Native.Nat.{_-_, _/_, _%_, _<_}
+use mathlib.Core.Path.{sym, ap, _∙_}
 use native.Mathlib.Omega.{arith}
 use lib.ListN.{length}
 use Rattle.model.specs.Disk.{view}
@@ -10,8 +10,6 @@ use Rattle.duplicates.specs.Keys.{shares, isRepeated}
 use Rattle.duplicates.specs.Chains.{member}
 use Rattle.duplicates.proofs.Chains.{Walk, walk-start, walk-found, walk-falls, walk-next, walk-end}
 use Rattle.duplicates.proofs.Keys.{shares-place, shares-member}
-use Prim.Native.Nat.{_<_}
-use mathlib.Core.Path.{_≡_}
 use Rattle.model.specs.Geometry.{entryAt}
 use Rattle.model.specs.Entry.{isOccupied}
 use Rattle.laws.proofs.Booleans.{and-left}

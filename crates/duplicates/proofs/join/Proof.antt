@@ -1,9 +1,8 @@
 -- `duplicates::join` meets its contract. The link of the entry's number, then the tops of the bucket's two.
 use borrow.Author.Needs.{needs}
-use Prim.Native.Nat.{_/_, _%_}
+use Prim.Native.Nat.{_/_, _%_, _<_}
 use native.Mathlib.Omega.{arith}
 use Rattle.duplicates.proofs.Chains.{joined}
-use Prim.Native.Nat.{_<_}
 use Rattle.duplicates.specs.Chains.{lastIn}
 use Rattle.duplicates.proofs.join.Statement.{statement}
 use Rattle.duplicates.proofs.join.Tie as tie

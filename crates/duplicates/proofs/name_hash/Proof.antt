@@ -5,7 +5,7 @@ use mathlib.Core.Path.{_≡_, refl, _∙_}
 use borrow.Author.Tests.{lt-ltb, le-ltb}
 use native.Mathlib.Omega.{arith}
 use lib.ListN.{length}
-use Rattle.duplicates.specs.Keys.{partAt, wordsSum, nameHash}
+use Rattle.duplicates.specs.Keys.{wordsSum, nameHash}
 use Rattle.duplicates.proofs.Keys.{words-more}
 use Rattle.duplicates.proofs.name_hash.Statement.{statement}
 use Rattle.duplicates.proofs.name_hash.Tie as tie

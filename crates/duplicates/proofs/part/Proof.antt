@@ -1,11 +1,14 @@
 -- `duplicates::part` meets its contract. Both factors are below 2 ^ 32.
 use borrow.Author.Needs.{needs}
-use Prim.Native.Nat.{ℕ, _+_, _*_, _%_}
+use Prim.Native.Nat.{ℕ, _+_, _*_, _%_, _≤_}
 use native.Mathlib.Nat.{mul-le-mul}
 use native.Mathlib.Omega.{arith}
 use Rattle.duplicates.specs.Keys.{partAt}
 use Rattle.duplicates.proofs.part.Statement.{statement}
 use Rattle.duplicates.proofs.part.Tie as tie
+
+product : (a b : ℕ) → (a % 4294967296) * (b % 4294967296) ≤ 4294967295 * 4294967295
+product a b = mul-le-mul {n₁ = a % 4294967296} {m₁ = b % 4294967296} {n₂ = 4294967295} {m₂ = 4294967295} (omega arith) (omega arith)
 
 add-step : tie.Need-add-step
 add-step c = search needs
@@ -34,17 +37,13 @@ add-high c = search needs
 mul-result : tie.Need-mul-result
 mul-result c =
     let k = c .before .before .before .args .k in
-    let low = (c .before .half .result + (k + 1) * 2654435769) % 4294967296 in
-    let high = (c .half2 .result + (k + 1) * 2246822519) % 4294967296 in
-    omega (arith, mul-le-mul {n₁ = low} {m₁ = high} {n₂ = 4294967295} {m₂ = 4294967295} (omega arith) (omega arith))
+    omega (arith, product (c .before .half .result + (k + 1) * 2654435769) (c .half2 .result + (k + 1) * 2246822519))
 
 returns : tie.Need-returns
 unfolding partAt
 returns c =
     let k = c .before .before .before .args .k in
-    let low = (c .before .half .result + (k + 1) * 2654435769) % 4294967296 in
-    let high = (c .half2 .result + (k + 1) * 2246822519) % 4294967296 in
-    let most = mul-le-mul {n₁ = low} {m₁ = high} {n₂ = 4294967295} {m₂ = 4294967295} (omega arith) (omega arith) in
+    let most = product (c .before .half .result + (k + 1) * 2654435769) (c .half2 .result + (k + 1) * 2246822519) in
     (rw (← c .before .half .ensures .0, ← c .half2 .ensures .0), omega (arith, most))
 
 pub part-spec : {M : Type 1} → statement M

@@ -1,12 +1,10 @@
 -- Freed table sectors as targets: one that is marked, and all of a loop over the table's sectors, by any test of extents. Assumes nothing.
 use Prim.Native.Nat.{ℕ, _+_, _*_, _≤_, _<_}
-use mathlib.Core.Path.{_≡_, refl, sym, ap, _∙_}
-use mathlib.Core.Bool.{Bool, true, false, cond}
+use mathlib.Core.Path.{_≡_, sym, ap, _∙_}
+use mathlib.Core.Bool.{Bool, true}
 use mathlib.Core.List.{List, [], _∷_}
 use native.Mathlib.Nat.{zero-add}
 use native.Mathlib.Omega.{arith}
-use lib.Dec.{eqb}
-use lib.ListN.{length}
 use Rattle.model.specs.declared.Geometry.{Geometry}
 use Rattle.model.specs.Search.{concatenated, countBelow}
 use Rattle.model.specs.Geometry.{tableAt, tableSectors}
@@ -19,16 +17,8 @@ use Rattle.laws.proofs.Count.{countBelow-le, countBelow-mono}
 use Rattle.laws.proofs.Freeing.{freed-hit, freed-ext, length-firsts}
 use Rattle.commit.specs.Commit.{Added}
 use Rattle.commit.proofs.Laws.{added-none, added-then}
-use Rattle.table.specs.Owned.{isMarked, Marks}
+use Rattle.table.specs.Owned.{isMarked}
 use Rattle.freeing.specs.Marked.{markedSector}
-
--- bytes that mark what a test picks
-pub marks-are : (p : ℕ → Bool) (n : ℕ) (marks : List ℕ) → Marks p n marks → (k : ℕ) → k < n → isMarked marks k ≡ p k
-marks-are p n marks h k l = ap (λ x. eqb x 1) (h k l) ∙ one (p k)
-  where
-    one : (b : Bool) → eqb (cond b 1 0) 1 ≡ b
-    one true = refl
-    one false = refl
 
 module _ (freed : ℕ → Bool) (g : Geometry) (d : Disk) where
   -- the sector that holds one, by marks of its entries

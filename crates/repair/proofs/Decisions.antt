@@ -16,38 +16,30 @@ use Rattle.model.specs.declared.Verdict.{Verdict}
 use Rattle.model.specs.declared.Changed.{Changed}
 use Rattle.model.specs.declared.Repaired.{Repaired}
 use Rattle.model.specs.Search.{first, countBelow}
-use Rattle.model.specs.Geometry.{tableSectors}
 use Rattle.model.specs.Disk.{Disk}
 use Rattle.model.specs.Superblock.{geometryIn, stateOn}
+use Rattle.model.specs.Table.{sectorsHolding}
 use Rattle.model.specs.Catalogue.{Catalogue, catalogueOf, lacksReserve}
 use Rattle.model.specs.Faults.{fault21, fault22, fault23, fault24, fault25, fault26, orElse, faultsIn}
 use Rattle.model.specs.Refusals.{verdictOf, andThen, isDone, done, refusal, imageVerdict, stateNumber}
 use Rattle.model.specs.WriteList.{Plan, Decision, Emitted, closed, recordSize, recordCount, groupsFor, listLength, listAfter, planConditions}
-use Rattle.model.specs.Repair.{isStray, strays, repaired, repairPlanned, repairVerdict, repairDecision, doneBut, notRepaired, repairAnswer, repairList}
+use Rattle.model.specs.Repair.{isStray, strays, repaired, repairPlan, repairPlanned, repairVerdict, repairDecision, doneBut, notRepaired, repairAnswer, repairList}
 use Rattle.model.specs.Opened.{volumeLength}
 use Rattle.laws.proofs.Search.{first-none}
 use Rattle.laws.proofs.Refusals.{image-done, own-done}
 use Rattle.laws.proofs.WriteList.{emit-nil}
 use Rattle.laws.proofs.Repaired.{fault25-repaired}
 use Rattle.soundness.specs.Directory.{directoryFault}
-use Rattle.commit.proofs.Decided.{ComesTo}
-use Rattle.delete.specs.Staging.{fitted}
-use Rattle.delete.proofs.Decisions.{fitted-full, fitted-short, fitted-done}
+use Rattle.commit.specs.Decided.{fitted, ComesTo}
+use Rattle.commit.proofs.Decided.{fitted-none, fitted-full, fitted-short, fitted-done}
 use Rattle.repair.specs.declared.Mended.{Mended}
-use Rattle.repair.specs.Strays.{Found, isMarked}
-use Rattle.repair.specs.Freeing.{holdsFreed, freeingPlan, Mends}
-use Rattle.repair.proofs.Strays.{marked-is}
-use Rattle.repair.proofs.Freeing.{geometry-is, planned-none, planned-some, freeing-needs}
+use Rattle.repair.specs.Mending.{Mends}
+use Rattle.repair.proofs.Planned.{geometry-is, repair-needs, planned-none, planned-some}
 
 -- ---- behind the refusals 1 to 6
 
--- no plan, and an empty list
-fitted-none : (d : Disk) (list : List ℕ) → ComesTo d (fitted d none (length list)) list (record { verdict = done; length = 0 }) list
-unfolding groupsFor verdictOf planConditions
-fitted-none d list = rw (le-ltb (length list) 0 (omega arith)) (refl, sym (emit-nil list 0))
-
-module _ (d : Disk) (g : Geometry) (is : g ≡ geometryIn (d 0)) (marks : List ℕ) (found : Found g d (g .extents) marks) (list : List ℕ)
-    (n : ℕ) (counted : n ≡ countBelow (isStray (catalogueOf d)) (g .extents)) (lacking : Lowest) (lacks : lacking ≡ first (fault26 (repaired (catalogueOf d))) (g .files)) where
+module _ (d : Disk) (g : Geometry) (is : g ≡ geometryIn (d 0)) (list : List ℕ) (n : ℕ) (counted : n ≡ countBelow (isStray (catalogueOf d)) (g .extents))
+    (lacking : Lowest) (lacks : lacking ≡ first (fault26 (repaired (catalogueOf d))) (g .files)) where
   abbrev c : Catalogue
   c = catalogueOf d
 
@@ -65,35 +57,39 @@ module _ (d : Disk) (g : Geometry) (is : g ≡ geometryIn (d 0)) (marks : List �
   -- nothing is freed
   pub mends-none : n ≡ 0 → Mends d list (record { number = 0; freed = 0; length = 0; lacking = lacking }) list
   mends-none z =
-      let r = comes (planned-none d g is (sym counted ∙ z)) (fitted-none d list) in
-      record { answers = r .0; leaves = r .1; freed = λ e. sym z ∙ freed-are; lacking = lacking-is }
+      record { comes = comes (planned-none d g is (sym counted ∙ z)) (fitted-none d list); freed = λ e. sym z ∙ freed-are; lacking = lacking-is }
 
   module _ (more : n ≢ 0) where
     abbrev plan : Plan
-    plan = freeingPlan (isMarked marks (g .extents)) g d
+    plan = repairPlan (catalogueOf d) d
+
+    -- how many bytes its list takes
+    abbrev needed : ℕ
+    needed = recordCount 0 (sectorsHolding (isStray (catalogueOf d)) g) * recordSize
 
     planned : repairPlanned c d ≡ some plan
-    planned =
-        planned-some d g is (λ z. more (counted ∙ z)) ∙ ap (λ (p : ℕ → Bool). some (freeingPlan p g d)) (sym (marked-is d g is marks found))
+    planned = planned-some d g is (λ z. more (counted ∙ z))
 
-    pub mends-some : {after : List ℕ} {j : ℕ} (k : ℕ) → lacksReserve (catalogueOf d) ≡ false
-        → k ≡ recordCount 0 (countBelow (holdsFreed (isMarked marks (g .extents))) (tableSectors g)) * recordSize → k ≤ length list
-        → Emitted list 0 (closed (groupsFor d (some (freeingPlan (isMarked marks (g .extents)) g d)))) after j
+    pub mends-some : {after : List ℕ} {j : ℕ} (k : ℕ) → lacksReserve (catalogueOf d) ≡ false → k ≡ needed → k ≤ length list
+        → Emitted list 0 (closed (groupsFor d (some (repairPlan (catalogueOf d) d)))) after j
         → Mends d list (record { number = 0; freed = n; length = k; lacking = lacking }) after
-    mends-some k has q room e =
-        let r = comes planned (fitted-done d plan list has (q ∙ sym (freeing-needs (isMarked marks (g .extents)) g d)) room e) in
-        record { answers = r .0; leaves = r .1; freed = λ _. freed-are; lacking = lacking-is }
+    mends-some k has q room e = record {
+      comes = comes planned (fitted-done d plan list has (q ∙ sym (repair-needs d g is)) room e);
+      freed = λ _. freed-are;
+      lacking = lacking-is;
+    }
 
-    pub mends-short : lacksReserve (catalogueOf d) ≡ false → length list < recordCount 0 (countBelow (holdsFreed (isMarked marks (g .extents))) (tableSectors g)) * recordSize
+    pub mends-short : lacksReserve (catalogueOf d) ≡ false → length list < needed
         → Mends d list (record { number = 14; freed = 0; length = 0; lacking = lacking }) list
-    mends-short has room =
-        let r = comes planned (fitted-short d plan list has (omega (arith, freeing-needs (isMarked marks (g .extents)) g d))) in
-        record { answers = r .0; leaves = r .1; freed = λ h. absurd (omega (arith, h)); lacking = lacking-is }
+    mends-short has room = record {
+      comes = comes planned (fitted-short d plan list has (omega (arith, repair-needs d g is)));
+      freed = λ h. absurd (omega (arith, h));
+      lacking = lacking-is;
+    }
 
     pub mends-frozen : lacksReserve (catalogueOf d) ≡ true → Mends d list (record { number = 13; freed = 0; length = 0; lacking = lacking }) list
     mends-frozen lack =
-        let r = comes planned (fitted-full d plan list lack) in
-        record { answers = r .0; leaves = r .1; freed = λ h. absurd (omega (arith, h)); lacking = lacking-is }
+        record { comes = comes planned (fitted-full d plan list lack); freed = λ h. absurd (omega (arith, h)); lacking = lacking-is }
 
 -- ---- the first fault that remains
 
@@ -179,10 +175,10 @@ module _ (len : ℕ) (d : Disk) (list : List ℕ) where
     module _ {r : Mended} {after : List ℕ} (m : Mends d list r after) where
       leaves : after ≡ repairList len d list
       unfolding repairList
-      leaves = m .leaves ∙ ap (λ (x : Decision). listAfter d x list) (sym from-later)
+      leaves = m .comes .1 ∙ ap (λ (x : Decision). listAfter d x list) (sym from-later)
 
       verdict-was : repairDecision len d (length list) .verdict ≡ refusal (r .number)
-      verdict-was = ap (λ (x : Decision). x .verdict) from-later ∙ sym (ap (λ (a : Changed). a .verdict) (m .answers))
+      verdict-was = ap (λ (x : Decision). x .verdict) from-later ∙ sym (ap (λ (a : Changed). a .verdict) (m .comes .0))
 
       pub repair-refused : r .number ≢ 0 → Comes len d list (notRepaired (refusal (r .number))) after
       unfolding repairAnswer
@@ -193,5 +189,5 @@ module _ (len : ℕ) (d : Disk) (list : List ℕ) where
       unfolding repairAnswer
       repair-done w z q =
           let k : r .length ≡ listLength (groupsFor d (repairDecision len d (length list) .plan))
-          = ap (λ (a : Changed). a .length) (m .answers) ∙ ap (λ (x : Decision). listLength (groupsFor d (x .plan))) (sym from-later) in
+          = ap (λ (a : Changed). a .length) (m .comes .0) ∙ ap (λ (x : Decision). listLength (groupsFor d (x .plan))) (sym from-later) in
           (rw (verdict-was, z, q, m .freed z, k), leaves)

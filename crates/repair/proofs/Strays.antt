@@ -22,7 +22,9 @@ use Rattle.model.specs.Catalogue.{catalogueOf}
 use Rattle.model.specs.Repair.{isStray}
 use Rattle.laws.proofs.Booleans.{and-true, and-yes}
 use Rattle.laws.proofs.Repair.{past-count, stray-is}
-use Rattle.repair.specs.Strays.{bucketOf, member, samePart, Found, isMarked}
+use Rattle.table.specs.Owned.{isMarked, Marks}
+use Rattle.table.proofs.Laws.{marks-are}
+use Rattle.repair.specs.Strays.{bucketOf, member, samePart}
 
 -- ---- buckets
 
@@ -84,18 +86,16 @@ module _ (d : Disk) (g : Geometry) (is : g ≡ geometryIn (d 0)) where
       not b && (not (ltb (tableFile g d e) (g .files) && isOccupied (d (entryAt (tableFile g d e))))
       || leb (numberIn (d (entryAt (tableFile g d e))) (entryField .size)) (tableOffset g d e * extentBytes g) || anyBelow (samePart g d e) e)) (eq-eqb (tableFile g d e) freeFile z))
 
-  -- the bytes of all extents say what the definition says
-  pub marked-is : (marks : List ℕ) → Found g d (g .extents) marks → isMarked marks (g .extents) ≡ isStray (catalogueOf d)
-  marked-is marks found = fun-ext (λ k. go k (ltb k (g .extents)) refl)
+  -- the bytes of all extents say what the definition says, and those behind them are 0
+  pub marked-is : (marks : List ℕ) → Marks (isStray (catalogueOf d)) (g .extents) marks → ((k : ℕ) → g .extents ≤ k → getD marks k 0 ≡ 0)
+      → isMarked marks ≡ isStray (catalogueOf d)
+  marked-is marks found past = fun-ext (λ k. go k (ltb k (g .extents)) refl)
     where
-      one : (b : Bool) → eqb (cond b 1 0) 1 ≡ b
-      one true = refl
-      one false = refl
-
-      go : (k : ℕ) (b : Bool) → ltb k (g .extents) ≡ b → isMarked marks (g .extents) k ≡ isStray (catalogueOf d) k
-      go k true t =
-          ap (λ (x : Bool). x && eqb (getD marks k 0) 1) t ∙ ap (λ (x : ℕ). eqb x 1) (found k (ltb-true k (g .extents) t)) ∙ one (isStray (catalogueOf d) k)
-      go k false t = ap (λ (x : Bool). x && eqb (getD marks k 0) 1) t ∙ sym (stray-past k (ltb-false k (g .extents) t))
+      go : (k : ℕ) (b : Bool) → ltb k (g .extents) ≡ b → isMarked marks k ≡ isStray (catalogueOf d) k
+      go k true t = marks-are (isStray (catalogueOf d)) (g .extents) marks found k (ltb-true k (g .extents) t)
+      go k false t =
+          let h : g .extents ≤ k = ltb-false k (g .extents) t in
+          ap (λ x. eqb x 1) (past k h) ∙ sym (stray-past k h)
 
   -- ---- an extent that isn't free, test by test
 

@@ -1,17 +1,15 @@
 -- Which extents are freed, and which files lack an extent then, by the arrays that a repair has.
 use Prim.Native.Nat.{ℕ, _+_, _*_, _/_, _<_}
 use mathlib.Core.Path.{_≡_}
-use mathlib.Core.Bool.{Bool, cond, not, _&&_}
+use mathlib.Core.Bool.{Bool, not, _&&_}
 use mathlib.Core.List.{List}
-use lib.Dec.{eqb, ltb}
+use lib.Dec.{eqb}
 use lib.ListN.{length, getD}
 use Rattle.model.specs.declared.Geometry.{Geometry}
 use Rattle.model.specs.Search.{countBelow}
 use Rattle.model.specs.Geometry.{FileNumber, ExtentNumber}
 use Rattle.model.specs.Disk.{Disk}
 use Rattle.model.specs.Table.{freeFile, tableFile, tableOffset}
-use Rattle.model.specs.Catalogue.{catalogueOf}
-use Rattle.model.specs.Repair.{isStray}
 use Rattle.duplicates.specs.Keys.{mixed}
 use Rattle.duplicates.specs.Chains.{Chains, headIn, nextIn}
 
@@ -32,10 +30,6 @@ module _ (g : Geometry) (d : Disk) where
   abbrev pub samePart : ExtentNumber → ExtentNumber → Bool
   samePart e k = eqb (tableFile g d k) (tableFile g d e) && eqb (tableOffset g d k) (tableOffset g d e)
 
-  -- the bytes of the extents below e say which are freed, by 1
-  abbrev pub Found : ExtentNumber → List ℕ → Type 0
-  Found e marks = (k : ExtentNumber) → k < e → getD marks k 0 ≡ cond (isStray (catalogueOf d) k) 1 0
-
   -- extent k stays and is file i's
   abbrev pub keeps : (ExtentNumber → Bool) → FileNumber → ExtentNumber → Bool
   keeps freed i k = eqb (tableFile g d k) i && not (freed k)
@@ -43,7 +37,3 @@ module _ (g : Geometry) (d : Disk) where
   -- the numbers of the files count those of their extents below e that stay
   abbrev pub Kept : (ExtentNumber → Bool) → ExtentNumber → List ℕ → Type 0
   Kept freed e kept = (i : FileNumber) → i < g .files → getD kept i 0 ≡ countBelow (keeps freed i) e
-
--- extent k's byte says that it is freed; none past the last of n extents is
-abbrev pub isMarked : List ℕ → ℕ → ExtentNumber → Bool
-isMarked marks n k = ltb k n && eqb (getD marks k 0) 1

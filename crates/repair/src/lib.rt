@@ -8,27 +8,28 @@ use model::Repaired;
 use model::Soundness;
 use model::Verdict;
 ghost use mathlib.Core.Path.{_≡_};
-ghost use mathlib.Core.Bool.{true, false, cond};
+ghost use mathlib.Core.Bool.{true, false};
 ghost use mathlib.Core.Option.{some};
 ghost use Prim.Native.Nat.{ℕ, _+_, _*_, _≤_, _<_};
 ghost use lib.Dec.{eqb};
 ghost use lib.ListN.{length, getD};
 ghost use Rattle.model.specs.Search.{first, anyBelow, countBelow};
-ghost use Rattle.model.specs.Geometry.{tableAt, tableSectors};
+ghost use Rattle.model.specs.Geometry.{tableSectors};
 ghost use Rattle.model.specs.Disk.{view, onImage};
 ghost use Rattle.model.specs.Superblock.{stateOn};
-ghost use Rattle.model.specs.Table.{freeFile, tableFile, tableOffset, freedIn};
+ghost use Rattle.model.specs.Table.{freeFile, tableFile, tableOffset, holdsAny, sectorsHolding};
 ghost use Rattle.model.specs.Catalogue.{catalogueOf};
 ghost use Rattle.model.specs.Faults.{fault21, fault26, faultsIn};
 ghost use Rattle.model.specs.Refusals.{stateNumber};
 ghost use Rattle.model.specs.WriteList.{recordSize, recordCount, groupsFor, closed, Emitted};
 ghost use Rattle.model.specs.Opened.{Bounded, Opened, inVolume, Readable};
 ghost use Rattle.model.specs.Lent.{onLent};
+ghost use Rattle.model.specs.Freeing.{freedSector, freedSectors};
 ghost use Rattle.model.specs.Repair.{isStray, repaired, doneBut, repairAnswer, repairList};
-ghost use Rattle.commit.specs.Commit.{Stages, StagesOf};
-ghost use Rattle.delete.specs.Staging.{Added};
-ghost use Rattle.repair.specs.Strays.{bucketOf, Linked, samePart, Found, isMarked, Kept};
-ghost use Rattle.repair.specs.Freeing.{holdsFreed, freedSector, freeingPlan, Mends};
+ghost use Rattle.commit.specs.Commit.{Stages, StagesOf, Added};
+ghost use Rattle.table.specs.Owned.{isMarked};
+ghost use Rattle.repair.specs.Strays.{bucketOf, Linked, samePart, Kept};
+ghost use Rattle.repair.specs.Mending.{planFor, Mends};
 
 // ---- which extents are freed
 
@@ -117,28 +118,20 @@ fn is_stray(img: &[u8], g: Geometry, e: usize, chains: &mut [u32]) -> bool
     is_needless(img, g, extent, again)
 }
 
-fn bit(b: bool) -> u8
-    ensures { λ r. ⌜ (r ≡ cond b 1 0) × (r ≤ 1) ⌝ }
-{
-    if b {
-        return 1;
-    }
-    0
-}
-
-// The byte of each extent says whether it is freed. How many are.
+// The byte of each extent that is freed becomes 1; all were 0. How many are.
 fn mark_strays(img: &[u8], g: Geometry, chains: &mut [u32], marks: &mut [u8]) -> u64
     requires { ⌜ Opened (now img) g ⌝ }
     requires { ⌜ (length (now chains) ≤ 65536) × (g .extents ≤ length (now chains)) × (g .extents ≤ length (now marks)) ⌝ }
     requires { ⌜ ((b : ℕ) → b < length (now chains) → getD (now chains) b 0 ≡ 0) ⌝ }
-    ensures { λ r. ⌜ Found g (view (now (img .entry))) (g .extents) (now (marks .exit)) ⌝ }
+    requires { ⌜ ((e : ℕ) → getD (now marks) e 0 ≡ 0) ⌝ }
+    ensures { λ r. ⌜ isMarked (now (marks .exit)) ≡ isStray (catalogueOf (view (now (img .entry)))) ⌝ }
     ensures { λ r. ⌜ r ≡ countBelow (isStray (catalogueOf (view (now (img .entry))))) (g .extents) ⌝ }
 {
     let n = g.extents as usize;
     let mut found: u64 = 0;
     let mut e: usize = 0;
     while e < n {
-        let one = bit(is_stray(img, g, e, chains));
+        let one = fields::bit(is_stray(img, g, e, chains));
         marks[e] = one;
         found += one as u64;
         e += 1;
@@ -148,26 +141,15 @@ fn mark_strays(img: &[u8], g: Geometry, chains: &mut [u32], marks: &mut [u8]) ->
 
 // ---- their table sectors
 
-fn is_marked(marks: &[u8], g: Geometry, e: Extent) -> bool
-    requires { ⌜ g .extents ≤ length (now marks) ⌝ }
-    ensures { λ r. ⌜ r ≡ isMarked (now (marks .entry)) (g .extents) (e .0) ⌝ }
-{
-    if e.0 < g.extents {
-        let k = e.0 as usize;
-        return marks[k] == 1;
-    }
-    false
-}
-
 // Table sector t holds an extent that is freed.
-fn holds_marked(marks: &[u8], g: Geometry, t: u64) -> bool
-    requires { ⌜ Bounded g ⌝ }
-    requires { ⌜ (g .extents ≤ length (now marks)) × (t < tableSectors g) ⌝ }
-    ensures { λ r. ⌜ r ≡ holdsFreed (isMarked (now (marks .entry)) (g .extents)) t ⌝ }
+fn holds_marked(marks: &[u8], t: u64) -> bool
+    requires { ⌜ 128 * t + 128 ≤ length (now marks) ⌝ }
+    ensures { λ r. ⌜ r ≡ holdsAny (isMarked (now (marks .entry))) t ⌝ }
 {
-    let mut k: u64 = 0;
+    let from = (128 * t) as usize;
+    let mut k: usize = 0;
     while k < 128 {
-        if is_marked(marks, g, g.table_extent(t, k)) {
+        if marks[from + k] == 1 {
             return true;
         }
         k += 1;
@@ -178,38 +160,22 @@ fn holds_marked(marks: &[u8], g: Geometry, t: u64) -> bool
 // How many table sectors hold one.
 fn marked_sectors(marks: &[u8], g: Geometry) -> u64
     requires { ⌜ Bounded g ⌝ }
-    requires { ⌜ g .extents ≤ length (now marks) ⌝ }
-    ensures { λ r. ⌜ r ≡ countBelow (holdsFreed (isMarked (now (marks .entry)) (g .extents))) (tableSectors g) ⌝ }
+    requires { ⌜ 128 * tableSectors g ≤ length (now marks) ⌝ }
+    ensures { λ r. ⌜ r ≡ sectorsHolding (isMarked (now (marks .entry))) g ⌝ }
     ensures { λ r. ⌜ r ≤ tableSectors g ⌝ }
 {
     let n = g.table_sectors();
     let mut found: u64 = 0;
     let mut t: u64 = 0;
     while t < n {
-        found += bit(holds_marked(marks, g, t)) as u64;
+        found += fields::bit(holds_marked(marks, t)) as u64;
         t += 1;
     }
     found
 }
 
-// Table sector t with its marked entries freed.
-fn freed(img: &[u8], g: Geometry, marks: &[u8], t: u64) -> [u8; 512]
-    requires { ⌜ Opened (now img) g ⌝ }
-    requires { ⌜ (g .extents ≤ length (now marks)) × (t < tableSectors g) ⌝ }
-    ensures { λ r. ⌜ r ≡ freedIn (λ k. isMarked (now (marks .entry)) (g .extents) (128 * t + k)) (view (now (img .entry)) (tableAt g + t)) 128 ⌝ }
-{
-    let mut a = fields::sector(img, g.table_sector(t));
-    let mut k: usize = 0;
-    while k < 128 {
-        let hit = is_marked(marks, g, g.table_extent(t, k as u64));
-        table::free_one(&mut a, k, hit);
-        k += 1;
-    }
-    a
-}
-
-// Its copy, freed, is record k, if it holds one.
-fn put_freed_sector(
+// The copy of table sector t, freed, is record k, if the sector holds one.
+fn put_marked_sector(
     list: &mut [u8],
     k: usize,
     numbers: &mut [u64],
@@ -221,20 +187,21 @@ fn put_freed_sector(
 ) -> usize
     requires { ⌜ Stages g (now stages) ⌝ }
     requires { ⌜ Opened (now img) g ⌝ }
-    requires { ⌜ (g .extents ≤ length (now marks)) × (t < tableSectors g) ⌝ }
+    requires { ⌜ (t < tableSectors g) × (128 * tableSectors g ≤ length (now marks)) ⌝ }
     requires { ⌜ ((k + 1) * recordSize ≤ length (now list)) × (k < 640) × (k < length (now numbers)) ⌝ }
-    ensures { λ r. ⌜ Added g (now (stages .entry)) (now (numbers .entry)) (now (list .entry)) k (freedSector (isMarked (now (marks .entry)) (g .extents)) g (view (now (img .entry))) t) (now (numbers .exit)) (now (list .exit)) r ⌝ }
-    ensures { λ r. ⌜ (r ≡ k + cond (holdsFreed (isMarked (now (marks .entry)) (g .extents)) t) 1 0) × (r ≤ k + 1) ⌝ }
+    ensures { λ r. ⌜ Added g (now (stages .entry)) (now (numbers .entry)) (now (list .entry)) k
+        (freedSector (isMarked (now (marks .entry))) g (view (now (img .entry))) t) (now (numbers .exit)) (now (list .exit)) r ⌝ }
 {
-    if holds_marked(marks, g, t) {
-        let s = freed(img, g, marks, t);
-        return commit::put_copy(list, k, g, stages, numbers, k, g.table_sector(t), s);
+    if holds_marked(marks, t) {
+        let from = (128 * t) as usize;
+        let part = &marks[from..from + 128];
+        return freeing::put_freed_sector(list, k, numbers, img, g, stages, t, part);
     }
     k
 }
 
 // The copies of all such table sectors, from record 0 on.
-fn put_freed(
+fn put_marked(
     list: &mut [u8],
     numbers: &mut [u64],
     img: &[u8],
@@ -244,16 +211,17 @@ fn put_freed(
 ) -> usize
     requires { ⌜ Stages g (now stages) ⌝ }
     requires { ⌜ Opened (now img) g ⌝ }
-    requires { ⌜ g .extents ≤ length (now marks) ⌝ }
-    requires { ⌜ ((countBelow (holdsFreed (isMarked (now marks) (g .extents))) (tableSectors g) + 1) * recordSize ≤ length (now list)) × (tableSectors g ≤ length (now numbers)) ⌝ }
-    ensures { λ r. ⌜ Added g (now (stages .entry)) (now (numbers .entry)) (now (list .entry)) 0 (freeingPlan (isMarked (now (marks .entry)) (g .extents)) g (view (now (img .entry))) .targets) (now (numbers .exit)) (now (list .exit)) r ⌝ }
-    ensures { λ r. ⌜ (r ≡ countBelow (holdsFreed (isMarked (now (marks .entry)) (g .extents))) (tableSectors g)) × (r ≤ tableSectors g) ⌝ }
+    requires { ⌜ 128 * tableSectors g ≤ length (now marks) ⌝ }
+    requires { ⌜ ((sectorsHolding (isMarked (now marks)) g + 1) * recordSize ≤ length (now list)) × (tableSectors g ≤ length (now numbers)) ⌝ }
+    ensures { λ r. ⌜ Added g (now (stages .entry)) (now (numbers .entry)) (now (list .entry)) 0
+        (freedSectors (isMarked (now (marks .entry))) g (view (now (img .entry)))) (now (numbers .exit)) (now (list .exit)) r ⌝ }
+    ensures { λ r. ⌜ (r ≡ sectorsHolding (isMarked (now (marks .entry))) g) × (r ≤ tableSectors g) ⌝ }
 {
     let n = g.table_sectors();
     let mut j: usize = 0;
     let mut t: u64 = 0;
     while t < n {
-        j = put_freed_sector(list, j, numbers, img, g, stages, marks, t);
+        j = put_marked_sector(list, j, numbers, img, g, stages, marks, t);
         t += 1;
     }
     j
@@ -263,12 +231,13 @@ fn put_freed(
 fn put_repair(img: &[u8], g: Geometry, stages: &[u64], marks: &[u8], list: &mut [u8]) -> usize
     requires { ⌜ StagesOf g (view (now img)) (now stages) ⌝ }
     requires { ⌜ Opened (now img) g ⌝ }
-    requires { ⌜ g .extents ≤ length (now marks) ⌝ }
-    requires { ⌜ recordCount 0 (countBelow (holdsFreed (isMarked (now marks) (g .extents))) (tableSectors g)) * recordSize ≤ length (now list) ⌝ }
-    ensures { λ r. ⌜ Emitted (now (list .entry)) 0 (closed (groupsFor (view (now (img .entry))) (some (freeingPlan (isMarked (now (marks .entry)) (g .extents)) g (view (now (img .entry))))))) (now (list .exit)) r ⌝ }
+    requires { ⌜ (isMarked (now marks) ≡ isStray (catalogueOf (view (now img)))) × (128 * tableSectors g ≤ length (now marks)) ⌝ }
+    requires { ⌜ recordCount 0 (sectorsHolding (isMarked (now marks)) g) * recordSize ≤ length (now list) ⌝ }
+    ensures { λ r. ⌜ Emitted (now (list .entry)) 0
+        (closed (groupsFor (view (now (img .entry))) (some (planFor (now (img .entry)))))) (now (list .exit)) r ⌝ }
 {
     let mut numbers = [0u64; 1024];
-    let n = put_freed(list, &mut numbers, img, g, stages, marks);
+    let n = put_marked(list, &mut numbers, img, g, stages, marks);
     commit::put_commit(list, n, img, g, stages, &numbers, n)
 }
 
@@ -278,14 +247,13 @@ fn put_repair(img: &[u8], g: Geometry, stages: &[u64], marks: &[u8], list: &mut 
 fn count_extent(img: &[u8], g: Geometry, e: usize, marks: &[u8], kept: &mut [u32])
     requires { ⌜ Opened (now img) g ⌝ }
     requires { ⌜ (e < g .extents) × (g .extents ≤ length (now marks)) × (g .files ≤ length (now kept)) ⌝ }
-    requires { ⌜ Kept g (view (now img)) (isMarked (now marks) (g .extents)) e (now kept) ⌝ }
-    ensures { λ _. ⌜ Kept g (view (now (img .entry))) (isMarked (now (marks .entry)) (g .extents)) (e + 1) (now (kept .exit)) ⌝ }
+    requires { ⌜ Kept g (view (now img)) (isMarked (now marks)) e (now kept) ⌝ }
+    ensures { λ _. ⌜ Kept g (view (now (img .entry))) (isMarked (now (marks .entry))) (e + 1) (now (kept .exit)) ⌝ }
 {
-    let extent = Extent(e as u64);
-    if is_marked(marks, g, extent) {
+    if marks[e] == 1 {
         return;
     }
-    let f = table::table_file(img, g, extent) as usize;
+    let f = table::table_file(img, g, Extent(e as u64)) as usize;
     if f < g.files as usize {
         kept[f] = kept[f] + 1;
         return;
@@ -296,7 +264,7 @@ fn count_extent(img: &[u8], g: Geometry, e: usize, marks: &[u8], kept: &mut [u32
 fn count_kept(img: &[u8], g: Geometry, marks: &[u8], kept: &mut [u32])
     requires { ⌜ Opened (now img) g ⌝ }
     requires { ⌜ (g .extents ≤ length (now marks)) × (g .files ≤ length (now kept)) ⌝ }
-    ensures { λ _. ⌜ Kept g (view (now (img .entry))) (isMarked (now (marks .entry)) (g .extents)) (g .extents) (now (kept .exit)) ⌝ }
+    ensures { λ _. ⌜ Kept g (view (now (img .entry))) (isMarked (now (marks .entry))) (g .extents) (now (kept .exit)) ⌝ }
 {
     fields::clear(kept);
     let n = g.extents as usize;
@@ -354,7 +322,7 @@ struct Mended {
     lacking: Lowest,
 }
 
-// By way of arrays that are lent, the numbers 0.
+// By way of arrays that are lent, all 0. The marks are as many as the table has entries, padding included.
 fn mend_in(
     img: &[u8],
     g: Geometry,
@@ -363,8 +331,10 @@ fn mend_in(
     marks: &mut [u8],
 ) -> Mended
     requires { ⌜ Opened (now img) g ⌝ }
-    requires { ⌜ (length (now numbers) ≤ 65536) × (g .extents ≤ length (now numbers)) × (g .files ≤ length (now numbers)) × (g .extents ≤ length (now marks)) ⌝ }
+    requires { ⌜ (length (now numbers) ≤ 65536) × (g .extents ≤ length (now numbers)) × (g .files ≤ length (now numbers)) ⌝ }
+    requires { ⌜ 128 * tableSectors g ≤ length (now marks) ⌝ }
     requires { ⌜ ((b : ℕ) → b < length (now numbers) → getD (now numbers) b 0 ≡ 0) ⌝ }
+    requires { ⌜ ((e : ℕ) → getD (now marks) e 0 ≡ 0) ⌝ }
     ensures { λ r. ⌜ Mends (view (now (img .entry))) (now (list .entry)) r (now (list .exit)) ⌝ }
 {
     let freed = mark_strays(img, g, numbers, marks);
@@ -381,7 +351,7 @@ fn mend_in(
     }
     let mut stages = [0u64; 5];
     if table::staging(img, g, &mut stages) {
-        let needed = lists::RECORD_SIZE * delete::records_for(sectors);
+        let needed = lists::RECORD_SIZE * commit::records_for(sectors);
         if needed <= list.len() {
             put_repair(img, g, &stages, marks, list);
             return Mended {

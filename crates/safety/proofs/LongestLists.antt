@@ -169,7 +169,8 @@ create-short d name id mode time = plan-short d (createPlan (catalogueOf d) d na
 delete-short : (d : Disk) (i time : ℕ) → listLength (groupsFor d (some (deletePlan (catalogueOf d) d i time))) ≤ longestList 3 (geometryIn (d superblockAt))
 unfolding deletePlan longestList longestRecords catalogueOf
 delete-short d i time =
-    plan-short d (deletePlan (catalogueOf d) d i time) (recordCount 0 (2 + tableSectors (geometryIn (d superblockAt)))) (omega (arith, freed-few (ownsFrom (catalogueOf d) i 0) (catalogueOf d .geometry) d))
+    plan-short d (deletePlan (catalogueOf d) d i time) (recordCount 0 (2 + tableSectors (geometryIn (d superblockAt))))
+    (omega (arith, freed-few (ownsFrom (catalogueOf d) i 0) (catalogueOf d .geometry) d))
 
 -- a renamed entry, or two and what is freed
 two-of : (b : Bool) (x y : Record) → length (cond b (x ∷ y ∷ []) (y ∷ x ∷ [])) ≡ 2

@@ -11,11 +11,11 @@ use native.Mathlib.Nat.{add-zero}
 use lib.Dec.{eqb, ltb}
 use lib.ListN.{length, length-append}
 use borrow.Author.Tests.{eqb-true, eqb-false, eq-eqb, ne-eqb, ltb-true, lt-ltb}
-use Rattle.model.specs.Bytes.{beAt, beBytes, put}
+use Rattle.model.specs.Bytes.{Field, numberIn, beAt, beBytes, put}
 use Rattle.model.specs.Geometry.{superblockAt}
 use Rattle.model.specs.Disk.{view}
 use Rattle.model.specs.Superblock.{geometryIn}
-use Rattle.model.specs.Table.{freeFile, tableEntryStart, tableSectorOf, tableFile, tableOffset, tableEntryBytes, takenIn}
+use Rattle.model.specs.Table.{freeFile, tableField, tableEntryStart, tableSectorOf, tableFile, tableOffset, tableEntryBytes, takenIn}
 use Rattle.model.specs.Catalogue.{catalogueOf}
 use Rattle.model.specs.Ledger.{Ledger, catalogue}
 use Rattle.laws.proofs.Bytes.{length-beBytes, length-put, beAt-put-in, beAt-put-other, beAt-left, beAt-right, beAt-beBytes}
@@ -31,8 +31,16 @@ pub length-takenIn : (x i o : ℕ) (s : List ℕ) → length (takenIn x i o s) �
 unfolding takenIn
 length-takenIn x i o s = length-put s (tableEntryStart x) (tableEntryBytes i o)
 
+-- a field within the four bytes of the entry that starts at a place
+record InEntryAt (at : ℕ) (f : Field) : Type 0 where
+  pub starts : at ≤ f .offset
+  pub ends : f .offset + f .width ≤ at + 4
+
+abbrev InEntry : (ℕ → Field) → Type 0
+InEntry f = (at : ℕ) → InEntryAt at (f at)
+
 module _ (x i o : ℕ) (s : List ℕ) (l : length s ≡ 512) where
-  taken-file : i < 65536 → beAt (takenIn x i o s) (tableEntryStart x) 2 ≡ i
+  taken-file : i < 65536 → numberIn (takenIn x i o s) (tableField (tableEntryStart x) .file) ≡ i
   unfolding takenIn
   taken-file h =
       let e : length (tableEntryBytes i o) ≡ 4 = length-entry i o in
@@ -40,19 +48,21 @@ module _ (x i o : ℕ) (s : List ℕ) (l : length s ≡ 512) where
       ap (λ k. beAt (put s (tableEntryStart x) (tableEntryBytes i o)) k 2) (sym (add-zero (tableEntryStart x)))
       ∙ beAt-put-in s (tableEntryStart x) (tableEntryBytes i o) 0 2 (omega arith) (omega arith) ∙ beAt-left (beBytes 2 i) (beBytes 2 o) 0 2 (omega arith) ∙ beAt-beBytes 2 i h
 
-  taken-offset : o < 65536 → beAt (takenIn x i o s) (tableEntryStart x + 2) 2 ≡ o
+  taken-offset : o < 65536 → numberIn (takenIn x i o s) (tableField (tableEntryStart x) .offset) ≡ o
   unfolding takenIn
   taken-offset h =
       let e : length (tableEntryBytes i o) ≡ 4 = length-entry i o in
       beAt-put-in s (tableEntryStart x) (tableEntryBytes i o) 2 2 (omega arith) (omega arith) ∙ beAt-right (beBytes 2 i) (beBytes 2 o) 2 0 2 (length-beBytes 2 i) ∙ beAt-beBytes 2 o h
 
-  -- a half of another entry
-  taken-other : (e h : ℕ) → e / 128 ≡ x / 128 → e ≢ x → h + 2 ≤ 4 → beAt (takenIn x i o s) (tableEntryStart e + h) 2 ≡ beAt s (tableEntryStart e + h) 2
+  -- a field of another entry
+  taken-other : (f : ℕ → Field) → InEntry f → (e : ℕ) → e / 128 ≡ x / 128 → e ≢ x
+      → numberIn (takenIn x i o s) (f (tableEntryStart e)) ≡ numberIn s (f (tableEntryStart e))
   unfolding takenIn
-  taken-other e h q ne b =
+  taken-other f within e q ne =
       let m : length (tableEntryBytes i o) ≡ 4 = length-entry i o in
       let z : e % 128 ≢ x % 128 = (λ u. ne (omega arith)) in
-      beAt-put-other s (tableEntryStart x) (tableEntryBytes i o) (tableEntryStart e + h) 2 (λ j u v r t. z (omega arith))
+      let at : InEntryAt (tableEntryStart e) (f (tableEntryStart e)) = within (tableEntryStart e) in
+      beAt-put-other s (tableEntryStart x) (tableEntryBytes i o) (f (tableEntryStart e) .offset) (f (tableEntryStart e) .width) (λ j u v r t. z (omega arith))
 
 -- ---- the table of an image in which extent x was given to file i, if b
 
@@ -69,22 +79,23 @@ module _ (L : Ledger) (img out : List ℕ) (rep : Rep L img) (eg : geometryIn (v
   here t =
       let s : view out (tableSectorOf (L .geometry) x) ≡ takenIn x i n T =
       shows x (bound t) ∙ ap₂ (λ (p q : Bool). cond (p && q) (takenIn x i n T) T) t (eq-eqb (x / 128) (x / 128) refl) in
-      let fi : tableFile (L .geometry) (view out) x ≡ i = ap (λ (v : List ℕ). beAt v (tableEntryStart x) 2) s ∙ taken-file x i n T (length-view img _) (omega arith) in
-      let of : tableOffset (L .geometry) (view out) x ≡ n = ap (λ (v : List ℕ). beAt v (tableEntryStart x + 2) 2) s ∙ taken-offset x i n T (length-view img _) small in
+      let fi : tableFile (L .geometry) (view out) x ≡ i = ap (λ (v : List ℕ). numberIn v (tableField (tableEntryStart x) .file)) s ∙ taken-file x i n T (length-view img _) (omega arith) in
+      let of : tableOffset (L .geometry) (view out) x ≡ n = ap (λ (v : List ℕ). numberIn v (tableField (tableEntryStart x) .offset)) s ∙ taken-offset x i n T (length-view img _) small in
       owner-is (L .geometry) (view out) (view out) eg eg x ∙ (λ j. ownerBy (lt-ltb x (L .geometry .extents) (bound t) j) (fi j) (of j))
       ∙ ap (λ (q : Bool). cond (not q) (owner i n) none) (ne-eqb i freeFile (λ e. omega arith))
 
-  -- a half of another entry
-  half : (e h : ℕ) → e < L .geometry .extents → (b && eqb e x) ≡ false → h + 2 ≤ 4
-      → beAt (view out (tableSectorOf (L .geometry) e)) (tableEntryStart e + h) 2 ≡ beAt (view img (tableSectorOf (L .geometry) e)) (tableEntryStart e + h) 2
-  half e h l t k = ap (λ (v : List ℕ). beAt v (tableEntryStart e + h) 2) (shows e l) ∙ go b (eqb (e / 128) (x / 128)) refl t
+  -- a field of another entry
+  field-kept : (f : ℕ → Field) → InEntry f → (e : ℕ) → e < L .geometry .extents → (b && eqb e x) ≡ false
+      → numberIn (view out (tableSectorOf (L .geometry) e)) (f (tableEntryStart e)) ≡ numberIn (view img (tableSectorOf (L .geometry) e)) (f (tableEntryStart e))
+  field-kept f within e l t = ap (λ (v : List ℕ). numberIn v (f (tableEntryStart e))) (shows e l) ∙ go b (eqb (e / 128) (x / 128)) refl t
     where
       go : (p q : Bool) → eqb (e / 128) (x / 128) ≡ q → (p && eqb e x) ≡ false
-          → beAt (cond (p && q) (takenIn x i n T) (view img (tableSectorOf (L .geometry) e))) (tableEntryStart e + h) 2 ≡ beAt (view img (tableSectorOf (L .geometry) e)) (tableEntryStart e + h) 2
+          → numberIn (cond (p && q) (takenIn x i n T) (view img (tableSectorOf (L .geometry) e))) (f (tableEntryStart e))
+          ≡ numberIn (view img (tableSectorOf (L .geometry) e)) (f (tableEntryStart e))
       go true true q u =
           let z : e / 128 ≡ x / 128 = eqb-true (e / 128) (x / 128) q in
-          taken-other x i n T (length-view img _) e h z (eqb-false e x u) k
-          ∙ ap (λ m. beAt (view img m) (tableEntryStart e + h) 2) (let r : tableSectorOf (L .geometry) x ≡ tableSectorOf (L .geometry) e = omega arith in r)
+          taken-other x i n T (length-view img _) f within e z (eqb-false e x u)
+          ∙ ap (λ m. numberIn (view img m) (f (tableEntryStart e))) (let r : tableSectorOf (L .geometry) x ≡ tableSectorOf (L .geometry) e = omega arith in r)
       go true false q u = refl
       go false q v u = refl
 
@@ -99,9 +110,8 @@ module _ (L : Ledger) (img out : List ℕ) (rep : Rep L img) (eg : geometryIn (v
       go true q =
           let l : e < L .geometry .extents = ltb-true e (L .geometry .extents) q in
           ap₂ (ownerBy true)
-          (ap (λ o. beAt (view out (tableSectorOf (L .geometry) e)) o 2) (sym (add-zero (tableEntryStart e))) ∙ half e 0 l t (omega arith)
-          ∙ ap (λ o. beAt (view img (tableSectorOf (L .geometry) e)) o 2) (add-zero (tableEntryStart e)))
-          (half e 2 l t (omega arith))
+          (field-kept (λ at. tableField at .file) (λ at. record { starts = omega arith; ends = omega arith }) e l t)
+          (field-kept (λ at. tableField at .offset) (λ at. record { starts = omega arith; ends = omega arith }) e l t)
       go false q = refl
 
   pub table-changed : (e : ℕ) → catalogueOf (view out) .table e ≡ cond (b && eqb e x) (owner i n) (catalogue L .table e)

@@ -22,6 +22,7 @@ use Rattle.laws.proofs.Disk.{beAt-view}
 use Rattle.laws.proofs.Search.{first-ext, scan-none, none-at}
 use Rattle.laws.proofs.Catalogue.{table-on, part-is}
 use Rattle.table.specs.Word.{swapped, entryWord}
+use Rattle.table.specs.Owned.{isMarked, Marks}
 
 -- where the test holds of none of n indexes from i on, the search of them finds nothing
 pub nowhere-from : (p : ℕ → Bool) (i n : ℕ) → anyBelow (λ k. p (i + k)) n ≡ false → Nowhere ≡ scan p n i
@@ -73,6 +74,14 @@ module _ (d : Disk) (g : Geometry) (is : g ≡ geometryIn (d 0)) where
   pub beyond-past : (i o e : ℕ) → g .extents ≤ e → ownedFrom i o (catalogueOf d .table e) ≡ false
   unfolding catalogueOf
   beyond-past i o e h = rw (le-ltb e (geometryIn (d 0) .extents) (rw is at h))
+
+-- bytes that mark what a test picks
+pub marks-are : (p : ℕ → Bool) (n : ℕ) (marks : List ℕ) → Marks p n marks → (k : ℕ) → k < n → isMarked marks k ≡ p k
+marks-are p n marks h k l = ap (λ x. eqb x 1) (h k l) ∙ one (p k)
+  where
+    one : (b : Bool) → eqb (cond b 1 0) 1 ≡ b
+    one true = refl
+    one false = refl
 
 -- z / e rounded up, as a quotient and what is left
 module _ (z e : ℕ) (pos : 0 < e) where

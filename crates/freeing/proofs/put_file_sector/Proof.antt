@@ -6,7 +6,8 @@ use Rattle.model.specs.Disk.{view}
 use Rattle.laws.proofs.Freeing.{freed-miss}
 use Rattle.commit.proofs.Laws.{added-none}
 use Rattle.table.specs.Owned.{ownedIn}
-use Rattle.freeing.proofs.Laws.{marks-are, marked-sector}
+use Rattle.table.proofs.Laws.{marks-are}
+use Rattle.freeing.proofs.Laws.{marked-sector}
 use borrow.Author.Needs.{needs}
 use Rattle.freeing.proofs.put_file_sector.Statement.{statement}
 use Rattle.freeing.proofs.put_file_sector.Tie as tie

@@ -23,8 +23,7 @@ returns : tie.Need-returns
 unfolding zeroSector
 returns c =
     let q = c .before .before .before .before in
-    let a = c .before .before .before .before .before .before .before .before .before .before .before .args in
-    (
+    let a = c .before .before .before .before .before .before .before .before .before .before .before .args in (
       added-copy {s = entryAt (a .j .0)} (q .put-copy .ensures .0) (rw (← q .before .sector .ensures) (q .put-copy .ensures .1)) (omega arith),
       omega (arith, q .put-copy .ensures .0 .next),
     )

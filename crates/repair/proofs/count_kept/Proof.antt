@@ -5,13 +5,14 @@ use native.Mathlib.Omega.{arith}
 use lib.ListN.{length}
 use Rattle.model.specs.Search.{countBelow}
 use Rattle.model.specs.Disk.{view}
-use Rattle.repair.specs.Strays.{isMarked, Kept}
+use Rattle.table.specs.Owned.{isMarked}
+use Rattle.repair.specs.Strays.{Kept}
 use borrow.Author.Needs.{needs}
 use Rattle.repair.proofs.count_kept.Statement.{statement}
 use Rattle.repair.proofs.count_kept.Tie as tie
 
 abbrev Inv-loop : tie.InvT-loop
-Inv-loop img g marks kept₀ n e₀ kept e = (e ≤ n) × (length kept ≡ length kept₀) × Kept g (view img) (isMarked marks (g .extents)) e kept
+Inv-loop img g marks kept₀ n e₀ kept e = (e ≤ n) × (length kept ≡ length kept₀) × Kept g (view img) (isMarked marks) e kept
 
 abbrev μ-loop : tie.MeasureT-loop
 μ-loop img g marks kept₀ n e₀ kept e = n - e

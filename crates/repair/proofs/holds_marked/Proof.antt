@@ -1,41 +1,42 @@
 -- `repair::holds_marked` meets its contract. The loop's invariant: none of the entries passed is one.
-use Prim.Native.Nat.{ℕ, _+_, _-_, _*_, _≤_}
+use Prim.Native.Nat.{_+_, _-_, _*_, _≤_}
 use mathlib.Core.Path.{_≡_, refl, sym, _∙_}
-use mathlib.Core.Bool.{Bool, false}
-use mathlib.Core.List.{List}
+use mathlib.Core.Bool.{false}
 use native.Mathlib.Omega.{arith}
-use Rattle.model.specs.declared.Geometry.{Geometry}
+use borrow.Author.Tests.{eq-eqb, ne-eqb}
 use Rattle.model.specs.Search.{anyBelow}
+use Rattle.model.specs.Table.{holdsAny}
 use Rattle.laws.proofs.Search.{anyBelow-more, anyBelow-true}
-use Rattle.repair.specs.Strays.{isMarked}
+use Rattle.table.specs.Owned.{isMarked}
 use borrow.Author.Needs.{needs}
 use Rattle.repair.proofs.holds_marked.Statement.{statement}
 use Rattle.repair.proofs.holds_marked.Tie as tie
 
-abbrev hit : List ℕ → Geometry → ℕ → ℕ → Bool
-hit marks g t k = isMarked marks (g .extents) (128 * t + k)
-
 abbrev Inv-loop : tie.InvT-loop
-Inv-loop marks g t k₀ k = (k ≤ 128) × (anyBelow (hit marks g t) k ≡ false)
+Inv-loop marks t from k₀ k = (k ≤ 128) × (anyBelow (λ k. isMarked marks (128 * t + k)) k ≡ false)
 
 abbrev μ-loop : tie.MeasureT-loop
-μ-loop marks g t k₀ k = 128 - k
+μ-loop marks t from k₀ k = 128 - k
+
+mul-from : tie.Need-mul-from Inv-loop μ-loop
+mul-from c = search needs
 
 loop-holds : tie.Need-loop-holds Inv-loop μ-loop
 unfolding anyBelow
 loop-holds c = (omega arith, refl)
 
-table-extent-requires : tie.Need-table-extent-requires Inv-loop μ-loop
-table-extent-requires c κs = search needs
+add-if1 : tie.Need-add-if1 Inv-loop μ-loop
+add-if1 c = search needs
 
-is-marked-requires : tie.Need-is-marked-requires Inv-loop μ-loop
-is-marked-requires c κs = search needs
+shared-slice-read-if1 : tie.Need-shared-slice-read-if1 Inv-loop μ-loop
+shared-slice-read-if1 c = search needs
 
 returns : tie.Need-returns Inv-loop μ-loop
+unfolding holdsAny
 returns c =
-    let a = c .before .before .before .before .before .before .args in
-    sym (anyBelow-true (hit (a .marks .now) (a .g) (a .t)) (c .before .before .before .before .loop .k) 128 (omega arith)
-    (rw (c .before .before .table-extent .ensures) at (sym (c .before .is-marked .ensures) ∙ c .if1 .taken)))
+    let a = c .before .before .before .before .args in
+    let l = c .before .before .before .loop in
+    sym (anyBelow-true (λ k. isMarked (a .marks .now) (128 * a .t + k)) (l .k) 128 (omega arith) (eq-eqb _ 1 (c .if1 .taken)))
 
 add-k : tie.Need-add-k Inv-loop μ-loop
 add-k c = search needs
@@ -45,11 +46,12 @@ loop-less c = search needs
 
 loop-again : tie.Need-loop-again Inv-loop μ-loop
 loop-again c =
-    let l = c .before .before .before .before .loop in
-    let a = c .before .before .before .before .before .before .args in
-    (omega arith, rw (anyBelow-more (hit (a .marks .now) (a .g) (a .t)) (l .k), ← c .before .before .table-extent .ensures, ← c .before .is-marked .ensures, c .if1 .left) (l .inv .1))
+    let a = c .before .before .before .before .args in
+    let l = c .before .before .before .loop in
+    (omega arith, rw (anyBelow-more (λ k. isMarked (a .marks .now) (128 * a .t + k)) (l .k), ne-eqb _ 1 (c .if1 .left)) (l .inv .1))
 
 returns-2 : tie.Need-returns-2 Inv-loop μ-loop
+unfolding holdsAny
 returns-2 c =
     let e : c .before .loop .k ≡ 128 = omega arith in
     sym (rw e at (c .before .loop .inv .1))
@@ -60,9 +62,10 @@ holds-marked-spec =
     (tie.spec
     Inv-loop
     μ-loop
+    mul-from
     loop-holds
-    table-extent-requires
-    is-marked-requires
+    add-if1
+    shared-slice-read-if1
     returns
     add-k
     loop-less

@@ -1,25 +1,28 @@
 -- `repair::mark_strays` meets its contract. The loop's invariant: the chains and the bytes are those of the extents passed.
-use Prim.Native.Nat.{_-_, _/_, _≤_}
+use Prim.Native.Nat.{ℕ, _-_, _/_, _≤_}
 use mathlib.Core.Path.{_≡_, refl, ap, _∙_}
 use mathlib.Core.Bool.{Bool, cond}
 use native.Mathlib.Omega.{arith}
-use lib.ListN.{length}
+use lib.ListN.{length, getD}
+use lib.Seq.{getD-set-other}
 use Rattle.model.specs.Search.{countBelow}
 use Rattle.model.specs.Disk.{view}
 use Rattle.model.specs.Catalogue.{catalogueOf}
 use Rattle.model.specs.Repair.{isStray}
 use Rattle.laws.proofs.Search.{countBelow-more}
 use Rattle.duplicates.proofs.Chains.{chains-none}
-use Rattle.allocation.proofs.Sums.{set-next}
-use Rattle.repair.specs.Strays.{Linked, Found}
+use Rattle.laws.proofs.Bytes.{set-next}
+use Rattle.table.specs.Owned.{Marks}
+use Rattle.repair.specs.Strays.{Linked}
+use Rattle.repair.proofs.Strays.{marked-is}
 use borrow.Author.Needs.{needs}
 use Rattle.repair.proofs.mark_strays.Statement.{statement}
 use Rattle.repair.proofs.mark_strays.Tie as tie
 
 abbrev Inv-loop : tie.InvT-loop
 Inv-loop img g chains₀ marks₀ n found₀ e₀ chains marks found e =
-    (e ≤ n) × (length chains ≡ length chains₀) × (length marks ≡ length marks₀) × Linked g (view img) e chains × Found g (view img) e marks
-    × (found ≡ countBelow (isStray (catalogueOf (view img))) e) × (found ≤ e)
+    (e ≤ n) × (length chains ≡ length chains₀) × (length marks ≡ length marks₀) × Linked g (view img) e chains
+    × Marks (isStray (catalogueOf (view img))) e marks × ((k : ℕ) → e ≤ k → getD marks k 0 ≡ 0) × (found ≡ countBelow (isStray (catalogueOf (view img))) e) × (found ≤ e)
 
 abbrev μ-loop : tie.MeasureT-loop
 μ-loop img g chains₀ marks₀ n found₀ e₀ chains marks found e = n - e
@@ -28,7 +31,8 @@ loop-holds : tie.Need-loop-holds Inv-loop μ-loop
 unfolding countBelow
 loop-holds c =
     let s = c .before .before .before in
-    (omega arith, refl, refl, chains-none _ _ _ _ (λ b l. ap (λ w. w / 65536) (s .pre .1 .1 b l)), (λ k l. absurd (omega arith)), refl, omega arith)
+    let chained = chains-none _ _ _ _ (λ b l. ap (λ w. w / 65536) (s .pre .1 .1 .0 b l)) in
+    (omega arith, refl, refl, chained, (λ k l. absurd (omega arith)), (λ k l. s .pre .1 .1 .1 k), refl, omega arith)
 
 is-stray-requires : tie.Need-is-stray-requires Inv-loop μ-loop
 is-stray-requires c κs =
@@ -66,7 +70,8 @@ loop-again c =
       search needs,
       k .ensures .1,
       set-next (λ e. cond (h e) 1 0) (l .marks) (l .e) (c .bit .result) (omega arith) v (l .inv .4),
-      omega (arith, v, countBelow-more h (l .e), l .inv .5),
+      (λ k b. getD-set-other (l .marks) (l .e) k (c .bit .result) 0 (λ e. omega arith) ∙ l .inv .5 k (omega arith)),
+      omega (arith, v, countBelow-more h (l .e), l .inv .6),
       omega (arith, c .bit .ensures .1),
     )
 
@@ -79,8 +84,13 @@ same-length-2 c = search needs
 returns : tie.Need-returns Inv-loop μ-loop
 returns c =
     let l = c .before .loop in
-    let e : l .e ≡ c .before .before .before .before .before .args .g .extents = omega arith in
-    (rw e at (l .inv .4), l .inv .5 ∙ ap (countBelow (isStray (catalogueOf (view (c .before .before .before .before .before .args .img .now))))) e)
+    let s = c .before .before .before .before .before in
+    let a = s .args in
+    let d = view (a .img .now) in
+    let e : l .e ≡ a .g .extents = omega arith in (
+      marked-is d (a .g) (s .pre .0 .is) (l .marks) (rw e at (l .inv .4)) (λ k b. l .inv .5 k (omega arith)),
+      l .inv .6 ∙ ap (countBelow (isStray (catalogueOf d))) e,
+    )
 
 pub mark-strays-spec : {M : Type 1} → statement M
 mark-strays-spec =

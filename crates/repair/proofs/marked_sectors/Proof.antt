@@ -3,18 +3,18 @@ use Prim.Native.Nat.{_-_, _≤_}
 use mathlib.Core.Path.{_≡_, refl}
 use native.Mathlib.Omega.{arith}
 use Rattle.model.specs.Search.{countBelow}
+use Rattle.model.specs.Table.{holdsAny, sectorsHolding}
 use Rattle.laws.proofs.Search.{countBelow-more}
-use Rattle.repair.specs.Strays.{isMarked}
-use Rattle.repair.specs.Freeing.{holdsFreed}
+use Rattle.table.specs.Owned.{isMarked}
 use borrow.Author.Needs.{needs}
 use Rattle.repair.proofs.marked_sectors.Statement.{statement}
 use Rattle.repair.proofs.marked_sectors.Tie as tie
 
 abbrev Inv-loop : tie.InvT-loop
-Inv-loop marks g n found₀ t₀ found t = (t ≤ n) × (found ≤ t) × (found ≡ countBelow (holdsFreed (isMarked marks (g .extents))) t)
+Inv-loop marks n found₀ t₀ found t = (t ≤ n) × (found ≤ t) × (found ≡ countBelow (holdsAny (isMarked marks)) t)
 
 abbrev μ-loop : tie.MeasureT-loop
-μ-loop marks g n found₀ t₀ found t = n - t
+μ-loop marks n found₀ t₀ found t = n - t
 
 table-sectors-requires : tie.Need-table-sectors-requires Inv-loop μ-loop
 table-sectors-requires c κs = search needs
@@ -47,10 +47,11 @@ loop-again c =
     let a = c .before .before .before .before .before .before .args in (
       omega arith,
       omega arith,
-      rw (countBelow-more (holdsFreed (isMarked (a .marks .now) (a .g .extents))) (l .t), ← c .before .holds-marked .ensures, ← c .bit .ensures .0, ← l .inv .2) (omega arith),
+      rw (countBelow-more (holdsAny (isMarked (a .marks .now))) (l .t), ← c .before .holds-marked .ensures, ← c .bit .ensures .0, ← l .inv .2) (omega arith),
     )
 
 returns : tie.Need-returns Inv-loop μ-loop
+unfolding sectorsHolding
 returns c =
     let l = c .before .loop in
     let e : l .t ≡ c .before .before .table-sectors .result = omega arith in

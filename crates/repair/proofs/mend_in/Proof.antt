@@ -1,18 +1,20 @@
 -- `repair::mend_in` meets its contract.
-use Prim.Native.Nat.{_*_}
+use Prim.Native.Nat.{ℕ, _*_}
 use mathlib.Core.Path.{ap, _∙_}
-use mathlib.Core.Bool.{not}
+use mathlib.Core.Bool.{Bool, not}
 use native.Mathlib.Omega.{arith}
 use Rattle.model.specs.Disk.{view}
+use Rattle.model.specs.Table.{sectorsHolding}
 use Rattle.model.specs.WriteList.{recordSize, recordCount}
-use Rattle.repair.proofs.Strays.{marked-is}
 use Rattle.repair.proofs.Decisions.{mends-none, mends-some, mends-short, mends-frozen}
 use borrow.Author.Needs.{needs}
 use Rattle.repair.proofs.mend_in.Statement.{statement}
 use Rattle.repair.proofs.mend_in.Tie as tie
 
 mark-strays-requires : tie.Need-mark-strays-requires
-mark-strays-requires c κs = search needs
+mark-strays-requires c κs =
+    let s = c .before .before .before .before .before .before in
+    (s .pre .0, ((omega arith, omega arith, omega arith), (s .pre .1 .1 .1 .0, s .pre .1 .1 .1 .1)))
 
 marked-sectors-requires : tie.Need-marked-sectors-requires
 marked-sectors-requires c κs = search needs
@@ -23,11 +25,9 @@ count-kept-requires c κs = search needs
 first-lacking-requires : tie.Need-first-lacking-requires
 first-lacking-requires c κs =
     let s = c .before .before .before .before .before .before .before .before .before .before .before .before .before .before .before .before .before .before .before in
-    let a = s .args in
-    let d = view (a .img .now) in
     let m = c .before .before .before .before .before .before .before .before .before .before .before .before .mark-strays in
     let k = c .before .before .before .count-kept in
-    (s .pre .0, (omega (arith, k .kept .1 .1 .1 .0, m .kept .1 .1 .0, s .pre .1 .0 .2), rw (marked-is d (a .g) (s .pre .0 .is) (m .last .1 .1 .1 .0) (m .ensures .0)) at (k .ensures)))
+    (s .pre .0, (omega (arith, k .kept .1 .1 .1 .0, m .kept .1 .1 .0, s .pre .1 .0 .2), rw (m .ensures .0) at (k .ensures)))
 
 same-length : tie.Need-same-length
 same-length c = search needs
@@ -42,7 +42,7 @@ returns c =
     let d = view (a .img .now) in
     let m = c .before .before .before .before .before .before .before .before .before .before .before .before .before .before .mark-strays in
     let f = c .before .first-lacking in
-    mends-none d (a .g) (s .pre .0 .is) (m .last .1 .1 .1 .0) (m .ensures .0) (a .list .now) (m .result) (m .ensures .1) (f .result) (f .ensures) (c .if1 .taken)
+    mends-none d (a .g) (s .pre .0 .is) (a .list .now) (m .result) (m .ensures .1) (f .result) (f .ensures) (c .if1 .taken)
 
 slice-aggregate-staging : tie.Need-slice-aggregate-staging
 slice-aggregate-staging c = search needs
@@ -64,8 +64,9 @@ put-repair-requires c κs =
     let t = c .before .before .before .before .before .before .before in
     let k = t .before .before .before .before .before .before .before .before .before .before in
     let s = k .before .before .before .before .before .before .before .before .before .before .before .before .before in
+    let m = k .before .before .before .before .before .before .mark-strays in
     let e = c .before .before .before .before .records-for .ensures ∙ ap (recordCount 0) (k .marked-sectors .ensures .0) in
-    (t .staging .ensures .1 (c .before .before .before .before .before .if2 .taken), (s .pre .0, (search needs, omega (arith, e, c .before .before .before .if3 .taken))))
+    (t .staging .ensures .1 (c .before .before .before .before .before .if2 .taken), (s .pre .0, ((m .ensures .0, search needs), omega (arith, e, c .before .before .before .if3 .taken))))
 
 same-length-3 : tie.Need-same-length-3
 same-length-3 c = search needs
@@ -87,8 +88,9 @@ returns-2 c =
     let f = t .before .before .before .first-lacking in
     let n = c .before .before .before .before .before .before .before .records-for in
     let e = n .ensures ∙ ap (recordCount 0) (k .marked-sectors .ensures .0) in
-    mends-some d (a .g) (s .pre .0 .is) (m .last .1 .1 .1 .0) (m .ensures .0) (a .list .now) (m .result) (m .ensures .1) (f .result) (f .ensures)
-    (t .before .before .if1 .left) (recordSize * n .result) (t .staging .ensures .0 ∙ ap not (c .before .before .before .before .before .before .before .before .if2 .taken)) (omega (arith, e))
+    let strays = ap (λ (p : ℕ → Bool). recordCount 0 (sectorsHolding p (a .g))) (m .ensures .0) in
+    mends-some d (a .g) (s .pre .0 .is) (a .list .now) (m .result) (m .ensures .1) (f .result) (f .ensures)
+    (t .before .before .if1 .left) (recordSize * n .result) (t .staging .ensures .0 ∙ ap not (c .before .before .before .before .before .before .before .before .if2 .taken)) (omega (arith, e, strays))
     (omega (arith, c .before .before .before .before .before .before .if3 .taken)) (c .before .before .put-repair .ensures)
 
 same-length-6 : tie.Need-same-length-6
@@ -108,8 +110,9 @@ returns-3 c =
     let f = t .before .before .before .first-lacking in
     let n = c .before .records-for in
     let e = n .ensures ∙ ap (recordCount 0) (k .marked-sectors .ensures .0) in
-    mends-short d (a .g) (s .pre .0 .is) (m .last .1 .1 .1 .0) (m .ensures .0) (a .list .now) (m .result) (m .ensures .1) (f .result) (f .ensures) (t .before .before .if1 .left)
-    (t .staging .ensures .0 ∙ ap not (c .before .before .if2 .taken)) (omega (arith, e, c .if3 .left))
+    let strays = ap (λ (p : ℕ → Bool). recordCount 0 (sectorsHolding p (a .g))) (m .ensures .0) in
+    mends-short d (a .g) (s .pre .0 .is) (a .list .now) (m .result) (m .ensures .1) (f .result) (f .ensures) (t .before .before .if1 .left)
+    (t .staging .ensures .0 ∙ ap not (c .before .before .if2 .taken)) (omega (arith, e, strays, c .if3 .left))
 
 same-length-8 : tie.Need-same-length-8
 same-length-8 c = search needs
@@ -126,7 +129,7 @@ returns-4 c =
     let d = view (a .img .now) in
     let m = k .before .before .before .before .before .before .mark-strays in
     let f = t .before .before .before .first-lacking in
-    mends-frozen d (a .g) (s .pre .0 .is) (m .last .1 .1 .1 .0) (m .ensures .0) (a .list .now) (m .result) (m .ensures .1) (f .result) (f .ensures) (t .before .before .if1 .left)
+    mends-frozen d (a .g) (s .pre .0 .is) (a .list .now) (m .result) (m .ensures .1) (f .result) (f .ensures) (t .before .before .if1 .left)
     (t .staging .ensures .0 ∙ ap not (c .if2 .left))
 
 pub mend-in-spec : {M : Type 1} → statement M

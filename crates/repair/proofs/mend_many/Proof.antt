@@ -16,19 +16,10 @@ slice-aggregate-mend-in-2 c = search needs
 mend-in-requires : tie.Need-mend-in-requires
 mend-in-requires c κs =
     let s = c .before .before .before .before .before in
-    let n = length-replicate {A = ℕ} 65536 0 in (
-      s .pre,
-      (
-        (
-          omega arith,
-          omega (arith, s .pre .bounded .extents-high, s .pre .bounded .files-high),
-          omega (arith, s .pre .bounded .extents-high, s .pre .bounded .files-high),
-          omega
-              (arith, s .pre .bounded .extents-high, s .pre .bounded .files-high),
-        ),
-        λ p l. zeros-at 65536 p,
-      ),
-    )
+    let n = length-replicate {A = ℕ} 65536 0 in
+    let extents = s .pre .bounded .extents-high in
+    let files = s .pre .bounded .files-high in
+    (s .pre, ((omega arith, omega (arith, extents), omega (arith, files)), (omega (arith, extents), ((λ p l. zeros-at 65536 p), zeros-at 65536))))
 
 same-length : tie.Need-same-length
 same-length c = search needs

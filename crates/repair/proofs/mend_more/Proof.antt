@@ -17,7 +17,7 @@ mend-in-requires : tie.Need-mend-in-requires
 mend-in-requires c κs =
     let s = c .before .before .before .before .before in
     let n = length-replicate {A = ℕ} 8192 0 in
-    (s .pre .0, ((omega arith, omega arith, omega arith, omega arith), λ p l. zeros-at 8192 p))
+    (s .pre .0, ((omega arith, omega arith, omega arith), (omega arith, ((λ p l. zeros-at 8192 p), zeros-at 8192))))
 
 same-length : tie.Need-same-length
 same-length c = search needs

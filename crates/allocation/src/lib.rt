@@ -59,7 +59,7 @@ fn is_misplaced(img: &[u8], g: Geometry, e: Extent) -> bool
     ensures { λ r. ⌜ r ≡ fault25 (catalogueOf (view (now (img .entry)))) (e .0) ⌝ }
 {
     let f = table::table_file(img, g, e);
-    if f == 65535 {
+    if f == model::FREE_FILE {
         return false;
     }
     if f < g.files {

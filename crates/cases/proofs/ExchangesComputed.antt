@@ -4,7 +4,8 @@ use Rattle.model.specs.Bytes.{bytesFrom, put}
 use Rattle.model.specs.Search.{tabulate, scan, anyBelow, allBelow, countBelow, equalBytes}
 use Rattle.model.specs.Format.{doubled, geometryFor}
 use Rattle.model.specs.Table.{holdsAny, sectorsHolding}
-use Rattle.model.specs.Ledger.{catalogue, firstLedger, writtenRecords, freedRecords, ledgerFrom, holderOf, positionAmong, slotNamed, freeSlot, unheldExtent, unheldExtents, isFrozen, fileOf, afterWrite, written}
+use Rattle.model.specs.Ledger.{catalogue, firstLedger, writtenRecords, freedRecords, ledgerFrom, holderOf, positionAmong, slotNamed}
+use Rattle.model.specs.Ledger.{freeSlot, unheldExtent, unheldExtents, isFrozen, fileOf, afterWrite, written}
 use Rattle.model.specs.Ledger.{newEntry, updatedEntry, updatedRoot, accessedRoot, renamedEntry, afterRename, namesOf, pairsOf, sumOf, afterRenames, namesSlot, freesIn, renamedTargets}
 use Rattle.model.specs.Ledger.{renameRefusals, refusedAt, step, lowest, unfitTime, unfitName, unfitNewName}
 use Rattle.cases.specs.Exchanges.{Exchanges}

@@ -62,7 +62,9 @@ fn bad_argument(edition: u64, name: &[u8], id: u64, time: u64) -> bool
 fn is_taken(img: &[u8], g: Geometry, name: &[u8], id: u64) -> bool
     requires { ⌜ Opened (now img) g ⌝ }
     requires { ⌜ length (now name) ≤ layoutOf (g .edition) .longestName ⌝ }
-    ensures { λ r. ⌜ r ≡ (isAt (fileNamed (catalogueOf (view (now (img .entry)))) (now (name .entry))) || anyBelow (λ i. hasId id (catalogueOf (view (now (img .entry))) .entries i)) (catalogueOf (view (now (img .entry))) .geometry .files) || eqb id (catalogueOf (view (now (img .entry))) .root .id)) ⌝ }
+    ensures { λ r. ⌜ r ≡ (isAt (fileNamed (catalogueOf (view (now (img .entry)))) (now (name .entry)))
+        || anyBelow (λ i. hasId id (catalogueOf (view (now (img .entry))) .entries i)) (catalogueOf (view (now (img .entry))) .geometry .files)
+        || eqb id (catalogueOf (view (now (img .entry))) .root .id)) ⌝ }
 {
     let p = directory::file_named(img, g, name);
     if is_at(p) {
@@ -107,7 +109,8 @@ fn put_pair(
     requires { ⌜ StagesOf g (view (now img)) (now stages) ⌝ }
     requires { ⌜ createCount * recordSize ≤ length (now list) ⌝ }
     requires { ⌜ Opened (now img) g ⌝ }
-    ensures { λ r. ⌜ Emitted (now (list .entry)) 0 (closed (groupsFor (view (now (img .entry))) (some (record { dataSectors = []; targets = sectorWrite (s .0) a ∷ sectorWrite (t .0) b ∷ [] })))) (now (list .exit)) r ⌝ }
+    ensures { λ r. ⌜ Emitted (now (list .entry)) 0
+        (closed (groupsFor (view (now (img .entry))) (some (record { dataSectors = []; targets = sectorWrite (s .0) a ∷ sectorWrite (t .0) b ∷ [] })))) (now (list .exit)) r ⌝ }
 {
     let mut numbers = [0u64; 2];
     let k = commit::put_copy(list, 0, g, stages, &mut numbers, 0, s, a);
@@ -129,13 +132,14 @@ fn put_create(
     requires { ⌜ createCount * recordSize ≤ length (now list) ⌝ }
     requires { ⌜ Opened (now img) g ⌝ }
     requires { ⌜ length (now name) ≤ layoutOf (g .edition) .longestName ⌝ }
-    ensures { λ r. ⌜ Emitted (now (list .entry)) 0 (closed (groupsFor (view (now (img .entry))) (some (createPlan (catalogueOf (view (now (img .entry)))) (view (now (img .entry))) (now (name .entry)) id mode time)))) (now (list .exit)) r ⌝ }
+    ensures { λ r. ⌜ Emitted (now (list .entry)) 0
+        (closed (groupsFor (view (now (img .entry))) (some (createPlan (catalogueOf (view (now (img .entry)))) (view (now (img .entry))) (now (name .entry)) id mode time)))) (now (list .exit)) r ⌝ }
 {
     let a = directory::updated_root(img, g.edition, time);
     let b = layout::entry::new(g.edition, name, id, mode, time);
     let i = index_of(directory::free_entry(img, g));
     let t = FileIndex(i as u64).sector();
-    put_pair(list, img, g, stages, Sector(1), a, t, b)
+    put_pair(list, img, g, stages, Sector::ROOT, a, t, b)
 }
 
 // ---- the call

@@ -35,7 +35,7 @@ fn put_delete(
 {
     let mut numbers = [0u64; 1024];
     let root = directory::updated_root(img, g.edition, time);
-    let k = commit::put_copy(list, 0, g, stages, &mut numbers, 0, Sector(1), root);
+    let k = commit::put_copy(list, 0, g, stages, &mut numbers, 0, Sector::ROOT, root);
     let entry = [0u8; 512];
     let j = commit::put_copy(list, k, g, stages, &mut numbers, k, i.sector(), entry);
     let n = freeing::put_freed(list, j, &mut numbers, img, g, stages, i, 0);

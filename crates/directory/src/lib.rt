@@ -102,7 +102,7 @@ pub fn root_id(img: &[u8]) -> u64
     requires { ⌜ 512 * rootAt + 512 ≤ length (now img) ⌝ }
     ensures { λ r. ⌜ r ≡ numberIn (view (now (img .entry)) rootAt) (rootField .id) ⌝ }
 {
-    layout::root::id(fields::sector_part(img, Sector(1)))
+    layout::root::id(fields::sector_part(img, Sector::ROOT))
 }
 
 // ---- sectors that a change rewrites: the bytes that document 01 doesn't name stay
@@ -112,7 +112,7 @@ pub fn updated_root(img: &[u8], edition: u64, time: u64) -> [u8; 512]
     requires { ⌜ 512 * rootAt + 512 ≤ length (now img) ⌝ }
     ensures { λ r. ⌜ r ≡ updatedRootSector edition time (view (now (img .entry)) rootAt) ⌝ }
 {
-    layout::root::updated(fields::sector_part(img, Sector(1)), edition, time)
+    layout::root::updated(fields::sector_part(img, Sector::ROOT), edition, time)
 }
 
 // Entry i's sector with the size given, the version up and the change time set.
@@ -137,7 +137,7 @@ pub fn accessed_root(img: &[u8], edition: u64, time: u64) -> [u8; 512]
     requires { ⌜ 512 * rootAt + 512 ≤ length (now img) ⌝ }
     ensures { λ r. ⌜ r ≡ accessedRootSector edition time (view (now (img .entry)) rootAt) ⌝ }
 {
-    layout::root::accessed(fields::sector_part(img, Sector(1)), edition, time)
+    layout::root::accessed(fields::sector_part(img, Sector::ROOT), edition, time)
 }
 
 // Entry i's sector with the access time set.
@@ -343,7 +343,8 @@ pub fn bad_entry_in(s: &[u8], edition: u64, most: u64) -> bool
 // Entry i is occupied, and its name is bad or its size exceeds `most`.
 fn bad_entry(img: &[u8], edition: u64, most: u64, i: FileIndex) -> bool
     requires { ⌜ 512 * entryAt (i .0) + 512 ≤ length (now img) ⌝ }
-    ensures { λ r. ⌜ r ≡ (isOccupied (view (now (img .entry)) (entryAt (i .0))) && (badName edition (nameIn edition (view (now (img .entry)) (entryAt (i .0)))) || ltb most (numberIn (view (now (img .entry)) (entryAt (i .0))) (entryField .size)))) ⌝ }
+    ensures { λ r. ⌜ r ≡ (isOccupied (view (now (img .entry)) (entryAt (i .0)))
+        && (badName edition (nameIn edition (view (now (img .entry)) (entryAt (i .0)))) || ltb most (numberIn (view (now (img .entry)) (entryAt (i .0))) (entryField .size)))) ⌝ }
 {
     let s = fields::sector_part(img, i.sector());
     if layout::entry::is_occupied(s) {

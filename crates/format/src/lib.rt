@@ -137,7 +137,12 @@ fn put_record(g: Geometry, id: u64, mode: u32, time: u64, p: u64, out: &mut [u8]
     ensures { λ _. ⌜ ((a : Format) → a .id ≡ id → a .mode ≡ mode → a .time ≡ time → now (out .exit) ≡ put (now (out .entry)) 0 (recordBytes p (formatRecord g a p))) ⌝ }
 {
     if p == 0 {
-        return put_sector(out, p, Sector(0), layout::superblock::new(g, 65535));
+        return put_sector(
+            out,
+            p,
+            Sector::SUPERBLOCK,
+            layout::superblock::new(g, 65535),
+        );
     }
     if p == 1 {
         return put_barrier(out, p);
@@ -146,7 +151,7 @@ fn put_record(g: Geometry, id: u64, mode: u32, time: u64, p: u64, out: &mut [u8]
         return put_sector(
             out,
             p,
-            Sector(1),
+            Sector::ROOT,
             layout::root::new(g.edition, id, mode, time),
         );
     }
@@ -163,7 +168,7 @@ fn put_record(g: Geometry, id: u64, mode: u32, time: u64, p: u64, out: &mut [u8]
         );
     }
     if p == table_end + 1 {
-        return put_sector(out, p, Sector(0), layout::superblock::new(g, 0));
+        return put_sector(out, p, Sector::SUPERBLOCK, layout::superblock::new(g, 0));
     }
     put_barrier(out, p)
 }

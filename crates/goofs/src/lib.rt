@@ -31,7 +31,8 @@ ghost use Rattle.model.specs.Lent.{onLent, readLent, readStep, readStepOutput, 
 ghost use Rattle.model.specs.Format.{formatAnswer, formatOutput};
 ghost use Rattle.model.specs.CarryOut.{carryAnswer, carryImage};
 ghost use Rattle.model.specs.Lengths.{longestAnswer};
-ghost use Rattle.goofs.specs.Numbers.{summaryNumbers, checkNumbers, findNumbers, listNumbers, readNumbers, changeNumbers, repairNumbers, recoverNumbers, sliceNumbers, formatNumbers, longestNumbers};
+ghost use Rattle.goofs.specs.Numbers.{summaryNumbers, checkNumbers, findNumbers, listNumbers, readNumbers, changeNumbers};
+ghost use Rattle.goofs.specs.Numbers.{repairNumbers, recoverNumbers, sliceNumbers, formatNumbers, longestNumbers};
 
 // ---- summary
 

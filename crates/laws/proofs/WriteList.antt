@@ -120,10 +120,6 @@ pub stage-at : (g : Geometry) (extents : List ℕ) (n k : ℕ) → k < n → get
 unfolding stagesIn
 stage-at g extents n k h = getD-tab0 (stageIn g extents) n k 0 h
 
-pub length-stages : (g : Geometry) (extents : List ℕ) (n : ℕ) → length (stagesIn g extents n) ≡ n
-unfolding stagesIn
-length-stages g extents n = length-tabulate (stageIn g extents) 0 n
-
 pub copies-are : (g : Geometry) (extents : List ℕ) (ts : Group)
     → copies (stagesIn g extents (length ts)) ts ≡ tabulate (λ k. sectorWrite (stageIn g extents k) (getD ts k barrier .contents)) 0 (length ts)
 unfolding copies

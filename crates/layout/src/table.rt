@@ -42,5 +42,5 @@ pub fn free(s: &mut [u8], k: usize)
     requires { ⌜ 4 * k + 4 ≤ length (now s) ⌝ }
     ensures { λ _. ⌜ now (s .exit) ≡ put (now (s .entry)) (4 * k) (tableEntryBytes freeFile 65535) ⌝ }
 {
-    put(s, SIZE * k, 65535, 65535);
+    put(s, SIZE * k, model::FREE_FILE, 65535);
 }

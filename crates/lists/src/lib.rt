@@ -68,7 +68,7 @@ pub fn put_superblock(list: &mut [u8], k: usize, img: &[u8], n: u64) -> usize
     requires { ⌜ 512 ≤ length (now img) ⌝ }
     ensures { λ r. ⌜ Emitted (now (list .entry)) k (sectorWrite 0 (withJournalLength n (view (now (img .entry)) 0)) ∷ barrier ∷ []) (now (list .exit)) r ⌝ }
 {
-    let j = put_from(list, k, Sector(0), img, 0);
+    let j = put_from(list, k, Sector::SUPERBLOCK, img, 0);
     layout::superblock::put_journal_length(list, k * RECORD_SIZE + CONTENTS_START, n);
     put_barrier(list, j)
 }

@@ -210,6 +210,18 @@ pub struct Recovering {
 
 // ---- the layout's rules: only these turn file, extent and sector numbers into each other
 
+// The most bytes that a read or write takes, and that a resize adds.
+pub const LONGEST_TRANSFER: u64 = 65536;
+
+// The file that the table's entry of a free extent names.
+pub const FREE_FILE: u64 = 65535;
+
+impl Sector {
+    pub const SUPERBLOCK: Sector = Sector(0);
+
+    pub const ROOT: Sector = Sector(1);
+}
+
 impl FileIndex {
     pub fn sector(self) -> Sector
         requires { ⌜ 2 + self .0 < 18446744073709551616 ⌝ }
@@ -262,7 +274,7 @@ impl Geometry {
         (self.table_sectors() + 3 + (s - 1)) / s
     }
 
-    pub fn usable(self) -> u64
+    fn usable(self) -> u64
         requires { ⌜ Bounded self ⌝ }
         ensures { λ r. ⌜ r ≡ usable self ⌝ }
     {

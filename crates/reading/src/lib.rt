@@ -165,10 +165,13 @@ fn list_entry(
     list: &mut [u8],
 ) -> Listed
     requires { ⌜ Opened (now img) g ⌝ }
-    requires { ⌜ (i .0 < g .files) × (isOccupied (view (now img) (entryAt (i .0))) ≡ true) × (numberIn (view (now img) (entryAt (i .0))) (layoutOf (g .edition) .nameLength) ≤ layoutOf (g .edition) .longestName) ⌝ }
+    requires { ⌜ (i .0 < g .files) × (isOccupied (view (now img) (entryAt (i .0))) ≡ true)
+        × (numberIn (view (now img) (entryAt (i .0))) (layoutOf (g .edition) .nameLength) ≤ layoutOf (g .edition) .longestName) ⌝ }
     ensures { λ r. ⌜ r ≡ listedOf (entryDecision (view (now (img .entry))) (i .0) time (length (now (out .entry))) (length (now (list .entry)))) (view (now (img .entry))) (i .0) ⌝ }
-    ensures { λ _. ⌜ now (out .exit) ≡ put (now (out .entry)) 0 (copiedOf (entryDecision (view (now (img .entry))) (i .0) time (length (now (out .entry))) (length (now (list .entry)))) (view (now (img .entry))) (i .0)) ⌝ }
-    ensures { λ _. ⌜ now (list .exit) ≡ listAfter (view (now (img .entry))) (entryDecision (view (now (img .entry))) (i .0) time (length (now (out .entry))) (length (now (list .entry)))) (now (list .entry)) ⌝ }
+    ensures { λ _. ⌜ now (out .exit) ≡ put (now (out .entry)) 0
+        (copiedOf (entryDecision (view (now (img .entry))) (i .0) time (length (now (out .entry))) (length (now (list .entry)))) (view (now (img .entry))) (i .0)) ⌝ }
+    ensures { λ _. ⌜ now (list .exit) ≡ listAfter (view (now (img .entry)))
+        (entryDecision (view (now (img .entry))) (i .0) time (length (now (out .entry))) (length (now (list .entry)))) (now (list .entry)) ⌝ }
 {
     let fields = directory::fields_at(img, g.edition, i);
     let n = fields.name_length as usize;
@@ -179,7 +182,7 @@ fn list_entry(
     if verdict.number == 0 {
         copy_name(img, g.edition, i, out, n);
         let root = directory::accessed_root(img, g.edition, time);
-        put_access(list, img, g, &stages, there, Sector(1), root);
+        put_access(list, img, g, &stages, there, Sector::ROOT, root);
         return Listed {
             verdict,
             fields,
@@ -220,7 +223,7 @@ fn bad_argument(edition: u64, name: &[u8], asked: u64, time: u64) -> bool
     if directory::bad_name(edition, name) {
         return true;
     }
-    65536 < asked
+    model::LONGEST_TRANSFER < asked
 }
 
 // 12, or 14 for either buffer.
@@ -291,9 +294,11 @@ fn read_file(
     requires { ⌜ Opened (now img) g ⌝ }
     requires { ⌜ 512 * volumeSectors g ≤ length (now img) ⌝ }
     requires { ⌜ (i .0 < g .files) × (isOccupied (view (now img) (entryAt (i .0))) ≡ true) × (numberIn (view (now img) (entryAt (i .0))) (entryField .size) < 2 ^ 62) × (asked ≤ longestTransfer) ⌝ }
-    ensures { λ r. ⌜ r ≡ fileRead (fileDecision (view (now (img .entry))) (i .0) offset asked time (length (now (out .entry))) (length (now (list .entry)))) (view (now (img .entry))) (i .0) offset asked ⌝ }
+    ensures { λ r. ⌜ r ≡ fileRead
+        (fileDecision (view (now (img .entry))) (i .0) offset asked time (length (now (out .entry))) (length (now (list .entry)))) (view (now (img .entry))) (i .0) offset asked ⌝ }
     ensures { λ r. ⌜ now (out .exit) ≡ put (now (out .entry)) 0 (fileBytes (catalogueOf (view (now (img .entry)))) (view (now (img .entry))) (i .0) offset (r .count)) ⌝ }
-    ensures { λ _. ⌜ now (list .exit) ≡ listAfter (view (now (img .entry))) (fileDecision (view (now (img .entry))) (i .0) offset asked time (length (now (out .entry))) (length (now (list .entry)))) (now (list .entry)) ⌝ }
+    ensures { λ _. ⌜ now (list .exit) ≡ listAfter (view (now (img .entry)))
+        (fileDecision (view (now (img .entry))) (i .0) offset asked time (length (now (out .entry))) (length (now (list .entry)))) (now (list .entry)) ⌝ }
 {
     let r = decide_read(img, g, i, offset, asked, time, out.len() as u64, list);
     if r.count == 0 {
@@ -385,7 +390,8 @@ fn begin_read(
 ) -> Reading
     requires { ⌜ Opened (now img) g ⌝ }
     requires { ⌜ (i .0 < g .files) × (isOccupied (view (now img) (entryAt (i .0))) ≡ true) × (asked ≤ longestTransfer) ⌝ }
-    ensures { λ r. ⌜ r ≡ readBegun (catalogueOf (view (now (img .entry)))) (i .0) offset (fileRead (fileDecision (view (now (img .entry))) (i .0) offset asked time room (length (now (list .entry)))) (view (now (img .entry))) (i .0) offset asked) ⌝ }
+    ensures { λ r. ⌜ r ≡ readBegun (catalogueOf (view (now (img .entry)))) (i .0) offset
+        (fileRead (fileDecision (view (now (img .entry))) (i .0) offset asked time room (length (now (list .entry)))) (view (now (img .entry))) (i .0) offset asked) ⌝ }
     ensures { λ _. ⌜ now (list .exit) ≡ listAfter (view (now (img .entry))) (fileDecision (view (now (img .entry))) (i .0) offset asked time room (length (now (list .entry)))) (now (list .entry)) ⌝ }
 {
     let a = decide_read(img, g, i, offset, asked, time, room, list);

@@ -217,7 +217,7 @@ fn put_rename(
 {
     let mut numbers = [0u64; 1024];
     let root = directory::updated_root(img, g.edition, time);
-    let k = commit::put_copy(list, 0, g, stages, &mut numbers, 0, Sector(1), root);
+    let k = commit::put_copy(list, 0, g, stages, &mut numbers, 0, Sector::ROOT, root);
     let n = put_renaming(list, k, &mut numbers, img, g, stages, i, place, name, time);
     commit::put_commit(list, n, img, g, stages, &numbers, n)
 }

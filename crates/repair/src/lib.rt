@@ -109,7 +109,7 @@ fn is_stray(img: &[u8], g: Geometry, e: usize, chains: &mut [u32]) -> bool
     ensures { λ r. ⌜ Linked g (view (now (img .entry))) (e + 1) (now (chains .exit)) ⌝ }
 {
     let extent = Extent(e as u64);
-    if table::table_file(img, g, extent) == 65535 {
+    if table::table_file(img, g, extent) == model::FREE_FILE {
         return false;
     }
     let b = bucket_of(img, g, extent, chains.len());

@@ -124,9 +124,6 @@ module _ (offset : ℕ) (bytes : List ℕ) (s : ℕ) (old new : List ℕ) (whole
   abbrev to : ℕ
   to = min (offset + n) (512 * s + 512) - 512 * s
 
-  abbrev inSpan : ℕ → Bool
-  inSpan j = leb offset (512 * s + j) && ltb (512 * s + j) (offset + n)
-
   -- a byte of the span, and one outside it
   spliced-yes : (x : List ℕ) → length x ≡ 512 → (j : ℕ) → j < 512 → offset ≤ 512 * s + j → 512 * s + j < offset + n
       → getD (spliced offset bytes s x) j 0 ≡ getD bytes (512 * s + j - offset) 0

@@ -30,7 +30,8 @@ use Rattle.model.specs.Write.{writePlanned, writeConditions, writeDecision, wri
 use Rattle.model.specs.Resize.{resizePlanned, resizeConditions, resizeDecision, resizeAnswer}
 use Rattle.model.specs.Recovery.{recoveryGroups, recoveryVerdict, recoveryListed, recoveryAnswer}
 use Rattle.model.specs.Lent.{isFront, lentLength, readIdle, readAsking, readBegun, readLent, partlyCovered, writeAsking, writeLent, resizeLent, recoveryIdle, recoveryAsking, recoveryLent}
-use Rattle.model.specs.Lent.{isAsked, takesRead, readNotTaken, readStep, readStepOutput, takesWrite, writeNotTaken, writeStep, writeStepList, takesSource, sourceNotTaken, recoveryStep, recoveryStepList}
+use Rattle.model.specs.Lent.{isAsked, takesRead, readNotTaken, readStep, readStepOutput, takesWrite, writeNotTaken, writeStep, writeStepList}
+use Rattle.model.specs.Lent.{takesSource, sourceNotTaken, recoveryStep, recoveryStepList}
 use Rattle.laws.proofs.Booleans.{and-false, and-yes}
 use Rattle.safety.specs.LentForms.{goesBy, LentRefusals, RefusedBefore, WrongCount}
 

@@ -126,7 +126,7 @@ fn scratch_numbers(g: Geometry) -> u64
     4 * g.files + g.extents
 }
 
-pub fn first_fault_with(img: &[u8], g: Geometry, scratch: &mut [u32]) -> Soundness
+fn first_fault_with(img: &[u8], g: Geometry, scratch: &mut [u32]) -> Soundness
     requires { ⌜ Opened (now img) g ⌝ }
     requires { ⌜ scratchNumbers g ≤ length (now scratch) ⌝ }
     ensures { λ r. ⌜ r ≡ firstFault (view (now (img .entry))) ⌝ }

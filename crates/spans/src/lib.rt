@@ -138,7 +138,8 @@ fn put_piece(
     requires { ⌜ Touched offset len s n ⌝ }
     requires { ⌜ Source (now bytes) len ⌝ }
     ensures { λ r. ⌜ r ≡ k + n ⌝ }
-    ensures { λ r. ⌜ Emitted (now (list .entry)) k (tabulate (λ x. sectorWrite (start .0 + (x - s)) (spliced offset (spanOf (now (bytes .entry)) len) x (view (now (img .entry)) (start .0 + (x - s))))) s n) (now (list .exit)) r ⌝ }
+    ensures { λ r. ⌜ Emitted (now (list .entry)) k
+        (tabulate (λ x. sectorWrite (start .0 + (x - s)) (spliced offset (spanOf (now (bytes .entry)) len) x (view (now (img .entry)) (start .0 + (x - s))))) s n) (now (list .exit)) r ⌝ }
 {
     let mut at = k;
     let mut j: u64 = 0;
@@ -204,7 +205,8 @@ fn put_in_extent(
     requires { ⌜ Source (now bytes) len ⌝ }
     requires { ⌜ 0 < n ⌝ }
     ensures { λ r. ⌜ (0 < r) × (r ≤ n) ⌝ }
-    ensures { λ r. ⌜ Emitted (now (list .entry)) k (tabulate (dataSector (catalogueOf (view (now (img .entry)))) (i .0) (view (now (img .entry))) offset (spanOf (now (bytes .entry)) len)) s r) (now (list .exit)) (k + r) ⌝ }
+    ensures { λ r. ⌜ Emitted (now (list .entry)) k
+        (tabulate (dataSector (catalogueOf (view (now (img .entry)))) (i .0) (view (now (img .entry))) offset (spanOf (now (bytes .entry)) len)) s r) (now (list .exit)) (k + r) ⌝ }
 {
     let size = g.extent_sectors as u64;
     let m = fields::least(size - s % size, n);
@@ -234,7 +236,8 @@ pub fn put_data(
     requires { ⌜ Touched offset len s n ⌝ }
     requires { ⌜ Source (now bytes) len ⌝ }
     ensures { λ r. ⌜ r ≡ k + n ⌝ }
-    ensures { λ r. ⌜ Emitted (now (list .entry)) k (tabulate (dataSector (catalogueOf (view (now (img .entry)))) (i .0) (view (now (img .entry))) offset (spanOf (now (bytes .entry)) len)) s n) (now (list .exit)) r ⌝ }
+    ensures { λ r. ⌜ Emitted (now (list .entry)) k
+        (tabulate (dataSector (catalogueOf (view (now (img .entry)))) (i .0) (view (now (img .entry))) offset (spanOf (now (bytes .entry)) len)) s n) (now (list .exit)) r ⌝ }
 {
     if n == 0 {
         return k;

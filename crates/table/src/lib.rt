@@ -129,15 +129,14 @@ fn holds_free(img: &[u8], g: Geometry, e: u64) -> bool
     found
 }
 
-// The lowest free extent from `from` on.
-fn free_from(img: &[u8], g: Geometry, from: u64) -> Lowest
+// The lowest free extent from `from` to below `to`.
+fn free_between(img: &[u8], g: Geometry, from: u64, to: u64) -> Lowest
     requires { ⌜ Opened (now img) g ⌝ }
-    requires { ⌜ from ≤ g .extents ⌝ }
-    ensures { λ r. ⌜ r ≡ scan (λ e. eqb (tableFile g (view (now (img .entry))) e) freeFile) (g .extents - from) from ⌝ }
+    requires { ⌜ (from ≤ to) × (to ≤ g .extents) ⌝ }
+    ensures { λ r. ⌜ r ≡ scan (λ e. eqb (tableFile g (view (now (img .entry))) e) freeFile) (to - from) from ⌝ }
 {
-    let n = g.extents;
     let mut e = from;
-    while e < n {
+    while e < to {
         if is_free(img, g, Extent(e)) {
             return Lowest::At(e as usize);
         }
@@ -146,20 +145,26 @@ fn free_from(img: &[u8], g: Geometry, from: u64) -> Lowest
     Lowest::Nowhere
 }
 
-// The lowest free extent. A sector with no free entry is passed over whole.
+// The lowest free extent. The first ones are looked at one by one, as the search ends there on a volume that is nearly empty; behind
+// them 128 entries with no free one are passed over at once.
 pub fn free_extent(img: &[u8], g: Geometry) -> Lowest
     requires { ⌜ Opened (now img) g ⌝ }
     ensures { λ r. ⌜ r ≡ freeExtent (catalogueOf (view (now (img .entry)))) ⌝ }
 {
     let n = g.extents;
-    let mut e: u64 = 0;
+    let few = fields::least(8, n);
+    let low = free_between(img, g, 0, few);
+    if let Lowest::At(k) = low {
+        return Lowest::At(k);
+    }
+    let mut e = few;
     while e + 128 <= n {
         if holds_free(img, g, e) {
-            return free_from(img, g, e);
+            return free_between(img, g, e, n);
         }
         e += 128;
     }
-    free_from(img, g, e)
+    free_between(img, g, e, n)
 }
 
 // ---- the highest free extents

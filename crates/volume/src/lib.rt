@@ -30,14 +30,14 @@ pub fn is_volume(img: &[u8]) -> bool
     requires { ⌜ 512 ≤ length (now img) ⌝ }
     ensures { λ r. ⌜ r ≡ isVolume (view (now (img .entry)) 0) ⌝ }
 {
-    layout::superblock::is_volume(fields::sector_part(img, Sector(0)))
+    layout::superblock::is_volume(fields::sector_part(img, Sector::SUPERBLOCK))
 }
 
 pub fn geometry_in(img: &[u8]) -> Geometry
     requires { ⌜ 512 ≤ length (now img) ⌝ }
     ensures { λ r. ⌜ r ≡ geometryIn (view (now (img .entry)) 0) ⌝ }
 {
-    layout::superblock::geometry(fields::sector_part(img, Sector(0)))
+    layout::superblock::geometry(fields::sector_part(img, Sector::SUPERBLOCK))
 }
 
 // The geometry is in bounds, and the volume has no more sectors than these.
@@ -83,7 +83,7 @@ pub fn state_on(img: &[u8]) -> State
     requires { ⌜ 512 ≤ length (now img) ⌝ }
     ensures { λ r. ⌜ r ≡ stateOn (view (now (img .entry))) ⌝ }
 {
-    let s = fields::sector_part(img, Sector(0));
+    let s = fields::sector_part(img, Sector::SUPERBLOCK);
     state_of(layout::superblock::journal_length(s))
 }
 

@@ -289,7 +289,7 @@ fn begin_write(
     if directory::bad_name_or_time(g.edition, name, time) {
         return not_begun(8);
     }
-    if 65536 < bytes.len() {
+    if model::LONGEST_TRANSFER < bytes.len() as u64 {
         return not_begun(8);
     }
     if let Lowest::At(i) = directory::file_named(img, g, name) {
@@ -415,7 +415,7 @@ fn resize_file(
     if z < size {
         return shrink_file(img, g, i, z, time, list);
     }
-    if 65536 < z - size {
+    if model::LONGEST_TRANSFER < z - size {
         return commit::refused(volume::refusal(8));
     }
     write_zeros(img, g, i, size, z - size, time, list)

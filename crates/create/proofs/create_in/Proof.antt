@@ -29,7 +29,8 @@ put-create-requires c κs =
     let v = c .before .before .before .before .before .before .before .before .before in
     let o = v .before .geometry-in in
     let s = v .before .before .before .before .before in
-    let good = good-name (s .args .img .now) _ (o .ensures) _ _ _ (ap (λ (v : Verdict). v .number) (sym (v .own-verdict .ensures)) ∙ c .before .before .before .before .before .before .before .if1 .taken) in
+    let good = good-name (s .args .img .now) _ (o .ensures) _ _ _
+    (ap (λ (v : Verdict). v .number) (sym (v .own-verdict .ensures)) ∙ c .before .before .before .before .before .before .before .if1 .taken) in
     (c .before .before .before .before .before .staging .ensures .1 (c .before .before .before .if2 .taken), (omega arith, (accepted-opened _ _ (o .ensures) (omega arith) (s .pre), good)))
 
 refusal-requires : tie.Need-refusal-requires
@@ -45,7 +46,9 @@ returns c =
     let a = s .args in
     rw (c .refusal .ensures)
     (create-done (a .img .now) (a .list .now) (a .name .now) (a .id) (a .mode) (a .time) (s .pre .verdict) (v .own-verdict .result) (v .own-verdict .ensures)
-    (c .before .before .before .before .before .before .before .before .before .before .before .if1 .taken) (c .before .before .before .before .before .before .before .before .before .staging .ensures .0 ∙ ap not (c .before .before .before .before .before .before .before .if2 .taken)) (omega (arith, c .before .before .before .before .before .before .if3 .taken)) (c .before .before .before .put-create .ensures))
+    (c .before .before .before .before .before .before .before .before .before .before .before .if1 .taken)
+    (c .before .before .before .before .before .before .before .before .before .staging .ensures .0 ∙ ap not (c .before .before .before .before .before .before .before .if2 .taken))
+    (omega (arith, c .before .before .before .before .before .before .if3 .taken)) (c .before .before .before .put-create .ensures))
 
 refusal-requires-2 : tie.Need-refusal-requires-2
 refusal-requires-2 c κs = search needs
@@ -60,7 +63,8 @@ returns-2 c =
     let a = s .args in
     rw (c .refused .ensures, c .before .refusal2 .ensures)
     (create-short (a .img .now) (a .list .now) (a .name .now) (a .id) (a .mode) (a .time) (s .pre .verdict) (v .own-verdict .result) (v .own-verdict .ensures)
-    (c .before .before .before .before .before .before .before .if1 .taken) (c .before .before .before .before .before .staging .ensures .0 ∙ ap not (c .before .before .before .if2 .taken)) (omega arith))
+    (c .before .before .before .before .before .before .before .if1 .taken)
+    (c .before .before .before .before .before .staging .ensures .0 ∙ ap not (c .before .before .before .if2 .taken)) (omega arith))
 
 refusal-requires-3 : tie.Need-refusal-requires-3
 refusal-requires-3 c κs = search needs

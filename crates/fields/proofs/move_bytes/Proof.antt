@@ -28,7 +28,7 @@ returns c =
     let s = c .before .before .before .before .before .before .before .before .before .before .args in
     let vs = bytesFrom (s .src .now) (s .from) (s .n) in
     let e = ap (λ a. bytesFrom a 0 (s .n)) (c .before .before .before .before .before .before .copy-bytes .ensures)
-          ∙ bytesFrom-put-same _ 0 vs (s .n) (length-bytesFrom (s .src .now) (s .from) (s .n)) (omega arith) in
+    ∙ bytesFrom-put-same _ 0 vs (s .n) (length-bytesFrom (s .src .now) (s .from) (s .n)) (omega arith) in
     rw e at (c .before .before .copy-bytes2 .ensures)
 
 pub move-bytes-spec : {M : Type 1} → statement M

@@ -1,4 +1,4 @@
--- `table::free_from` meets its contract. The loop's invariant: the search from e on gives what the search from the start gives.
+-- `table::free_between` meets its contract. The loop's invariant: the search from e on gives what the search from the start gives.
 use Prim.Native.Nat.{ℕ, _-_, _≤_}
 use mathlib.Core.Path.{_≡_, refl, sym, _∙_}
 use mathlib.Core.Bool.{Bool}
@@ -11,17 +11,17 @@ use Rattle.model.specs.Disk.{view}
 use Rattle.model.specs.Table.{tableFile, freeFile}
 use Rattle.laws.proofs.Search.{scan-here, scan-next, scan-end}
 use borrow.Author.Needs.{needs}
-use Rattle.table.proofs.free_from.Statement.{statement}
-use Rattle.table.proofs.free_from.Tie as tie
+use Rattle.table.proofs.free_between.Statement.{statement}
+use Rattle.table.proofs.free_between.Tie as tie
 
 abbrev hit : List ℕ → Geometry → ℕ → Bool
 hit img g e = eqb (tableFile g (view img) e) freeFile
 
 abbrev Inv-loop : tie.InvT-loop
-Inv-loop img g from n e₀ e = (e ≤ n) × (scan (hit img g) (n - e) e ≡ scan (hit img g) (n - from) from)
+Inv-loop img g from to e₀ e = (e ≤ to) × (scan (hit img g) (to - e) e ≡ scan (hit img g) (to - from) from)
 
 abbrev μ-loop : tie.MeasureT-loop
-μ-loop img g from n e₀ e = n - e
+μ-loop img g from to e₀ e = to - e
 
 loop-holds : tie.Need-loop-holds Inv-loop μ-loop
 loop-holds c = (omega arith, refl)
@@ -33,7 +33,7 @@ returns : tie.Need-returns Inv-loop μ-loop
 returns c =
     let b = c .before .before .before in
     let a = b .before .before .args in
-    (sym (scan-here (hit (a .img .now) (a .g)) (a .g .extents) (b .loop .e) (omega arith) (sym (c .before .is-free .ensures) ∙ c .if1 .taken)) ∙ b .loop .inv .1)
+    (sym (scan-here (hit (a .img .now) (a .g)) (a .to) (b .loop .e) (omega arith) (sym (c .before .is-free .ensures) ∙ c .if1 .taken)) ∙ b .loop .inv .1)
 
 add-e : tie.Need-add-e Inv-loop μ-loop
 add-e c = search needs
@@ -45,16 +45,16 @@ loop-again : tie.Need-loop-again Inv-loop μ-loop
 loop-again c =
     let b = c .before .before .before in
     let a = b .before .before .args in
-    (omega arith, sym (scan-next (hit (a .img .now) (a .g)) (a .g .extents) (b .loop .e) (omega arith) (sym (c .before .is-free .ensures) ∙ c .if1 .left)) ∙ b .loop .inv .1)
+    (omega arith, sym (scan-next (hit (a .img .now) (a .g)) (a .to) (b .loop .e) (omega arith) (sym (c .before .is-free .ensures) ∙ c .if1 .left)) ∙ b .loop .inv .1)
 
 returns-2 : tie.Need-returns-2 Inv-loop μ-loop
 returns-2 c =
     let b = c .before in
     let a = b .before .before .args in
-    (sym (scan-end (hit (a .img .now) (a .g)) (a .g .extents) (b .loop .e) (omega arith)) ∙ b .loop .inv .1)
+    (sym (scan-end (hit (a .img .now) (a .g)) (a .to) (b .loop .e) (omega arith)) ∙ b .loop .inv .1)
 
-pub free-from-spec : {M : Type 1} → statement M
-free-from-spec =
+pub free-between-spec : {M : Type 1} → statement M
+free-between-spec =
     tie.close
     (tie.spec
     Inv-loop

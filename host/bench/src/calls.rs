@@ -34,32 +34,13 @@ pub fn print(comparisons: &mut Comparisons) {
         output: vec![0; LONGEST_SPAN + ACCESS_LIST],
         slower: Vec::new(),
     };
-    {
-        let table = &mut table;
-        let input = SAMPLE;
-        let image = images::sample(Edition::First);
-        table.check(input, &image);
-        table.rename("rename, to a new name", input, &image, b"calibration", b"new");
-        table.rename_eight_times(input, &image, b"calibration");
-        table.check("sample, full", &images::sample_full());
-        table.rename_onto_eight("sample, full", &images::sample_full(), 255);
-        let g = images::geometry(255, 4);
-        let few = images::filled(g, 16, g.usable_extents(), images::short_name);
-        table.check("sample, sixteen files", &few);
-        table.rename_onto_eight("sample, sixteen files", &few, 16);
-        let few = images::filled(g, 16, 0, images::short_name);
-        table.rename_onto_eight("sample, sixteen files without extents", &few, 16);
-        let g = images::geometry(255, 65535);
-        let few = images::filled(g, 16, 16, images::short_name);
-        table.check("sixteen files, largest table", &few);
-        table.rename_onto_eight("sixteen files, largest table", &few, 16);
-        let few = images::filled(g, 255, g.usable_extents(), images::short_name);
-        table.check("full, 255 files, largest table", &few);
-        table.rename_onto_eight("full, 255 files, largest table", &few, 255);
-    }
-    if false {
-        sample(&mut table); second_edition(&mut table); nearly_empty(&mut table); full(&mut table); almost_full(&mut table); one_file(&mut table); other_writers(&mut table);
-    }
+    sample(&mut table);
+    second_edition(&mut table);
+    nearly_empty(&mut table);
+    full(&mut table);
+    almost_full(&mut table);
+    one_file(&mut table);
+    other_writers(&mut table);
     table.print_slower();
 }
 
@@ -85,7 +66,8 @@ fn sample(table: &mut CallTable) {
     table.rename("rename, to a new name", input, &image, name, b"new");
     table.rename("rename, onto 2 extents", input, &image, b"empty", name);
     table.rename_eight_times(input, &image, name);
-    table.rename_onto_eight("sample, full", &images::sample_full(), 255);
+    table.rename_onto_eight("sample, sixteen files", &images::sample_filled(16), 16);
+    table.rename_onto_eight("sample, full", &images::sample_filled(255), 255);
     let mut leaked = image.clone();
     mark_entry(&mut leaked, 0, 0);
     table.repair("repair, 2 extents", input, &leaked);
@@ -379,7 +361,9 @@ impl CallTable<'_> {
     /// Eight files, spread over the directory, each onto the next of sixteen, the last onto the last.
     fn rename_onto_eight(&mut self, input: &str, image: &[u8], files: u64) {
         let step = files / 16;
-        let names = (0..16).rev().map(|k| images::short_name(files - 1 - k * step));
+        let names = (0..16)
+            .rev()
+            .map(|k| images::short_name(files - 1 - k * step));
         let pairs = Vec::from_iter(names);
         self.rename_set("rename_set, eight files onto eight", input, image, &pairs);
     }

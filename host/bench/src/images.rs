@@ -39,10 +39,10 @@ pub fn sample(edition: Edition) -> Vec<u8> {
     image
 }
 
-/// The sample's geometry, all entries and usable extents taken.
-pub fn sample_full() -> Vec<u8> {
+/// The sample's geometry with so many files, all usable extents taken.
+pub fn sample_filled(files: u64) -> Vec<u8> {
     let geometry = geometry(255, 4);
-    filled(geometry, 255, geometry.usable_extents(), short_name)
+    filled(geometry, files, geometry.usable_extents(), short_name)
 }
 
 /// One file with two extents.

@@ -1,15 +1,12 @@
 -- Laws of sums: over indexes, and of counts by value. Assumes nothing.
 use Prim.Native.Nat.{ℕ, zero, suc, _+_, _≤_, _<_}
 use mathlib.Core.Path.{_≡_, refl, ap, _∙_}
-use mathlib.Core.Logic.{_≢_, ⊎-elim}
+use mathlib.Core.Logic.{⊎-elim}
 use mathlib.Core.Bool.{Bool, true, false, _&&_}
-use mathlib.Core.List.{List}
 use native.Mathlib.Numerals.{add-one}
 use native.Mathlib.Nat.{eq-or-lt-of-le, le-of-suc-le-suc}
 use native.Mathlib.Omega.{arith}
 use lib.Dec.{eqb, ltb}
-use lib.ListN.{length, getD, set}
-use lib.Seq.{getD-set-same, getD-set-other}
 use borrow.Author.Tests.{lt-ltb, le-ltb, eqb-true, eqb-false, ltb-true, ltb-false}
 use Rattle.model.specs.Search.{countBelow}
 use Rattle.laws.proofs.Search.{anyBelow-no}
@@ -58,12 +55,3 @@ by-value q v n zero = countBelow-none _ n (anyBelow-no _ n (λ j l. none-below (
 by-value q v n (suc c) =
     countBelow-split (λ e. q e && ltb (v e) (suc c)) (λ e. q e && eqb (v e) c) (λ e. q e && ltb (v e) c) n (λ e. split-value (q e) (v e) c)
     ∙ ap (λ (k : ℕ). countBelow (λ e. q e && eqb (v e) c) n + k) (by-value q v n c)
-
--- ---- an array that is filled from the front
-
-pub set-next : (h : ℕ → ℕ) (l : List ℕ) (i v : ℕ) → i < length l → v ≡ h i → ((j : ℕ) → j < i → getD l j 0 ≡ h j) → (j : ℕ) → j < i + 1 → getD (set l i v) j 0 ≡ h j
-set-next h l i v room e f j lj = go (eqb j i) refl
-  where
-    go : (b : Bool) → eqb j i ≡ b → getD (set l i v) j 0 ≡ h j
-    go true t = rw (eqb-true j i t) (getD-set-same l i v 0 room ∙ e)
-    go false t = let ne : j ≢ i = eqb-false j i t in getD-set-other l i j v 0 ne ∙ f j (omega arith)

@@ -16,7 +16,8 @@ use Rattle.model.specs.Edition.{EditionLayout, firstEdition, secondEdition, lay
 use Rattle.model.specs.Root.{rootField, rootIn, updatedRootSector, accessedRootSector, newRootSector}
 use Rattle.model.specs.Entry.{entryField, nameIn, entryIn, isOccupied, badName, newEntrySector, freeMark, occupiedMark, updatedEntrySector, renamedEntrySector, accessedEntrySector}
 use Rattle.model.specs.Ledger.{newEntry, updatedEntry, renamedEntry, accessedEntry, updatedRoot, accessedRoot, newRoot}
-use Rattle.laws.proofs.Bytes.{length-put, length-zeroSector, number-same, bytes-other, bytesFrom-put-same, zeros-at}
+use Rattle.laws.proofs.Bytes.{length-put, length-zeroSector, number-same, bytes-other, bytesFrom-put-same, zeros-at, zero-field}
+use Rattle.laws.proofs.Entry.{renamed-name}
 use Rattle.laws.proofs.Edition.{by-edition, name-ends, name-bound, FitsTimes, edition-small}
 use Rattle.laws.proofs.Named.{short-name}
 use Rattle.safety.proofs.Stores.{Numbers, storesOf, apartFrom, apartIn, endIn, allApart, allEnd, Holds, Alike, alike-then, kept, kept-all, kept-before, kept-before-all, kept-behind, stored}
@@ -29,14 +30,6 @@ getD-all n x i h = getD-replicate {A = ℕ} n i x 0 h
 pub getD-zeros : (i : ℕ) → getD zeroSector i 0 ≡ 0
 unfolding zeroSector
 getD-zeros i = zeros-at 512 i
-
-beAt-zeros : (o w : ℕ) → beAt zeroSector o w ≡ 0
-unfolding beAt
-beAt-zeros o zero = refl
-beAt-zeros o (suc w) = ap₂ (λ n x. n * 256 + x) (beAt-zeros o w) (getD-zeros (o + w))
-
-pub zero-field : (f : Field) → numberIn zeroSector f ≡ 0
-zero-field f = beAt-zeros (f .offset) (f .width)
 
 pub getD-ones : (i : ℕ) → i < 512 → getD onesSector i 0 ≡ 255
 unfolding onesSector
@@ -282,10 +275,6 @@ module _ (edition : ℕ) (name : List ℕ) (time : ℕ) (s : List ℕ) where
   abbrev cleared : List ℕ
   cleared = put unnamed (layoutOf edition .name) blank
 
-  pub length-renamedEntrySector : length (renamedEntrySector edition name time s) ≡ length s
-  unfolding renamedEntrySector
-  length-renamedEntrySector = simp length-put
-
   -- fields that end before the name read what they do without the name
   before-name : (fs : List Field) → allEnd fs (layoutOf edition .name) ≡ true → Alike (put cleared (layoutOf edition .name) name) unnamed fs
   before-name fs h =
@@ -297,10 +286,6 @@ module _ (edition : ℕ) (name : List ℕ) (time : ℕ) (s : List ℕ) where
       alike-then (put cleared (layoutOf edition .name) name) unnamed s (retained (layoutOf edition))
       (before-name (retained (layoutOf edition)) (lies (λ x. allEnd (retained x) (x .name)) refl refl edition))
       (kept-all s (retained (layoutOf edition)) (renewed (layoutOf edition)) (lies (λ x. allApart (retained x) (renewed x)) refl refl edition))
-
-  pub renamed-occupied : isOccupied (renamedEntrySector edition name time s) ≡ isOccupied s
-  unfolding isOccupied renamedEntrySector
-  renamed-occupied = ap (λ n. eqb n occupiedMark) (remain .0)
 
   module _ (l : length s ≡ 512) (good : badName edition name ≡ false) (ht : FitsTimes (layoutOf edition) time) where
     -- the fields that change
@@ -314,20 +299,12 @@ module _ (edition : ℕ) (name : List ℕ) (time : ℕ) (s : List ℕ) where
         stored s 512 (renewed (layoutOf edition)) l (lies (λ x. apartIn (renewed x)) refl refl edition) (lies (λ x. endIn 512 (renewed x)) refl refl edition)
         (mod-lt _ (lit< tt), (ht .changeTime, (length-fits edition name (short-name edition name good), tt)))
 
-    renamed-name : nameIn edition (renamedEntrySector edition name time s) ≡ name
-    unfolding nameIn renamedEntrySector
-    renamed-name =
-        let k : length cleared ≡ 512 = simp (length-put, l) in
-        let n = fresh .1 .1 .0 ∙ filled-in .1 .1 .0 in
-        let at = layoutOf edition .name in
-        ap (λ m. bytesFrom (put cleared at name) at m) n
-        ∙ bytesFrom-put-same cleared at name (length name) refl (omega (arith, short-name edition name good, name-ends edition))
-
     pub renamed-entry : entryIn edition (renamedEntrySector edition name time s) ≡ renamedEntry name time (entryIn edition s)
     unfolding entryIn renamedEntry renamedEntrySector
     renamed-entry =
         let p2 = fresh .0 ∙ filled-in .0 in
         let p6 = fresh .1 .0 ∙ filled-in .1 .0 in
+        let p7 = renamed-name edition name time s l (short-name edition name good) in
         λ j. record {
           size = remain .1 .0 j;
           version = p2 j;
@@ -335,7 +312,7 @@ module _ (edition : ℕ) (name : List ℕ) (time : ℕ) (s : List ℕ) where
           mode = remain .1 .1 .1 .0 j;
           accessTime = remain .1 .1 .1 .1 .0 j;
           changeTime = p6 j;
-          name = renamed-name j;
+          name = p7 j;
         }
 
 -- ---- an entry whose access time was set, as read leaves it
@@ -383,10 +360,6 @@ module _ (edition time : ℕ) (s : List ℕ) where
           changeTime = untouched .1 .1 .1 .1 .1 .0 j;
           name = accessed-name j;
         }
-
-pub zero-free : isOccupied zeroSector ≡ false
-unfolding isOccupied
-zero-free = ap (λ n. eqb n occupiedMark) (zero-field (entryField .mark))
 
 -- the mark of an occupied entry is one of the two
 pub occupied-mark : (s : List ℕ) → isOccupied s ≡ true → not (eqb (numberIn s (entryField .mark)) freeMark || isOccupied s) ≡ false

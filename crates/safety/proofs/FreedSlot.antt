@@ -16,12 +16,13 @@ use Rattle.model.specs.Catalogue.{Owner, catalogueOf, ownedFrom}
 use Rattle.model.specs.Faults.{holdsOf, fault21}
 use Rattle.model.specs.WriteList.{Group}
 use Rattle.model.specs.Ledger.{Ledger, catalogue}
+use Rattle.laws.proofs.Bytes.{zero-field}
+use Rattle.laws.proofs.Entry.{zero-free}
 use Rattle.safety.proofs.Apply.{All}
 use Rattle.safety.proofs.Commit.{Ready}
 use Rattle.safety.proofs.Frame.{Shows}
 use Rattle.safety.proofs.Rep.{Rep}
 use Rattle.safety.proofs.Preserved.{slotIn, entry-is}
-use Rattle.safety.proofs.Fields.{zero-field, zero-free}
 use Rattle.safety.proofs.Replaced.{replaced, Admissible}
 use Rattle.safety.proofs.Rewritten.{rep-replaced}
 use Rattle.safety.proofs.FreedFile.{table-freed, disjoint-freed, others-freed}

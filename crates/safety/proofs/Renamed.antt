@@ -26,7 +26,7 @@ use Rattle.model.specs.WriteList.{Plan, Record, Group, sectorWrite, stored, ove
 use Rattle.model.specs.Rename.{renameConditions, renamedRecord, replacingRecords, renamePlan}
 use Rattle.model.specs.Ledger.{Ledger, File, fileOr, entryOfFile, catalogue, updatedRoot, renamedFile, withSlot, slotsWithout, afterRename, slotNamed, unfitTime, unfitName, unfitNewName}
 use Rattle.laws.proofs.Bytes.{length-zeroSector}
-use Rattle.laws.proofs.Entry.{new-name-good}
+use Rattle.laws.proofs.Entry.{new-name-good, length-renamedEntrySector}
 use Rattle.laws.proofs.Disk.{length-view}
 use Rattle.safety.proofs.OwnWords.{named-is, time-is, name-is, new-name-is, file-is, verdicts}
 use Rattle.safety.proofs.Searches.{place-found, place-none, or-right-no, same-refl, same-true}
@@ -39,7 +39,7 @@ use Rattle.safety.proofs.Frame.{Shows, stored-shows, stored-ready}
 use Rattle.safety.proofs.Rep.{Rep, Timely, timely, rep-geometry}
 use Rattle.safety.proofs.Changing.{Passed}
 use Rattle.safety.proofs.Preserved.{FreeIn, free-said}
-use Rattle.safety.proofs.Fields.{length-updatedRootSector, length-renamedEntrySector}
+use Rattle.safety.proofs.Fields.{length-updatedRootSector}
 use Rattle.safety.proofs.Replaced.{replaced, by-slot, table-by}
 use Rattle.safety.proofs.Read.{file-there}
 use Rattle.safety.proofs.FreedTable.{freed, length-freed, freed-few, freed-metadata, freed-whole, freed-rising, before-table}

@@ -23,12 +23,13 @@ use Rattle.model.specs.WriteList.{Record, sectorWrite}
 use Rattle.model.specs.Rename.{renamedRecord}
 use Rattle.model.specs.Ledger.{Ledger, File, fileOr, catalogue, updatedRoot, renamedEntry, renamedFile}
 use Rattle.laws.proofs.Disk.{length-view}
+use Rattle.laws.proofs.Entry.{renamed-occupied}
 use Rattle.safety.proofs.Apply.{over-here, over-skip, over-none}
 use Rattle.safety.proofs.Commit.{Ready}
 use Rattle.safety.proofs.Frame.{Outside, Shows}
 use Rattle.safety.proofs.Rep.{Rep, Timely, cat-is, catalogue-geometry}
 use Rattle.safety.proofs.Preserved.{out-front, out-table, out-data, slotIn, entry-is, table-keep, bytes-keep-at, FreeIn, bytes-keep, entry-of, occupied, slot-within}
-use Rattle.safety.proofs.Fields.{root-updated, renamed-occupied, renamed-entry, occupied-mark}
+use Rattle.safety.proofs.Fields.{root-updated, renamed-entry, occupied-mark}
 use Rattle.safety.proofs.Replaced.{replaced, table-by, disjoint-by, Admissible}
 use Rattle.safety.proofs.Rewritten.{bytes-of, rep-replaced}
 use Rattle.safety.proofs.Extents.{exactly}

@@ -4,9 +4,9 @@ use mathlib.Core.Path.{_≡_, refl, _∙_}
 use native.Mathlib.Omega.{arith}
 use lib.ListN.{length, getD, length-set}
 use Rattle.model.specs.Disk.{view}
+use Rattle.laws.proofs.Bytes.{set-next}
 use Rattle.allocation.specs.Marks.{sumTo, startOf}
 use Rattle.allocation.proofs.Marks.{start-next}
-use Rattle.allocation.proofs.Sums.{set-next}
 use borrow.Author.Needs.{needs}
 use Rattle.allocation.proofs.fill_starts.Statement.{statement}
 use Rattle.allocation.proofs.fill_starts.Tie as tie

@@ -5,9 +5,9 @@ use native.Mathlib.Omega.{arith}
 use lib.ListN.{length, getD, drop, length-set}
 use lib.Seq.{drop-set-lt}
 use Rattle.model.specs.Disk.{view}
+use Rattle.laws.proofs.Bytes.{set-next}
 use Rattle.allocation.specs.Marks.{sumTo, startOf}
 use Rattle.allocation.proofs.Marks.{start-next}
-use Rattle.allocation.proofs.Sums.{set-next}
 use borrow.Author.Needs.{needs}
 use Rattle.allocation.proofs.put_starts.Statement.{statement}
 use Rattle.allocation.proofs.put_starts.Tie as tie

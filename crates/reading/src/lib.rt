@@ -459,9 +459,9 @@ pub fn read_step(r: Reading, bytes: &[u8], out: &mut [u8]) -> Reading
 {
     if takes_read(r, bytes.len(), out.len()) {
         let part = fields::least(512 - r.skip, r.count - r.done);
-        fields::move_bytes(bytes, r.skip as usize, out, r.done as usize, part as usize);
         let n = r.done + part;
         let wanted = wanted_after(r, n);
+        fields::move_bytes(bytes, r.skip as usize, out, r.done as usize, part as usize);
         return Reading {
             code: 0,
             fault: r.fault,

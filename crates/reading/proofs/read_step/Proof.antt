@@ -18,27 +18,29 @@ sub-least-2 c = let t = takes _ _ _ (sym (c .before .before .before .takes-read 
 least-requires : tie.Need-least-requires
 least-requires c κs = search needs
 
-move-bytes-requires : tie.Need-move-bytes-requires
-move-bytes-requires c κs =
-    let k = c .before .before .before .before in
-    part-fits _ _ _ _ (takes _ _ _ (sym (k .before .takes-read .ensures) ∙ k .if1 .taken)) (c .before .least .ensures)
-
 add-n : tie.Need-add-n
 add-n c = search needs
 
 wanted-after-requires : tie.Need-wanted-after-requires
-wanted-after-requires c κs = let k = c .before .before .before .before .before .before .before .before in takes _ _ _ (sym (k .before .takes-read .ensures) ∙ k .if1 .taken) .below
+wanted-after-requires c κs = let k = c .before .before .before .before in takes _ _ _ (sym (k .before .takes-read .ensures) ∙ k .if1 .taken) .below
+
+move-bytes-requires : tie.Need-move-bytes-requires
+move-bytes-requires c κs =
+    let l = c .before .before .before in
+    let k = l .before .before .before in
+    part-fits _ _ _ _ (takes _ _ _ (sym (k .before .takes-read .ensures) ∙ k .if1 .taken)) (l .least .ensures)
 
 same-length : tie.Need-same-length
 same-length c = search needs
 
 returns : tie.Need-returns
 returns c =
-    let l = c .before .before .before .before .before .before in
+    let w = c .before .before .before .before in
+    let l = w .before .before in
     let k = l .before .before .before in
     let a = k .before .before .before .before .args in
-    step-taken (a .r) (a .bytes .now) (a .out .now) _ (l .least .result) (c .wanted-after .result) (sym (k .before .takes-read .ensures) ∙ k .if1 .taken) (l .least .ensures) (c .wanted-after .ensures)
-    (c .before .before .before .before .move-bytes .ensures)
+    step-taken (a .r) (a .bytes .now) (a .out .now) _ (l .least .result) (w .wanted-after .result) (sym (k .before .takes-read .ensures) ∙ k .if1 .taken)
+    (l .least .ensures) (w .wanted-after .ensures) (c .before .before .move-bytes .ensures)
 
 returns-2 : tie.Need-returns-2
 returns-2 c =
@@ -53,9 +55,9 @@ read-step-spec =
     sub-least
     sub-least-2
     least-requires
-    move-bytes-requires
     add-n
     wanted-after-requires
+    move-bytes-requires
     same-length
     returns
     returns-2)

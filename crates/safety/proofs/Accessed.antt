@@ -82,9 +82,9 @@ frozen-said : (L : Ledger) (img : List ℕ) → Says L img → isFrozen L ≡ la
 frozen-said L img s = frozen-is L ∙ ap lacksReserve (sym (catalogue-is L img s))
 
 length-said : (L : Ledger) (img : List ℕ) → Says L img → accessRecords L * recordSize ≡ accessLength img
-length-said L img s = go (isFrozen L) ∙ ap (λ (b : Bool). cond b 0 4752) (frozen-said L img s)
+length-said L img s = go (isFrozen L) ∙ ap (λ (b : Bool). cond b 0 (9 * recordSize)) (frozen-said L img s)
   where
-    go : (b : Bool) → cond b 0 (recordCount 0 1) * recordSize ≡ cond b 0 4752
+    go : (b : Bool) → cond b 0 (recordCount 0 1) * recordSize ≡ cond b 0 (9 * recordSize)
     go true = refl
     go false = refl
 
@@ -151,9 +151,9 @@ module _ {L₀ : Ledger} {img : List ℕ} {fs : List Feed} {rs : List Answer} (n
   pub read-cut : {img′ : List ℕ} (p : Plan) (x : Cut) → volumePlan (read name offset asked time room space) img ≡ some p
       → RecoveredTo (stored (landed x (groupsFor (view img) (some p))) img) img′
       → (volumeAnswer (read name offset asked time room space) img
-      ≡ gave (record { verdict = done; count = min asked (file .entry .size - offset); length = 4752 }) (bytesFrom (file .bytes) offset (min asked (file .entry .size - offset))))
+      ≡ gave (record { verdict = done; count = min asked (file .entry .size - offset); length = 9 * recordSize }) (bytesFrom (file .bytes) offset (min asked (file .entry .size - offset))))
       × (((startMark x ≡ true) × AfterRead name time file img img′) ⊎ ((startMark x ≡ false) × Unset img img′))
-  read-cut {img′} p x planned m = (gives z ∙ ap (λ (b : Bool). readOf offset asked (cond b 0 4752) file) there-here, go (startMark x) refl)
+  read-cut {img′} p x planned m = (gives z ∙ ap (λ (b : Bool). readOf offset asked (cond b 0 (9 * recordSize)) file) there-here, go (startMark x) refl)
     where
       there-here : lacksReserve (catalogueOf (view img)) ≡ false
       there-here = planned-there img p _ planned read-frozen
@@ -213,9 +213,9 @@ module _ {L₀ : Ledger} {img : List ℕ} {fs : List Feed} {rs : List Answer} (i
   -- A LIST THAT WAS CUT anywhere, after the recovery that was completed: the name was copied, and the root's time is set exactly if its start mark landed
   pub list-cut : {img′ : List ℕ} (p : Plan) (x : Cut) → volumePlan (list i time room space) img ≡ some p
       → RecoveredTo (stored (landed x (groupsFor (view img) (some p))) img) img′
-      → (volumeAnswer (list i time room space) img ≡ listed (record { verdict = done; fields = fieldsOf entry; length = 4752 }) (entry .name))
+      → (volumeAnswer (list i time room space) img ≡ listed (record { verdict = done; fields = fieldsOf entry; length = 9 * recordSize }) (entry .name))
       × (((startMark x ≡ true) × AfterList time img img′) ⊎ ((startMark x ≡ false) × Unset img img′))
-  list-cut {img′} p x planned m = (names z ∙ ap (λ (b : Bool). listOf (cond b 0 4752) entry) there-here, go (startMark x) refl)
+  list-cut {img′} p x planned m = (names z ∙ ap (λ (b : Bool). listOf (cond b 0 (9 * recordSize)) entry) there-here, go (startMark x) refl)
     where
       there-here : lacksReserve (catalogueOf (view img)) ≡ false
       there-here = planned-there img p _ planned list-frozen

@@ -18,7 +18,7 @@ use Rattle.model.specs.Disk.{Disk, view}
 use Rattle.model.specs.Superblock.{geometryIn}
 use Rattle.model.specs.Catalogue.{catalogueOf, lacksReserve}
 use Rattle.model.specs.Refusals.{verdictOf, andThen, isDone, refusal, done}
-use Rattle.model.specs.WriteList.{Plan, groupsFor, listLength, recordCount, isPlanned, planConditions, decided}
+use Rattle.model.specs.WriteList.{Plan, groupsFor, listLength, recordSize, recordCount, isPlanned, planConditions, decided}
 use Rattle.model.specs.Summary.{checkAnswer}
 use Rattle.model.specs.Rename.{renameConditions}
 use Rattle.model.specs.RenameSet.{badSet, renamesConditions, isTouched, setTargets, setPlanned, renameSetConditions, renameSetDecision, renameSetAnswer}
@@ -70,12 +70,12 @@ module _ (img names lengths : List ℕ) (time room : ℕ) (ok : checkAnswer (len
   most : targetCount img names lengths time ≤ 529
   most = omega (arith, few, bounded .extents-high)
 
-  plan-short : (a b : Bool) → listLength (groupsFor d (cond a (cond b (some p) none) none)) ≤ 1081 * 528
+  plan-short : (a b : Bool) → listLength (groupsFor d (cond a (cond b (some p) none) none)) ≤ 1081 * recordSize
   unfolding groupsFor
   plan-short true true =
       let q : recordCount 0 (targetCount img names lengths time) ≤ 1081 = record-most (targetCount img names lengths time) most in
-      let z : listLength (groupsFor d (some p)) ≡ recordCount 0 (targetCount img names lengths time) * 528 = plan-needs d p in
-      subst (λ k. k ≤ 1081 * 528) (sym z) (omega arith)
+      let z : listLength (groupsFor d (some p)) ≡ recordCount 0 (targetCount img names lengths time) * recordSize = plan-needs d p in
+      subst (λ k. k ≤ 1081 * recordSize) (sym z) (omega arith)
   plan-short true false = omega arith
   plan-short false b = omega arith
 

@@ -1,6 +1,6 @@
 -- T-02: WHAT A READ AND A LIST LEAVE on an image, whole or cut: access times, and nothing else. T-12: where fewer than K extents are free they "answer
 -- there with an empty write list and the access time stays".
-use Prim.Native.Nat.{ℕ}
+use Prim.Native.Nat.{ℕ, _*_}
 use mathlib.Core.Path.{_≡_}
 use mathlib.Core.Logic.{_≢_}
 use mathlib.Core.Bool.{Bool, true, false, cond}
@@ -9,6 +9,7 @@ use mathlib.Core.Option.{Option, none, some}
 use Rattle.model.specs.Disk.{view}
 use Rattle.model.specs.Root.{Root}
 use Rattle.model.specs.Catalogue.{catalogueOf, lacksReserve}
+use Rattle.model.specs.WriteList.{recordSize}
 use Rattle.model.specs.Ledger.{Call, summary, check, find, list, read, create, delete, resize, write, rename, renameSet, Feed, callOf, accessedEntry, accessedRoot}
 use Rattle.safety.specs.Naming.{Contents, fileOn}
 use Rattle.safety.specs.Saving.{SameFiles}
@@ -23,7 +24,7 @@ accessedContents time x = record { entry = accessedEntry time (x .entry); bytes 
 
 -- the length of a read's or a list's write list: 9 records, or none
 abbrev pub accessLength : List ℕ → ℕ
-accessLength img = cond (lacksReserve (catalogueOf (view img))) 0 4752
+accessLength img = cond (lacksReserve (catalogueOf (view img))) 0 (9 * recordSize)
 
 -- a read of the file x was done: it has its access time set, every other file and the root are as they were
 pub record AfterRead (name : List ℕ) (time : ℕ) (x : Contents) (img img′ : List ℕ) : Type 0 where

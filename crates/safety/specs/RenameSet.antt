@@ -12,6 +12,7 @@ use Rattle.model.specs.Geometry.{extentSectors, reserveExtents, tableSectors}
 use Rattle.model.specs.Disk.{view}
 use Rattle.model.specs.Refusals.{verdictOf}
 use Rattle.model.specs.Cut.{Cut, startMark}
+use Rattle.model.specs.WriteList.{recordSize}
 use Rattle.model.specs.Rename.{renameAnswer, renameList}
 use Rattle.model.specs.RenameSet.{renamesConditions, setTargets, renameSetAnswer, renameSetList}
 use Rattle.model.specs.Ledger.{Ledger, rename, renameSet, namesOf, pairsOf, step, answer}
@@ -54,7 +55,7 @@ NoRoomFor img names lengths time = (reserveSectors img < targetCount img names l
 pub record Counted (img names lengths : List ℕ) (time room : ℕ) : Type 0 where
   pub targets : targetCount img names lengths time ≤ tableSectors (geometryOn img) + 17
   pub most : targetCount img names lengths time ≤ 529
-  pub records : renameSetAnswer (length img) (view img) names lengths time room .length ≤ 1081 * 528
+  pub records : renameSetAnswer (length img) (view img) names lengths time room .length ≤ 1081 * recordSize
   pub thirteen : (renameSetAnswer (length img) (view img) names lengths time room .verdict .number ≡ 13)
       ↔ ((verdictOf (renamesConditions (view img) names lengths time (length lengths / 2)) .number ≡ 0) × NoRoomFor img names lengths time)
   pub needs : renameSetAnswer (length img) (view img) names lengths time room .verdict .number ≡ 13

@@ -145,11 +145,13 @@ const STACK: usize = 8 << 20;
 
 fn main() -> ExitCode {
     system::report_long_files();
+    // Before the thread that works is there: else a signal could come to this one, and the work go on for a while.
+    system::leave_signals_to_others();
     let working = thread::Builder::new().stack_size(STACK).spawn(|| {
+        system::take_signals();
         let given: Vec<OsString> = env::args_os().skip(1).collect();
         run(given)
     });
-    system::leave_signals_to_others();
     let outcome = match working.map(|thread| thread.join()) {
         Ok(Ok(outcome)) => outcome,
         Ok(Err(panic)) => resume_unwind(panic),

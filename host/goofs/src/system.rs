@@ -188,9 +188,15 @@ fn mask(how: c_int) {
 }
 
 /// From now on the signals that ask the program to end come to the other threads, so that one who
-/// works gets a signal at once. For a thread that only waits for them.
+/// works gets a signal at once. For a thread that only waits for them; those that it starts afterwards
+/// take them by `take_signals`.
 pub fn leave_signals_to_others() {
     mask(SIG_BLOCK);
+}
+
+/// From now on this thread gets the signals that ask the program to end.
+pub fn take_signals() {
+    mask(SIG_UNBLOCK);
 }
 
 /// Whether a signal that was held asked the program to end.
@@ -200,7 +206,7 @@ pub fn asked_to_end() -> bool {
 
 /// Ends the program by the signal that was held, as it would have ended it; if none came, goes on.
 pub fn end_as_asked() {
-    mask(SIG_UNBLOCK);
+    take_signals();
     let number = CAME.swap(0, Ordering::SeqCst);
     if number != 0 {
         unsafe {

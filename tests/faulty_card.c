@@ -54,6 +54,12 @@ static ssize_t real_pwrite(int file, const void *bytes, size_t count, off64_t at
     return real(file, bytes, count, at);
 }
 
+/* A shell starts what it runs in the background with Ctrl-C ignored, and the command would leave it so. */
+__attribute__((constructor)) static void heed_the_signal(void)
+{
+    signal(SIGINT, SIG_DFL);
+}
+
 /* Copies the sectors that have passed no barrier, or all others, from one file to the other. */
 static void copy(const char *from, const char *to, int those, int every)
 {

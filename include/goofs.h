@@ -8,20 +8,20 @@
  *     files up to                          1,024    1,024    1,024    65,535
  *     extents up to                        1,024    4,096   65,535    65,535
  *
- *     check                                6,784    6,784   68,320   263,072
- *     find, list, read, create, write      7,024    7,024   68,560   263,312
- *     resize, delete, rename              12,504   12,504   68,464   263,216
- *     rename_set                           9,528    9,528   68,464   263,216
- *     repair                              15,928   51,896  338,744   338,744
+ *     check                                6,784    6,784   68,320   263,080
+ *     find, list, read, create, write      7,024    7,024   68,560   263,320
+ *     resize, delete, rename              12,552   12,552   68,464   263,224
+ *     rename_set                           8,808    8,808   68,464   263,224
+ *     repair                              15,912   51,880  338,728   338,728
  *     recover                                888      888      888       888
  *     the same of another writer's journal 5,400    5,400    5,400   133,768
  *     recover_slice                          904      904      904       904
- *     check_with                             448      448      448       448
+ *     check_with                             456      456      456       456
  *     format_record                          632      632      632       632
  *     summary, carry_out, longest_list       168      168      168       168
  *
  * Another writer's journal is one whose targets don't rise; no change of these calls leaves one. A form on lent sectors, with its
- * steps, took at most 432 bytes more than its call.
+ * steps, took at most 416 bytes more than its call.
  *
  * `code` is a number of `enum goofs_code`; the lowest whose condition holds is given (but see goofs_rename_set). With any code but 0 all
  * other result numbers are 0 (except fault and place with 7, and place with 8 and 9 of goofs_rename_set) and no byte of a buffer has

@@ -16,7 +16,7 @@ use Rattle.laws.proofs.Search.{concatenated-more}
 use Rattle.laws.proofs.Count.{countBelow-le, countBelow-mono}
 use Rattle.laws.proofs.Freeing.{freed-hit, freed-ext, length-firsts}
 use Rattle.commit.specs.Commit.{Added}
-use Rattle.commit.proofs.Laws.{added-none, added-then}
+use Rattle.commit.proofs.Laws.{added-then}
 use Rattle.table.specs.Owned.{isMarked}
 use Rattle.freeing.specs.Marked.{markedSector}
 

@@ -7,7 +7,7 @@ use native.Mathlib.Omega.{arith}
 use native.Mathlib.Decide.{decLt}
 use lib.ListN.{length, getD}
 use lib.Seq.{ext-getD}
-use Rattle.model.specs.Bytes.{beAt, bytesFrom, put}
+use Rattle.model.specs.Bytes.{beAt, put}
 use Rattle.model.specs.Disk.{Disk, view}
 use Rattle.laws.proofs.Bytes.{length-bytesFrom, beAt-bytesFrom, getD-bytesFrom, bytesFrom-put-same, bytesFrom-put-other}
 

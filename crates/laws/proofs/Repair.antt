@@ -1,26 +1,26 @@
 -- A repair's test in the terms that code tests. Assumes nothing.
 use Prim.Native.Nat.{ℕ, suc, _+_, _*_, _-_, _≤_, _<_}
-use mathlib.Core.Path.{_≡_, refl, sym, ap, ap₂, _∙_}
+use mathlib.Core.Path.{_≡_, refl, sym, ap, _∙_}
 use mathlib.Core.Bool.{Bool, true, false, cond, not, _&&_, _||_, true≢false}
 use mathlib.Core.List.{List}
 use mathlib.Core.Option.{Option, none, some}
 use native.Mathlib.Omega.{arith}
 use native.Mathlib.Nat.{div-lt-iff-lt-mul, suc-mul}
 use lib.Dec.{eqb, leb, ltb}
-use borrow.Author.Tests.{le-leb, lt-leb, leb-true, leb-false, ne-eqb, eq-eqb}
+use borrow.Author.Tests.{le-leb, leb-true, leb-false, ne-eqb, eq-eqb}
 use Rattle.model.specs.declared.Geometry.{Geometry}
 use Rattle.model.specs.Bytes.{beAt}
 use Rattle.model.specs.Search.{anyBelow}
 use Rattle.model.specs.Geometry.{extentSectors, extentBytes, extentsFor, entryAt}
 use Rattle.model.specs.Disk.{Disk}
 use Rattle.model.specs.Superblock.{geometryIn}
-use Rattle.model.specs.Entry.{Entry, entryIn, isOccupied}
+use Rattle.model.specs.Entry.{entryIn, isOccupied}
 use Rattle.model.specs.Table.{freeFile, tableFile, tableOffset}
 use Rattle.model.specs.Catalogue.{Owner, catalogueOf, isFree, isPart, entryOr}
 use Rattle.model.specs.Faults.{holdsOf}
 use Rattle.model.specs.Repair.{isStray}
 use Rattle.laws.proofs.Search.{anyBelow-ext}
-use Rattle.laws.proofs.Catalogue.{among-if, owner, by-owner, table-on}
+use Rattle.laws.proofs.Catalogue.{among-if, by-owner, table-on}
 
 -- "an offset at or above the file's count": the size is at most the bytes before that offset. An offset has 16 bits, so this product has
 -- 57 bits at most, where size + E - 1 can need 65.

@@ -7,7 +7,7 @@ use mathlib.Core.List.{List}
 use mathlib.Core.Option.{Option, none, some}
 use native.Mathlib.Omega.{arith}
 use lib.ListN.{length}
-use borrow.Author.Tests.{le-ltb, ne-eqb, eq-eqb, eqb-true}
+use borrow.Author.Tests.{ne-eqb, eq-eqb, eqb-true}
 use Rattle.model.specs.declared.Geometry.{Geometry}
 use Rattle.model.specs.declared.Lowest.{Lowest}
 use Rattle.model.specs.declared.Lowest.the-variants.{Nowhere}
@@ -21,8 +21,8 @@ use Rattle.model.specs.Superblock.{geometryIn, stateOn}
 use Rattle.model.specs.Table.{sectorsHolding}
 use Rattle.model.specs.Catalogue.{Catalogue, catalogueOf, lacksReserve}
 use Rattle.model.specs.Faults.{fault21, fault22, fault23, fault24, fault25, fault26, orElse, faultsIn}
-use Rattle.model.specs.Refusals.{verdictOf, andThen, isDone, done, refusal, imageVerdict, stateNumber}
-use Rattle.model.specs.WriteList.{Plan, Decision, Emitted, closed, recordSize, recordCount, groupsFor, listLength, listAfter, planConditions}
+use Rattle.model.specs.Refusals.{andThen, isDone, refusal, imageVerdict, stateNumber}
+use Rattle.model.specs.WriteList.{Plan, Decision, Emitted, closed, recordSize, recordCount, groupsFor, listLength, listAfter}
 use Rattle.model.specs.Repair.{isStray, strays, repaired, repairPlan, repairPlanned, repairVerdict, repairDecision, doneBut, notRepaired, repairAnswer, repairList}
 use Rattle.model.specs.Opened.{volumeLength}
 use Rattle.laws.proofs.Search.{first-none}

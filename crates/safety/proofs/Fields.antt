@@ -1,5 +1,5 @@
 -- What the updated and the new sectors say: root, superblock, entry, and a sector of zeros. Assumes nothing.
-use Prim.Native.Nat.{ℕ, zero, suc, _+_, _*_, _^_, _≤_, _<_}
+use Prim.Native.Nat.{ℕ, _^_, _≤_, _<_}
 use mathlib.Core.Path.{_≡_, refl, ap, ap₂, _∙_}
 use mathlib.Core.Bool.{Bool, true, false, not, _&&_, _||_}
 use mathlib.Core.List.{List, [], _∷_}
@@ -9,7 +9,7 @@ use lib.Dec.{eqb, leb, lit<}
 use lib.ListN.{length, getD, replicate, getD-replicate}
 use Rattle.model.specs.declared.Geometry.{Geometry}
 use Rattle.model.specs.Geometry.{extentSectors}
-use Rattle.model.specs.Bytes.{Field, beAt, beBytes, bytesFrom, numberIn, put, withStores, raised, zeroSector, onesSector}
+use Rattle.model.specs.Bytes.{Field, beBytes, bytesFrom, numberIn, put, withStores, raised, zeroSector, onesSector}
 use Rattle.model.specs.Search.{allBelow, equalBytes}
 use Rattle.model.specs.Superblock.{superblockField, magic, newSuperblock, geometryIn, journalLength, isVolume}
 use Rattle.model.specs.Edition.{EditionLayout, firstEdition, secondEdition, layoutOf, isEdition}

@@ -1,10 +1,9 @@
 -- T-11: the check with scratch and repair in their lent forms are the calls. Assumes nothing.
-use Prim.Native.Nat.{ℕ, _+_, _*_}
+use Prim.Native.Nat.{ℕ}
 use mathlib.Core.Path.{_≡_, refl, ap, ap₂, _∙_}
 use mathlib.Core.Bool.{cond}
-use mathlib.Core.List.{List, [], _∷_}
+use mathlib.Core.List.{List, []}
 use mathlib.Core.Option.{Option, none, some}
-use native.Mathlib.Omega.{arith}
 use lib.Dec.{ltb}
 use lib.ListN.{length}
 use Rattle.model.specs.declared.Soundness.{Soundness}
@@ -17,7 +16,7 @@ use Rattle.model.specs.Superblock.{geometryIn, journalLength, stateOf, stateOn}
 use Rattle.model.specs.Catalogue.{Catalogue, catalogueOf}
 use Rattle.model.specs.Faults.{fault21, faultsIn, firstFault}
 use Rattle.model.specs.Refusals.{Conditions, verdictOf, refusal, andThen, given, isDone, imageVerdict, stateNumber, faultVerdict}
-use Rattle.model.specs.WriteList.{Record, sectorWrite, Plan, Group, groupsFor, closed, emit, listLength, planConditions, Decision, listAfter}
+use Rattle.model.specs.WriteList.{Record, Plan, Group, groupsFor, closed, emit, listLength, planConditions, Decision, listAfter}
 use Rattle.model.specs.Scratch.{scratchNumbers, soundVerdictWith, judgedWith, checkWithAnswer}
 use Rattle.model.specs.Repair.{isStray, strays, repaired, repairPlan, repairPlanned, repairVerdict, repairDecision, doneBut, notRepaired, repairAnswer, repairList}
 use Rattle.safety.specs.LentForms.{Lends, goesBy, LentOthers}

@@ -1,7 +1,7 @@
 -- T-07: "Old volumes with other names stay sound, and their files can be read, written, deleted and renamed away." A file of any name can be
 -- renamed to any name that create accepts, at any time that the edition takes, where at least K extents are free (T-12). Assumes nothing.
 use Prim.Native.Nat.{ℕ, _+_, _*_, _≤_, _<_}
-use mathlib.Core.Path.{_≡_, refl, sym, ap, ap₂, _∙_, subst}
+use mathlib.Core.Path.{_≡_, refl, sym, ap, ap₂, _∙_}
 use mathlib.Core.Bool.{Bool, true, false, cond, not, _&&_, _||_}
 use mathlib.Core.List.{List}
 use mathlib.Core.Option.{some, Option·none-ne-some}
@@ -12,7 +12,7 @@ use Rattle.model.specs.declared.Geometry.{Geometry}
 use Rattle.model.specs.declared.Lowest.{Lowest}
 use Rattle.model.specs.declared.Lowest.the-variants.{At, Nowhere}
 use Rattle.model.specs.Search.{isAt, equalBytes}
-use Rattle.model.specs.Geometry.{tableSectors, reserveExtents, extentBytes}
+use Rattle.model.specs.Geometry.{reserveExtents, extentBytes}
 use Rattle.model.specs.Edition.{badTime}
 use Rattle.model.specs.Entry.{badName, badNewName}
 use Rattle.model.specs.Table.{sectorsHolding}

@@ -10,7 +10,6 @@ use lib.ListN.{length}
 use Rattle.model.specs.declared.BytesRead.{BytesRead}
 use Rattle.model.specs.declared.Changed.{Changed}
 use Rattle.model.specs.declared.Recovered.{Recovered}
-use Rattle.model.specs.declared.Verdict.{Verdict}
 use Rattle.model.specs.declared.Reading.{Reading}
 use Rattle.model.specs.declared.Writing.{Writing}
 use Rattle.model.specs.declared.Recovering.{Recovering}
@@ -24,9 +23,9 @@ use Rattle.model.specs.Catalogue.{catalogueOf, fileNamed, sectorOf}
 use Rattle.model.specs.Refusals.{verdictOf, refusal, isWhole, imageVerdict}
 use Rattle.model.specs.WriteList.{emit, closed, groupsFor, stored}
 use Rattle.model.specs.Scratch.{checkWithAnswer}
-use Rattle.model.specs.Read.{readAnswer, readList}
-use Rattle.model.specs.Write.{touchedSectors, writeList}
-use Rattle.model.specs.Resize.{zeros, resizeList}
+use Rattle.model.specs.Read.{readAnswer}
+use Rattle.model.specs.Write.{touchedSectors}
+use Rattle.model.specs.Resize.{zeros}
 use Rattle.model.specs.Repair.{repairAnswer, repairList}
 use Rattle.model.specs.Recovery.{recoveryAnswer, recoveryList}
 use Rattle.model.specs.Lent.{lentLength, readLent, readStep, readStepOutput, writeLent, resizeLent, writeStep, writeStepList, recoveryLent, entriesWaiting, recoveryStep, recoveryStepList}

@@ -1,12 +1,12 @@
 -- The search for the staging extents: from the top downwards, each extent found is put before those found so far. Assumes nothing.
 use Prim.Native.Nat.{ℕ, zero, suc, _+_, _-_, _*_, _/_, _≤_, _<_}
 use mathlib.Core.Path.{_≡_, refl, sym, ap, ap₂, _∙_}
-use mathlib.Core.Bool.{Bool, true, false, cond, not}
+use mathlib.Core.Bool.{Bool, true, false, cond}
 use mathlib.Core.List.{List, [], _∷_, _++_, append-nil, append-assoc}
-use native.Mathlib.Nat.{div-lt-iff-lt-mul, add-zero, add-suc, suc-add}
+use native.Mathlib.Nat.{div-lt-iff-lt-mul, add-zero, add-suc}
 use native.Mathlib.Omega.{arith}
 use native.Mathlib.Decide.{decLt}
-use lib.Dec.{eqb, ltb}
+use lib.Dec.{ltb}
 use lib.ListN.{length, getD, set, replicate, length-append, length-set, List·getD-eq-default}
 use lib.Seq.{getD-set-same, getD-set-other, getD-append-add}
 use borrow.Author.Tests.{lt-ltb, le-ltb}
@@ -15,12 +15,10 @@ use Rattle.model.specs.Bytes.{bytesFrom}
 use Rattle.model.specs.Search.{anyBelow, concatenated}
 use Rattle.model.specs.Geometry.{extentSectors, reserveExtents}
 use Rattle.model.specs.Disk.{Disk}
-use Rattle.model.specs.Superblock.{geometryIn}
-use Rattle.model.specs.Table.{freeFile, tableFile}
-use Rattle.model.specs.Catalogue.{Catalogue, catalogueOf, isFree, freeBelow, freeExtents, lacksReserve, stagingExtents}
+use Rattle.model.specs.Catalogue.{Catalogue, catalogueOf, isFree, freeBelow, lacksReserve, stagingExtents}
 use Rattle.model.specs.Opened.{Bounded}
 use Rattle.laws.proofs.Booleans.{or-none}
-use Rattle.laws.proofs.Bytes.{length-bytesFrom, getD-bytesFrom, bytesFrom-more, bytesFrom-ext, zeros-at}
+use Rattle.laws.proofs.Bytes.{length-bytesFrom, getD-bytesFrom, bytesFrom-ext, zeros-at}
 use Rattle.laws.proofs.Staging.{free-more, staging-at}
 use Rattle.commit.specs.Commit.{StagesOf}
 use Rattle.table.specs.Highest.{Highest}

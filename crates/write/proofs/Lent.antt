@@ -25,12 +25,11 @@ use Rattle.model.specs.Read.{longestTransfer, sizeNamed}
 use Rattle.model.specs.Write.{touchedSectors, writeConditions, writePlanned, writeDecision, writeAnswer, writeList}
 use Rattle.model.specs.Resize.{resizeConditions, resizePlanned, resizeDecision, resizeAnswer, resizeList}
 use Rattle.model.specs.Lent.{noPart, partAt, partly, partlyCovered, isAsked, writeAsking, writeLent, resizeLent, takesWrite}
-use Rattle.model.specs.Opened.{volumeLength}
 use Rattle.laws.proofs.Booleans.{and-left, and-right}
 use Rattle.commit.proofs.Decided.{refused-as-judged}
 use Rattle.write.specs.declared.Begun.{Begun}
 use Rattle.write.specs.FileWrite.{Asked, Spans, Named, FileWritesTo}
-use Rattle.write.specs.FileResize.{sizeDecision, FileResizesTo}
+use Rattle.write.specs.FileResize.{FileResizesTo}
 use Rattle.write.proofs.Laws.{file-12}
 use Rattle.write.proofs.Resizes.{size-far}
 

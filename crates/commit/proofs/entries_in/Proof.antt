@@ -1,6 +1,6 @@
 -- `commit::entries_in` meets its contract. The loop's invariant: the first i entries are put in.
 use mathlib.Core.Path.{_≡_, refl}
-use Prim.Native.Nat.{_+_, _-_, _≤_}
+use Prim.Native.Nat.{_-_, _≤_}
 use native.Mathlib.Omega.{arith}
 use lib.ListN.{length, getD}
 use Rattle.model.specs.Bytes.{zeroSector}

@@ -1,8 +1,7 @@
 -- `fields::move_bytes` meets its contract. What was copied into the array is read back from it.
 use mathlib.Core.Path.{_∙_, ap}
 use native.Mathlib.Omega.{arith}
-use lib.ListN.{replicate}
-use Rattle.model.specs.Bytes.{bytesFrom, put}
+use Rattle.model.specs.Bytes.{bytesFrom}
 use Rattle.laws.proofs.Bytes.{length-bytesFrom, bytesFrom-put-same}
 use borrow.Author.Needs.{needs}
 use Rattle.fields.proofs.move_bytes.Statement.{statement}

@@ -1,6 +1,6 @@
 -- `freeing::put_freed` meets its contract. The loop's invariant: those of the table sectors passed are staged.
 use Prim.Native.Nat.{_-_, _≤_}
-use mathlib.Core.Path.{_≡_, refl, _∙_}
+use mathlib.Core.Path.{_≡_, refl}
 use native.Mathlib.Omega.{arith}
 use lib.ListN.{length}
 use Rattle.model.specs.Search.{concatenated}

@@ -1,6 +1,5 @@
 -- `freeing::put_freed_sector` meets its contract.
 use Prim.Native.Nat.{_+_}
-use native.Mathlib.Omega.{arith}
 use Rattle.model.specs.Geometry.{tableAt}
 use Rattle.commit.proofs.Laws.{added-copy}
 use borrow.Author.Needs.{needs}

@@ -1,6 +1,6 @@
 -- `soundness::sound_verdict_with` meets its contract. The state is refused, or the scratch is too short, or the first fault gives the verdict.
 use mathlib.Core.Path.{refl, sym, _∙_}
-use mathlib.Core.Bool.{true, false, true≢false}
+use mathlib.Core.Bool.{true≢false}
 use Prim.Native.Nat.{_<_, _≤_}
 use native.Mathlib.Omega.{arith}
 use lib.ListN.{length}

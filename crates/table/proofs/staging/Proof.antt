@@ -1,7 +1,7 @@
 -- `table::staging` meets its contract. The loop's invariant: the free extents from e on stand in the last places of the reserve's, from place
 -- left on.
 use Prim.Native.Nat.{ℕ, _≤_, _<_}
-use mathlib.Core.Path.{_≡_, refl, sym, ap, _∙_}
+use mathlib.Core.Path.{_≡_}
 use mathlib.Core.Bool.{false≢true}
 use mathlib.Core.List.{List}
 use native.Mathlib.Omega.{arith}

@@ -28,9 +28,9 @@ pub mod Rename
 pub mod RenameSet
 pub mod Repair
 pub mod Recovery
-pub mod Lent
 pub mod Format
 pub mod CarryOut
+pub mod Lent
 pub mod Lengths
 pub mod Cut
 pub mod Ledger

@@ -1,5 +1,6 @@
 // Faults 25 and 26 in one pass over the allocation table. For fault 26 there is a byte for each extent that the files need, set when
 // its table entry is met. u16 holds a start, since starts past the number of extents are never stored.
+#![tactic(auto)]
 ghost use Rattle.std.specs.Prelude.{◌≡◌, ℕ, ◌+◌, ◌-◌, ◌≤◌, ◌<◌, eqb, length, get_or, drop};
 ghost use Rattle.model.specs.Search.{first, any_below};
 ghost use Rattle.model.specs.Disk.{view};
@@ -66,7 +67,7 @@ fn is_misplaced(img: &[u8], g: Geometry, e: Extent) -> bool
 }
 
 // What one more extent changes.
-#[derive(Drop)]
+#[derive(Clone, Copy)]
 struct Marked {
     // the extent has fault 25
     misplaced: bool,
@@ -113,7 +114,7 @@ fn mark(img: &[u8], g: Geometry, e: Extent, starts: &[u16], m: usize, seen: &mut
 }
 
 // What the pass over the table has met.
-#[derive(Drop)]
+#[derive(Clone, Copy)]
 struct Pass {
     // the lowest extent of fault 25
     misplaced: Lowest,

@@ -1,4 +1,6 @@
 // Carrying out a write list: every record is judged before the first is written.
+#![tactic(auto)]
+
 ghost use Rattle.std.specs.Prelude.{◌≡◌, false, not, [], ◌∷◌, ◌+◌, ◌*◌, ◌/◌, ◌≤◌, eqb, length, get_or};
 ghost use Rattle.model.specs.Search.{any_below, all_below};
 ghost use Rattle.model.specs.WriteList.{record_size, stored};

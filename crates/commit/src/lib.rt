@@ -1,5 +1,7 @@
 // What every changing call's write list holds behind its data sectors. The call hands over its targets one by one, and their
 // copies go into the list; journal, start mark, targets and end mark then follow from the targets' numbers and the copies.
+#![tactic(auto)]
+
 ghost use Rattle.std.specs.Prelude.{◌≡◌, [], ◌∷◌, ◌+◌, ◌-◌, ◌*◌, ◌≤◌, ◌<◌, min, length, get_or, set};
 ghost use Rattle.std.proofs.Math.Option.{some};
 ghost use Rattle.model.specs.Bytes.{bytes_from};

@@ -1,4 +1,6 @@
 // The root and the directory entries of an image: what they say, the searches by name and by id, faults 21 and 22, updated sectors.
+#![tactic(auto)]
+
 ghost use Rattle.std.specs.Prelude.{◌≡◌, not, ◌&&◌, ◌||◌, ◌+◌, ◌-◌, ◌*◌, ◌≤◌, ◌<◌, eqb, ltb, length, get_or};
 ghost use Rattle.model.specs.Bytes.{number_in};
 ghost use Rattle.model.specs.Search.{scan, first, any_below};

@@ -1,6 +1,8 @@
 // Faults 23 and 24: a name or an id that an occupied entry of lower index has too. Entries are taken in index order, each joins
 // the chain of the bucket that its key's hash picks, and it is compared with the entries of that chain alone, and only where their
 // tags, 8 bits more of the hash, are the same.
+#![tactic(auto)]
+
 ghost use Rattle.std.specs.Prelude.{◌≡◌, true, false, ℕ, ◌+◌, ◌*◌, ◌/◌, ◌%◌, ◌≤◌, ◌<◌, length, get_or, set};
 ghost use Rattle.model.specs.Search.{first};
 ghost use Rattle.model.specs.Geometry.{entry_at};
@@ -14,7 +16,7 @@ ghost use Rattle.duplicates.specs.Chains.{Entered, top_in, link_in, last_in, Joi
 use model::{FileIndex, Geometry, Lowest};
 
 // What no two occupied entries may share. A name stands where the edition has it.
-#[derive(Drop)]
+#[derive(Clone, Copy)]
 enum Key {
     Name(u64),
     Id,

@@ -1,4 +1,6 @@
 // Leaves on byte slices: big-endian numbers, runs of bytes copied and compared, sectors by value.
+#![tactic(auto)]
+
 ghost use Rattle.std.specs.Prelude.{◌≡◌, cond, [], ℕ, ◌+◌, ◌*◌, ◌≤◌, ◌<◌, ◌^◌, min, max, eqb, length, get_or};
 ghost use Rattle.model.specs.Bytes.{be_at, be_bytes, bytes_from, put};
 ghost use Rattle.model.specs.Disk.{view};

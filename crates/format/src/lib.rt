@@ -1,4 +1,6 @@
 // Format: the geometry that a sector count gives, and a new volume's records, asked for one at a time by position.
+#![tactic(auto)]
+
 ghost use Rattle.std.specs.Prelude.{◌≡◌, not, ◌&&◌, ◌+◌, ◌-◌, ◌≤◌, ◌<◌, leb, length};
 ghost use Rattle.model.specs.Bytes.{put, ones_sector};
 ghost use Rattle.model.specs.Geometry.{table_at, in_bounds};

@@ -1,5 +1,6 @@
 // The C interface: every call under its plain name, thin over the proved calls. A slice passes as pointer and length; results are
 // structs of numbers. `include/goofs.h` declares it.
+#![tactic(auto)]
 ghost use Rattle.std.specs.Prelude.{◌≡◌, length};
 ghost use Rattle.model.specs.Disk.{view, on_image};
 ghost use Rattle.model.specs.Summary.{state_code, summary_answer, check_answer};
@@ -30,7 +31,7 @@ use model::{
 // ---- summary
 
 #[repr(C)]
-#[derive(Drop)]
+#[derive(Clone, Copy)]
 pub struct SummaryResult {
     pub code: u64,
     pub files: u64,
@@ -79,7 +80,7 @@ pub extern "C" fn goofs_summary(img: &[u8]) -> SummaryResult
 // ---- check
 
 #[repr(C)]
-#[derive(Drop)]
+#[derive(Clone, Copy)]
 pub struct CheckResult {
     pub code: u64,
     pub fault: u64,
@@ -117,7 +118,7 @@ pub extern "C" fn goofs_check_with(img: &[u8], scratch: &mut [u32]) -> CheckResu
 // ---- find
 
 #[repr(C)]
-#[derive(Drop)]
+#[derive(Clone, Copy)]
 pub struct FindResult {
     pub code: u64,
     pub fault: u64,
@@ -163,7 +164,7 @@ pub extern "C" fn goofs_find(img: &[u8], name: &[u8]) -> FindResult
 // ---- list
 
 #[repr(C)]
-#[derive(Drop)]
+#[derive(Clone, Copy)]
 pub struct ListResult {
     pub code: u64,
     pub fault: u64,
@@ -218,7 +219,7 @@ pub extern "C" fn goofs_list(
 // ---- read
 
 #[repr(C)]
-#[derive(Drop)]
+#[derive(Clone, Copy)]
 pub struct ReadResult {
     pub code: u64,
     pub fault: u64,
@@ -262,7 +263,7 @@ pub extern "C" fn goofs_read(
 // ---- create, delete, resize, write
 
 #[repr(C)]
-#[derive(Drop)]
+#[derive(Clone, Copy)]
 pub struct ChangeResult {
     pub code: u64,
     pub fault: u64,
@@ -373,7 +374,7 @@ pub extern "C" fn goofs_rename_set(
 
 // With 0 its fault and place are the first fault that remains.
 #[repr(C)]
-#[derive(Drop)]
+#[derive(Clone, Copy)]
 pub struct RepairResult {
     pub code: u64,
     pub fault: u64,
@@ -407,7 +408,7 @@ pub extern "C" fn goofs_repair(img: &[u8], list: &mut [u8]) -> RepairResult
 // ---- recovery, format, carrying out
 
 #[repr(C)]
-#[derive(Drop)]
+#[derive(Clone, Copy)]
 pub struct RecoverResult {
     pub code: u64,
     pub length: u64,
@@ -426,7 +427,7 @@ pub extern "C" fn goofs_recover(img: &[u8], list: &mut [u8]) -> RecoverResult
 }
 
 #[repr(C)]
-#[derive(Drop)]
+#[derive(Clone, Copy)]
 pub struct SliceResult {
     pub code: u64,
     pub length: u64,
@@ -447,7 +448,7 @@ pub extern "C" fn goofs_recover_slice(img: &[u8], budget: u64, list: &mut [u8]) 
 }
 
 #[repr(C)]
-#[derive(Drop)]
+#[derive(Clone, Copy)]
 pub struct FormatResult {
     pub code: u64,
     pub length: u64,
@@ -486,7 +487,7 @@ pub extern "C" fn goofs_carry_out(img: &mut [u8], list: &[u8]) -> u64
 // ---- how long a list can be
 
 #[repr(C)]
-#[derive(Drop)]
+#[derive(Clone, Copy)]
 pub struct LongestResult {
     pub code: u64,
     pub length: u64,

@@ -78,6 +78,7 @@ put_back l at a x = sym (put-snoc l at a x ∙ set-put l at a (at + length a) x 
 
 pub be_bytes-more : (w v : ℕ) → 0 < w → be_bytes w v ≡ be_bytes (w - 1) (v / 256) ++ (v % 256 ∷ [])
 unfolding be_bytes
+be_bytes-more zero v h = elim h [ ]
 be_bytes-more (suc w) v h = rw sub-one
 
 pub zeros-at : (n p : ℕ) → get_or (replicate {A = ℕ} n 0) p 0 ≡ 0

@@ -6,7 +6,7 @@ ghost use Rattle.layout.specs.Edition.{layout_in, InSector};
 use super::Field;
 
 // The times and the name of an entry, and the times of the root.
-#[derive(Drop)]
+#[derive(Clone, Copy)]
 pub struct Edition {
     pub access_time: Field,
     pub change_time: Field,

@@ -1,4 +1,6 @@
 // The sector formats of document 01: each field's place stands once, and what reads a format and what writes it stand together.
+#![tactic(auto)]
+
 pub mod edition;
 pub mod entry;
 pub mod journal;
@@ -10,7 +12,7 @@ ghost use Rattle.std.specs.Prelude.{◌≡◌, ◌+◌, ◌^◌, ◌<◌, ◌≤
 ghost use Rattle.model.specs.Bytes.{be_at, be_bytes, put, raised, zero_sector};
 
 // Where a number stands in a sector: its first byte and its width in bytes.
-#[derive(Drop)]
+#[derive(Clone, Copy)]
 pub struct Field {
     pub offset: usize,
     pub width: usize,

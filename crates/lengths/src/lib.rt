@@ -1,4 +1,6 @@
 // How long a list each call can give on a volume, by its geometry alone: who lends a buffer this long is never refused for it.
+#![tactic(auto)]
+
 ghost use Rattle.std.specs.Prelude.{◌≡◌, ◌+◌, ◌*◌, ◌≤◌, min, max};
 ghost use Rattle.model.specs.Geometry.{extent_sectors, table_sectors, reserve_extents};
 ghost use Rattle.model.specs.WriteList.{record_count};

@@ -1,5 +1,7 @@
 // The listing program's decisions, a sector at a time: what a sector of the input makes it print, and which it reads next. It holds no
 // other sector: the geometry and an index are all that it keeps.
+#![tactic(auto)]
+
 ghost use Rattle.std.specs.Prelude.{◌≡◌, ◌-◌, ◌<◌, ◌≤◌, length};
 ghost use Rattle.model.specs.Bytes.{number_in};
 ghost use Rattle.model.specs.Edition.{layout_of};
@@ -11,7 +13,7 @@ ghost use Rattle.lines.specs.Steps.{step, step_on, entry_from, Kept, left, is_aw
 use model::{FileIndex, Geometry, Line};
 
 // The sector that the program reads next: the superblock, the root or an entry, then none.
-#[derive(Drop)]
+#[derive(Clone, Copy)]
 pub enum Awaited {
     Superblock,
     Root(Geometry),
@@ -19,7 +21,7 @@ pub enum Awaited {
     None,
 }
 
-#[derive(Drop)]
+#[derive(Clone, Copy)]
 pub struct Step {
     pub line: Line,
     pub next: Awaited,

@@ -1,5 +1,6 @@
 // The listing program: reads a volume from standard input one sector at a time, and prints a line for each occupied entry: index, size,
 // name. The crate `lines` decides what a sector comes to; here it is read, and its line printed.
+#![tactic(auto)]
 ghost use Rattle.std.specs.Prelude.{◌≡◌, ◌-◌, ◌≤◌, length};
 ghost use Rattle.lines.specs.Steps.{Kept, left, NameInSector};
 

@@ -1,4 +1,6 @@
 // Write lists: records, barriers, and the group that is a superblock.
+#![tactic(auto)]
+
 ghost use Rattle.std.specs.Prelude.{◌≡◌, [], ◌∷◌, ◌+◌, ◌*◌, ◌≤◌, length};
 ghost use Rattle.model.specs.Bytes.{bytes_from, put};
 ghost use Rattle.model.specs.Disk.{view};

@@ -1,4 +1,6 @@
 // The plain data that the volume's calls speak of, and the layout's rules on it. No other algorithm stands here.
+#![tactic(auto)]
+
 ghost use Rattle.std.specs.Prelude.{◌≡◌, ◌+◌, ◌*◌, ◌≤◌, ◌<◌};
 ghost use Rattle.model.specs.Geometry.{in_bounds, table_sectors, reserve_extents, usable, entry_at, journal_at, table_at, data_at, extent_at, reserve_at, volume_sectors};
 ghost use Rattle.model.specs.Table.{table_sector_of, table_entry_start};
@@ -6,18 +8,18 @@ ghost use Rattle.model.specs.Summary.{area_at, located};
 ghost use Rattle.model.specs.Opened.{Bounded};
 
 // Sector, extent and file numbers are never mixed: each is its own kind.
-#[derive(Drop)]
+#[derive(Clone, Copy)]
 pub struct Sector(pub u64);
 
-#[derive(Drop)]
+#[derive(Clone, Copy)]
 pub struct Extent(pub u64);
 
-#[derive(Drop)]
+#[derive(Clone, Copy)]
 pub struct FileIndex(pub u64);
 
 // F files, N extents, S sectors in each extent, and the edition, which is the superblock's version. The superblock gives S four bytes, so
 // no area's start can overflow.
-#[derive(Drop)]
+#[derive(Clone, Copy)]
 pub struct Geometry {
     pub files: u64,
     pub extents: u64,
@@ -26,7 +28,7 @@ pub struct Geometry {
 }
 
 // What the superblock's journal length says; a waiting volume's entry count goes with it.
-#[derive(Drop)]
+#[derive(Clone, Copy)]
 pub enum State {
     Clean,
     Waiting(u64),
@@ -35,7 +37,7 @@ pub enum State {
 }
 
 // The areas whose first sector a summary gives.
-#[derive(Drop)]
+#[derive(Clone, Copy)]
 pub enum Area {
     Journal,
     Table,
@@ -43,28 +45,28 @@ pub enum Area {
     Reserve,
 }
 
-#[derive(Drop)]
+#[derive(Clone, Copy)]
 pub struct Summary {
     pub geometry: Geometry,
     pub state: State,
 }
 
 // What a search over indexes answers.
-#[derive(Drop)]
+#[derive(Clone, Copy)]
 pub enum Lowest {
     At(usize),
     Nowhere,
 }
 
 // No fault, or the first one's number and place.
-#[derive(Drop)]
+#[derive(Clone, Copy)]
 pub enum Soundness {
     Sound,
     Faulty(u64, u64),
 }
 
 // A number of document 01's table; with 7 also the fault and its place, else both are 0.
-#[derive(Drop)]
+#[derive(Clone, Copy)]
 pub struct Verdict {
     pub number: u64,
     pub fault: u64,
@@ -72,7 +74,7 @@ pub struct Verdict {
 }
 
 // What find and list give of an entry.
-#[derive(Drop)]
+#[derive(Clone, Copy)]
 pub struct Fields {
     pub size: u64,
     pub version: u32,
@@ -85,25 +87,25 @@ pub struct Fields {
 
 // ---- one answer for each kind of call
 
-#[derive(Drop)]
+#[derive(Clone, Copy)]
 pub struct Summarized {
     pub number: u64,
     pub summary: Summary,
 }
 
 // Where an area starts, from a summary alone: 0 and the sector, or 3.
-#[derive(Drop)]
+#[derive(Clone, Copy)]
 pub struct Located {
     pub number: u64,
     pub sector: Sector,
 }
 
-#[derive(Drop)]
+#[derive(Clone, Copy)]
 pub struct Checked {
     pub verdict: Verdict,
 }
 
-#[derive(Drop)]
+#[derive(Clone, Copy)]
 pub struct Found {
     pub verdict: Verdict,
     pub index: FileIndex,
@@ -111,14 +113,14 @@ pub struct Found {
 }
 
 // The name's bytes stand in the output; their count is the field `name_length`. Of list and read too, `length` is the write list's in bytes.
-#[derive(Drop)]
+#[derive(Clone, Copy)]
 pub struct Listed {
     pub verdict: Verdict,
     pub fields: Fields,
     pub length: u64,
 }
 
-#[derive(Drop)]
+#[derive(Clone, Copy)]
 pub struct BytesRead {
     pub verdict: Verdict,
     pub count: u64,
@@ -126,7 +128,7 @@ pub struct BytesRead {
 }
 
 // Create, delete, resize, write: the write list's length in bytes.
-#[derive(Drop)]
+#[derive(Clone, Copy)]
 pub struct Changed {
     pub verdict: Verdict,
     pub length: u64,
@@ -134,41 +136,41 @@ pub struct Changed {
 
 // Repair: how many table entries it frees, the write list's length in bytes. With number 0 the verdict's fault and place are the first
 // fault that remains.
-#[derive(Drop)]
+#[derive(Clone, Copy)]
 pub struct Repaired {
     pub verdict: Verdict,
     pub freed: u64,
     pub length: u64,
 }
 
-#[derive(Drop)]
+#[derive(Clone, Copy)]
 pub struct Recovered {
     pub number: u64,
     pub length: u64,
 }
 
 // Of a slice: `count` sector writes.
-#[derive(Drop)]
+#[derive(Clone, Copy)]
 pub struct Sliced {
     pub number: u64,
     pub length: u64,
     pub count: u64,
 }
 
-#[derive(Drop)]
+#[derive(Clone, Copy)]
 pub struct Formatted {
     pub number: u64,
     pub length: u64,
 }
 
-#[derive(Drop)]
+#[derive(Clone, Copy)]
 pub struct CarriedOut {
     pub number: u64,
 }
 
 // What the listing program prints on a sector: nothing; "refused " and the number; a fault's number and the entry's index; or an occupied
 // entry's index and size, and of its name the first byte's place in the sector and the length.
-#[derive(Drop)]
+#[derive(Clone, Copy)]
 pub enum Line {
     Nothing,
     Refused(u64),
@@ -177,7 +179,7 @@ pub enum Line {
 }
 
 // The most bytes that a call's list can have.
-#[derive(Drop)]
+#[derive(Clone, Copy)]
 pub struct Longest {
     pub number: u64,
     pub length: u64,
@@ -188,7 +190,7 @@ pub struct Longest {
 
 // `skip` bytes of the sector stand before the span. `done` bytes of the span are in the output; at `edge` of them it goes on in sector `next`.
 #[repr(C)]
-#[derive(Drop)]
+#[derive(Clone, Copy)]
 pub struct Reading {
     pub code: u64,
     pub fault: u64,
@@ -204,7 +206,7 @@ pub struct Reading {
 
 // A data sector of which a span covers the bytes from `from` to before `to`, and its record's position in the list.
 #[repr(C)]
-#[derive(Drop)]
+#[derive(Clone, Copy)]
 pub struct Part {
     pub sector: u64,
     pub from: u64,
@@ -214,7 +216,7 @@ pub struct Part {
 
 // `last` is asked for after `wanted`; `full` is the list's length.
 #[repr(C)]
-#[derive(Drop)]
+#[derive(Clone, Copy)]
 pub struct Writing {
     pub code: u64,
     pub fault: u64,
@@ -227,7 +229,7 @@ pub struct Writing {
 
 // The source of journal entry `entry` is asked for; `full` is the list's length.
 #[repr(C)]
-#[derive(Drop)]
+#[derive(Clone, Copy)]
 pub struct Recovering {
     pub code: u64,
     pub length: u64,

@@ -1,4 +1,5 @@
 // The search for a free extent, exported alone so that the bench can time it. Calls for a volume stand in `goofs`.
+#![tactic(auto)]
 ghost use Rattle.std.specs.Prelude.{◌≡◌};
 ghost use Rattle.model.specs.Disk.{view, on_image};
 ghost use Rattle.model.specs.Opened.{Readable};
@@ -8,7 +9,7 @@ ghost use Rattle.search.specs.Numbers.{extent_numbers, free_extent_numbers};
 use model::Lowest;
 
 #[repr(C)]
-#[derive(Drop)]
+#[derive(Clone, Copy)]
 pub struct FreeExtentResult {
     pub code: u64,
     pub extent: u64,

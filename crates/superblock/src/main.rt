@@ -1,5 +1,6 @@
 // The small program: reads one sector from standard input and prints the geometry, the areas and the state that its superblock
 // gives, a line each; or one line, "refused " and the number. What follows the first sector is ignored.
+#![tactic(auto)]
 use libc::{STDIN_FILENO, STDOUT_FILENO};
 use model::{Geometry, Located, State, Summary};
 

@@ -1,4 +1,6 @@
 // The superblock, the summary, and the refusals 1 to 3 of an image.
+#![tactic(auto)]
+
 ghost use Rattle.std.specs.Prelude.{◌≡◌, ◌*◌, ◌≤◌, ◌<◌, length};
 ghost use Rattle.model.specs.Disk.{view, on_image};
 ghost use Rattle.model.specs.Superblock.{is_volume, geometry_in, state_of, state_on};

@@ -1,5 +1,6 @@
 // The calls write and resize on a volume that the refusals 1 to 7 let pass: their refusals and their write lists; and their forms on lent sectors,
 // which ask for the sectors that the span covers partly (T-11).
+#![tactic(auto)]
 ghost use Rattle.std.specs.Prelude.{◌≡◌, false, cond, [], ◌+◌, ◌*◌, ◌-◌, ◌/◌, ◌≤◌, ◌<◌, ◌^◌, eqb, ltb, length};
 ghost use Rattle.std.proofs.Math.Option.{some};
 ghost use Rattle.model.specs.Search.{index_of};
@@ -23,7 +24,7 @@ ghost use Rattle.write.specs.FileResize.{shrink_for, FileShrinksTo, FileResizesT
 use model::{Changed, Extent, FileIndex, Geometry, Lowest, Part, Verdict, Writing};
 
 // What a new size needs: the extents that the file has, whether it takes one more, whether K + 1 are free, and the lowest of these.
-#[derive(Drop)]
+#[derive(Clone, Copy)]
 pub struct Growth {
     pub held: u64,
     pub more: bool,
@@ -32,7 +33,7 @@ pub struct Growth {
 }
 
 // What a write or a resize comes to. Where a list follows, `index` and `size` are of the file that it names.
-#[derive(Drop)]
+#[derive(Clone, Copy)]
 pub struct Begun {
     pub answer: Changed,
     pub index: FileIndex,

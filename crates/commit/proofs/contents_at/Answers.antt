@@ -1,0 +1,7 @@
+-- `commit::contents_at` meets its contract. 512 bytes copied into an array of 512 are the whole array.
+use mathlib.Core.Path.{◌∙◌}
+use Rattle.laws.proofs.Bytes.{length-bytes_from, put_all}
+use Rattle.commit.proofs.contents_at.Goals as goal
+
+pub returns : goal.returns
+returns c = c.copy_bytes.ensures ∙ put_all _ _ (length-bytes_from _ _ 512)

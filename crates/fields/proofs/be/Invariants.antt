@@ -1,0 +1,14 @@
+-- `fields::be` meets its contract. The loop's invariant: v is the number of the first i bytes, and below 256 ^ i.
+use mathlib.Core.Path.{◌≡◌, refl, ap, sym, ◌∙◌}
+use Prim.Native.Nat.{ℕ, ◌+◌, ◌-◌, ◌*◌, ◌^◌, ◌≤◌, ◌<◌}
+use native.Mathlib.Omega.{arith}
+use lib.ListN.{get_or}
+use Rattle.model.specs.Bytes.{be_at}
+use Rattle.laws.proofs.Bytes.{be_at-more, pow_more, pow-seven}
+use Rattle.fields.proofs.be.Given as goal
+
+abbrev pub invariant-loop-i : goal.invariant-loop-i
+invariant-loop-i l = (l.i ≤ l.width) × (l.v ≡ be_at l.s l.at l.i) × (l.v < 256 ^ l.i)
+
+abbrev pub decreases-loop-i : goal.decreases-loop-i
+decreases-loop-i l = l.width - l.i

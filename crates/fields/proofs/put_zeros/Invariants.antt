@@ -1,0 +1,15 @@
+-- `fields::put_zeros` meets its contract. The loop's invariant: the first i bytes are 0.
+use mathlib.Core.Path.{◌≡◌, refl, sym}
+use mathlib.Core.List.{[]}
+use Prim.Native.Nat.{◌-◌, ◌≤◌}
+use native.Mathlib.Omega.{arith}
+use lib.ListN.{length, length-set}
+use Rattle.model.specs.Bytes.{bytes_from, put}
+use Rattle.laws.proofs.Bytes.{bytes_from-more, put-snoc, put-nil, length-bytes_from}
+use Rattle.fields.proofs.put_zeros.Given as goal
+
+abbrev pub invariant-loop-i : goal.invariant-loop-i
+invariant-loop-i l = (l.i ≤ l.n) × (l.b ≡ put l.initial.b l.at (bytes_from [] 0 l.i)) × (length l.b ≡ length l.initial.b)
+
+abbrev pub decreases-loop-i : goal.decreases-loop-i
+decreases-loop-i l = l.n - l.i

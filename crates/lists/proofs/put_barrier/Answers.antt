@@ -1,0 +1,8 @@
+-- `lists::put_barrier` meets its contract. A barrier is a record like any other.
+use Rattle.model.specs.Bytes.{zero_sector}
+use Rattle.model.specs.WriteList.{barrier}
+use Rattle.lists.proofs.put_barrier.Goals as goal
+
+pub returns : goal.returns
+unfolding barrier zero_sector
+returns c = c.put_sector.ensures

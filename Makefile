@@ -21,12 +21,11 @@ test:
 	@tests/run
 
 bench:
-	@rt staticlib goofs > /dev/null
-	@rt staticlib search > /dev/null
+	@packaging/build-library goofs search
 	@cargo run --manifest-path host/Cargo.toml --offline --release -p bench
 
 soak:
-	@mkdir -p target && rt staticlib goofs > target/build.log 2>&1 || { cat target/build.log; exit 1; }
+	@packaging/build-library goofs
 	@cargo run --manifest-path host/Cargo.toml --offline --release --quiet -p soak -- $(if $(REPLAY),--replay $(REPLAY), \
 	    $(if $(CASES),--cases $(CASES),--minutes $(MINUTES)) $(if $(SEED),--seed $(SEED)) $(if $(THREADS),--threads $(THREADS)))
 

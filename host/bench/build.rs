@@ -1,4 +1,4 @@
-//! Links the static library of the search for a free extent, which `rt staticlib search` leaves beside
+//! Links the static library of the search for a free extent, which `packaging/build-library search` leaves beside
 //! the one of all calls. The folder is named as for the crate `goofs`.
 
 use std::env;
@@ -18,7 +18,7 @@ fn main() {
     println!("cargo:rerun-if-changed={}", library.display());
     if !library.exists() {
         eprintln!(
-            "{} is not there: run `rt staticlib search` in the repository first",
+            "{} is not there: run `packaging/build-library search` in the repository first",
             library.display()
         );
         exit(1);

@@ -1,4 +1,4 @@
-//! Links the static library that `rt staticlib goofs` leaves in the repository's `target/staticlib`, or
+//! Links the static library that `packaging/build-library goofs` leaves in the repository's `target/staticlib`, or
 //! the one in the folder that the environment variable GOOFS_LIB_DIR names.
 
 use std::env;
@@ -18,8 +18,8 @@ fn main() {
     println!("cargo:rerun-if-changed={}", library.display());
     if !library.exists() {
         eprintln!(
-            "{} is not there: run `rt staticlib goofs` in the repository first, or name the folder of \
-             libgoofs.a in {FOLDER}",
+            "{} is not there: run `packaging/build-library goofs` in the repository first, or name the \
+             folder of libgoofs.a in {FOLDER}",
             library.display()
         );
         exit(1);

@@ -1,4 +1,4 @@
-//! Runs the compiled Rattle programs, which `rt` links into `target/bin`, and gives back what they print.
+//! Runs the compiled Rattle programs, which `rt` links as `crates/NAME/out/NAME`, and gives back what they print.
 
 use std::io::Write;
 use std::path::PathBuf;
@@ -6,8 +6,8 @@ use std::process::{Child, Command, Stdio};
 
 /// The program, with pipes for its standard input and output.
 pub fn start(program: &str) -> Child {
-    let path: PathBuf = [env!("CARGO_MANIFEST_DIR"), "../../target/bin", program].iter().collect();
-    assert!(path.exists(), "{} is not built: run `make test`, or `rt check {program}`", path.display());
+    let path: PathBuf = [env!("CARGO_MANIFEST_DIR"), "../../crates", program, "out", program].iter().collect();
+    assert!(path.exists(), "{} is not built: run `make test`, or `tests/build {program}`", path.display());
     Command::new(&path).stdin(Stdio::piped()).stdout(Stdio::piped()).spawn().expect("the program starts")
 }
 

@@ -243,17 +243,17 @@ abbrev pub joined : List Group → Group
 joined [] = []
 joined (g ∷ gs) = g ++ joined gs
 
-closed_after : (acc : List Record) (gs : List Group) (img : List ℕ) → stored (closed_after acc gs) img ≡ stored (joined gs) (stored acc img)
+stored-after : (acc : List Record) (gs : List Group) (img : List ℕ) → stored (closed_after acc gs) img ≡ stored (joined gs) (stored acc img)
 unfolding stored barrier
-closed_after acc [] img = refl
-closed_after acc (g ∷ gs) img =
-    closed_after (acc ++ g ++ (barrier ∷ [])) gs img
+stored-after acc [] img = refl
+stored-after acc (g ∷ gs) img =
+    stored-after (acc ++ g ++ (barrier ∷ [])) gs img
     ∙ ap (stored (joined gs)) (stored-append (acc ++ g) (barrier ∷ []) img ∙ stored-append acc g img)
     ∙ sym (stored-append g (joined gs) (stored acc img))
 
 pub stored-closed : (gs : List Group) (img : List ℕ) → stored (closed gs) img ≡ stored (joined gs) img
 unfolding stored
-stored-closed gs img = closed_after [] gs img
+stored-closed gs img = stored-after [] gs img
 
 -- a record that an image of so many bytes can take
 pub record InImage (bytes : ℕ) (w : Record) : Type 0 where

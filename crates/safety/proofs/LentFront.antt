@@ -166,15 +166,15 @@ module _ (img front : List ℕ) (count : ℕ) (lends : Lends img front count) wh
   front-is = rw (lends.whole, lent-geometry, le-leb (data_at of) (length front / 512) lends.reaches) (and-also (in_bounds of))
 
   -- the image's length, where its geometry is in bounds
-  pub goes_by : in_bounds (geometry_in (view img superblock_at)) ≡ true → goes_by front count ≡ length img
+  pub goes-length : in_bounds (geometry_in (view img superblock_at)) ≡ true → goes_by front count ≡ length img
   unfolding lent_length
-  goes_by b =
+  goes-length b =
       ap (λ (t : Bool). cond t (512 * max 1 count) (length front)) (front-is ∙ b) ∙ (let e : 512 * max 1 count ≡ length img = omega (arith, lends.sectors, lends.some) in e)
 
   -- whole sectors in either case
   whole_by : (b : Bool) → in_bounds of ≡ b → is_whole (goes_by front count) ≡ is_whole (length img)
   unfolding lent_length is_whole
-  whole_by true e = ap is_whole (goes_by e)
+  whole_by true e = ap is_whole (goes-length e)
   whole_by false e =
       ap (λ (t : Bool). is_whole (cond t (512 * max 1 count) (length front))) (front-is ∙ e) ∙ lends.whole
       ∙ sym (and_yes (ltb 0 (length img)) (eqb (length img % 512) 0) (lt-ltb 0 (length img) (omega (arith, lends.sectors, lends.some)))
@@ -183,7 +183,7 @@ module _ (img front : List ℕ) (count : ℕ) (lends : Lends img front count) wh
   -- out of bounds, whatever the length
   fits_by : (b : Bool) → in_bounds of ≡ b → fits_image (goes_by front count) (view img superblock_at) ≡ fits_image (length img) (view img superblock_at)
   unfolding fits_image
-  fits_by true e = ap (λ (n : ℕ). in_bounds of && leb (volume_sectors of) (n / 512)) (goes_by e)
+  fits_by true e = ap (λ (n : ℕ). in_bounds of && leb (volume_sectors of) (n / 512)) (goes-length e)
   fits_by false e = rw e refl
 
   -- REFUSALS 1 TO 3, AND SO 1 TO 7, ARE THE IMAGE'S

@@ -476,14 +476,14 @@ module _ (img front : List ℕ) (count : ℕ) (lends : Lends img front count) (n
       ∙ ap₂ gave (λ j. record { verdict = record { number = sym (gives ne (zeros room) l).accepted j; fault = a.verdict.fault; place = a.verdict.place }; count = a.count; length = a.length })
       (bytes_from-put-same (zeros room) 0 f a.count (length-file c (gives ne (zeros room) l).bounded i (view img) offset a.count) (omega (arith, fits ne (zeros room) l)))
 
-  read_answer : lent_answer front count (view img) (read name offset asked time room space) ≡ volume_answer (read name offset asked time room space) img
+  read-answers : lent_answer front count (view img) (read name offset asked time room space) ≡ volume_answer (read name offset asked time room space) img
   unfolding lent_answer on_volume read_gives
-  read_answer =
+  read-answers =
       ap (λ (r : Reading). answered (read_fed read_steps (view img) r (zeros room))) lent-begun ∙ by_count (eqb a.count 0) refl
 
   -- A READ'S LENT FORM IS THE READ
   pub lent-read : LentCall img front count (read name offset asked time room space)
-  lent-read = record { answer = read_answer; leaves-list = lent-read-list img front count lends name offset asked time room space }
+  lent-read = record { answer = read-answers; leaves-list = lent-read-list img front count lends name offset asked time room space }
 
 -- "one after the other in file order"
 pub read-order : (img front : List ℕ) (count : ℕ) → Lends img front count → ReadOrder img front count

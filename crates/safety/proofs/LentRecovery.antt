@@ -456,8 +456,8 @@ module _ (img front : List ℕ) (count : ℕ) (lends : Lends img front count) (l
     at_least : 0 < n
     at_least = some-entries (journal_length (d superblock_at)) n st
 
-    in_bounds : in_bounds geo ≡ true
-    in_bounds = volume-bounds geo (length img) (d superblock_at) (volume img n (length l) st accepted)
+    geo-bounds : in_bounds geo ≡ true
+    geo-bounds = volume-bounds geo (length img) (d superblock_at) (volume img n (length l) st accepted)
 
     recovers : Recovers (length img) d (replayed geo d n ∷ superblock_group d 0 ∷ [])
     recovers = waiting-recovers geo d n entry-good (length img) (volume img n (length l) st accepted) st
@@ -478,7 +478,7 @@ module _ (img front : List ℕ) (count : ℕ) (lends : Lends img front count) (l
 
     from-high : (k : ℕ) → k < n → from k < barrier_number
     from-high k h =
-        let b = bounds geo in_bounds lends.field in
+        let b = bounds geo geo-bounds lends.field in
         let p = product geo geo.extents b (omega arith) in
         omega (arith, b.files-high, b.extents-high, data-below geo (from k) (from-data k h), p)
 
@@ -532,7 +532,7 @@ module _ (img front : List ℕ) (count : ℕ) (lends : Lends img front count) (l
         let x = numbered to n (supplied m) (data_at geo) k inside in
         let own : get_or rs k barrier ≡ get_or C k barrier =
         ap (λ (r : List Record). get_or r k barrier) (closed-two C (superblock_group d 0)) ∙ get_or-append C _ barrier k inside in
-        let b = bounds geo in_bounds lends.field in
+        let b = bounds geo geo-bounds lends.field in
         let low : (get_or rs k barrier).sector < 2 ^ 64 =
         subst (λ (r : Record). r.sector < 2 ^ 64) (sym own) (omega (arith, x.0, b.files-high, b.extents-high)) in
         let many : length rs ≡ n + 3 = omega (arith, closed-cons C (superblock_group d 0 ∷ []), length-group m) in
@@ -569,7 +569,7 @@ module _ (img front : List ℕ) (count : ℕ) (lends : Lends img front count) (l
         let p1 : ltb 0 (state m).wanted ≡ true = ap (ltb 0) (wants m h) ∙ lt-ltb 0 (from m) (omega (arith, from_low m h)) in
         let p2 : ltb (state m).wanted barrier_number ≡ true = ap (λ (x : ℕ). ltb x barrier_number) (wants m h) ∙ lt-ltb (from m) barrier_number (from-high m h) in
         let p3 : eqb (length (d (state m).wanted)) 512 ≡ true = eq-eqb _ 512 (length-view img (state m).wanted) in
-        let p4 : is_front (length front) f ≡ true = front-is img front count lends ∙ in_bounds in
+        let p4 : is_front (length front) f ≡ true = front-is img front count lends ∙ geo-bounds in
         let p5 : ltb m (entries_waiting f) ≡ true = lt-ltb m (entries_waiting f) (omega (arith, front-entries)) in
         let p6 : eqb (state m).wanted (source_at (geometry_in (f superblock_at)) f m) ≡ true = eq-eqb _ _ (wants m h ∙ sym (front-source m h)) in
         let p7 : leb ((entries_waiting f + 3) * record_size) (length (list m)) ≡ true =

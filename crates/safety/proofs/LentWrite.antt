@@ -1,6 +1,6 @@
 -- T-11: a write or resize to which the partly covered sectors that it asks for are supplied answers and leaves its list as the call does on the image: all
 -- else of its plan rests on the sectors before the data area. Assumes nothing.
-use Prim.Native.Nat.{ℕ, suc, ◌+◌, ◌*◌, ◌-◌, ◌/◌, ◌≤◌, ◌<◌}
+use Prim.Native.Nat.{ℕ, suc, ◌*◌, ◌-◌, ◌/◌, ◌≤◌, ◌<◌}
 use mathlib.Core.Path.{◌≡◌, refl, sym, ap, ap₂, ◌∙◌, subst}
 use mathlib.Core.Logic.{◌≢◌}
 use mathlib.Core.Bool.{Bool, true, false, cond, ◌&&◌, ◌||◌}
@@ -36,7 +36,7 @@ use Rattle.laws.proofs.Bytes.{length-bytes_from, length-put}
 use Rattle.laws.proofs.Search.{length-tabulate}
 use Rattle.laws.proofs.Disk.{length-view}
 use Rattle.laws.proofs.WriteList.{plan-needs}
-use Rattle.safety.specs.LentForms.{Lends, goes_by, write_fed, write_steps, write_answered, lent_answer, leaves, lent_list, LentCall}
+use Rattle.safety.specs.LentForms.{Lends, goes_by, write_fed, write_steps, write_answered, lent_answer, lent_list, LentCall}
 use Rattle.safety.proofs.Bridge.{closed_is}
 use Rattle.safety.proofs.Changing.{Passed, passed-by, earlier-done, later-done}
 use Rattle.safety.proofs.LentFront.{Agrees, same-catalogue, same-groups, lent-agrees, lent-image}

@@ -39,7 +39,7 @@ use Rattle.safety.proofs.Bounds.{copies-fit}
 use Rattle.safety.proofs.Changing.{done-passed}
 use Rattle.safety.proofs.Described.{owned_at}
 use Rattle.safety.proofs.Theorem.{represents, sound-run}
-use Rattle.safety.proofs.NoRoom.{free_on}
+use Rattle.safety.proofs.NoRoom.{free-is}
 use Rattle.safety.proofs.Accounts.{count_below-all}
 use Rattle.safety.proofs.Corollaries.{accepted}
 
@@ -280,7 +280,7 @@ module _ (img : List ℕ) (bounded : Bounded (geometry_on img)) (last : (e : ℕ
 
   enough : reserve_extents (geometry_on img) ≤ free_on img
   unfolding catalogue_of
-  enough = omega (arith, free_on img, count-is (catalogue_of (view img)) bounded last)
+  enough = omega (arith, free-is img, count-is (catalogue_of (view img)) bounded last)
 
   own : OwnVolume img
   unfolding catalogue_of

@@ -251,9 +251,9 @@ module _ (L : Ledger) (img : List ℕ) (rep : Rep L img) (names lengths : List �
       rest-lowest = later-lowest (rename_refusals time L rs) lasts (ledger-refuses time rs L) (ap (λ (q : Pairs). lowest (rename_refusals time L q)) pairs ∙ zero-low)
 
       -- 13 by the count
-      too_many : too_many ≡ true → Refuses 13 0
+      refuses-many : too_many ≡ true → Refuses 13 0
       unfolding Refuses lowest
-      too_many e = (
+      refuses-many e = (
         (λ z. omega arith),
         own-verdict ∙ ap (λ (b : Bool). cond b (refusal 13) done) e,
         answer-is ∙ ap₂ (λ (u : Bool) (q : Pairs). answered u (lowest (rename_refusals time L rs ++ lasts)) (refused_at time L q 0)) unfit pairs
@@ -391,7 +391,7 @@ module _ (L : Ledger) (img : List ℕ) (rep : Rep L img) (names lengths : List �
         )
 
       shown-counted : (b : Bool) → too_many ≡ b → Shown
-      shown-counted true e = shown-refused 13 0 (too_many e)
+      shown-counted true e = shown-refused 13 0 (refuses-many e)
       shown-counted false e = shown-done e
 
     shown-fitting : Shown

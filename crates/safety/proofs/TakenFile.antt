@@ -93,9 +93,9 @@ abbrev owner_at : (ℕ → Lowest) → Lowest → Option Owner
 owner_at p Nowhere = none
 owner_at p (At j) = owner j (index_of (p j))
 
-owner_at : (L : Ledger) (e : ℕ) (r : Lowest) → owner_from L e r ≡ owner_at (places L e) r
-owner_at L e (At j) = refl
-owner_at L e Nowhere = refl
+owner-is : (L : Ledger) (e : ℕ) (r : Lowest) → owner_from L e r ≡ owner_at (places L e) r
+owner-is L e (At j) = refl
+owner-is L e Nowhere = refl
 
 module _ (L M : Ledger) (eg : M.geometry ≡ L.geometry) (e : ℕ) (same : (k : ℕ) → places M e k ≡ places L e k) where
   holder-same : holder_of M e ≡ holder_of L e
@@ -104,7 +104,7 @@ module _ (L M : Ledger) (eg : M.geometry ≡ L.geometry) (e : ℕ) (same : (k : 
 
   table_same : (catalogue M).table e ≡ (catalogue L).table e
   unfolding catalogue
-  table_same = owner_at M e (holder_of M e) ∙ ap₂ owner_at (fun_ext same) holder-same ∙ sym (owner_at L e (holder_of L e))
+  table_same = owner-is M e (holder_of M e) ∙ ap₂ owner_at (fun_ext same) holder-same ∙ sym (owner-is L e (holder_of L e))
 
 is-nowhere : (r : Lowest) → is_at r ≡ false → r ≡ Nowhere
 is-nowhere (At k) e = absurd (true≢false e)

@@ -125,7 +125,8 @@ fn copy_folder(from: &Path, to: &Path) {
         let entry = entry.expect("an entry is read");
         let target = to.join(entry.file_name());
         if entry.file_type().expect("an entry has a type").is_dir() {
-            if entry.file_name() != "must-fail" {
+            // What earlier checks kept is no part of the copy.
+            if entry.file_name() != "must-fail" && entry.file_name() != "out" {
                 copy_folder(&entry.path(), &target);
             }
         } else {
@@ -172,8 +173,9 @@ impl Edit {
         }
     }
 
-    /// Proves the crate that sees the edit over the edited definitions. Of an edit that is only guarded, `safety`.
-    pub fn try_it(&self) -> Outcome {
+    /// Proves the crate that sees the edit over the edited definitions, in a folder of this worker's own. Of an edit that is only guarded,
+    /// `safety`.
+    pub fn try_it(&self, worker: usize) -> Outcome {
         let text = match self.edited() {
             Ok(text) => text,
             Err(reason) => return Outcome::Broken(reason),
@@ -182,11 +184,8 @@ impl Edit {
             Seen::By { crate_name, .. } => crate_name.as_str(),
             Seen::Guarded(_) => "safety",
         };
-        let folder = std::env::temp_dir().join(format!(
-            "definition-edits-{}-{}",
-            std::process::id(),
-            self.name
-        ));
+        let folder =
+            std::env::temp_dir().join(format!("definition-edits-{}-{worker}", std::process::id()));
         let _ = fs::remove_dir_all(&folder);
         let crates = folder.join("crates");
         // The cases stand on the definitions alone.
@@ -205,9 +204,8 @@ impl Edit {
         fs::write(folder.join("crates/model").join(&self.file), text).expect("the edit is written");
 
         let run = Command::new("rt")
-            .args(["check", by])
-            .current_dir(&folder)
-            .env("RT_JOBS", "1")
+            .args(["check", "--jobs", "1"])
+            .current_dir(crates.join(by))
             .output()
             .expect("rt runs");
         let log = String::from_utf8_lossy(&run.stdout).into_owned()
@@ -216,12 +214,11 @@ impl Edit {
         if run.status.success() {
             return Outcome::Proved;
         }
-        let error = log
-            .lines()
-            .find(|l| l.contains("error:") || l.contains("is not admitted: unsolved"));
-        match error {
-            Some(line) if line.contains("/proofs/") => Outcome::Refused(place(line)),
-            Some(line) => Outcome::Broken(line.chars().take(300).collect()),
+        match first_error(&log) {
+            Some((name, line)) if line.starts_with("./proofs/") => {
+                Outcome::Refused(place(name, line))
+            }
+            Some((_, line)) => Outcome::Broken(line.chars().take(300).collect()),
             None => Outcome::Broken("refused without an error".to_string()),
         }
     }
@@ -236,16 +233,22 @@ impl Edit {
     }
 }
 
-/// Crate, proof file and line of an error: from `.../crates/safety/proofs/Create.antt:12:3: error: ..`.
-fn place(line: &str) -> String {
-    let start = line.find("crates/").map_or(0, |at| at + "crates/".len());
-    line[start..]
-        .split(": error")
-        .next()
-        .unwrap_or(line)
-        .chars()
-        .take(60)
-        .collect()
+/// The first error of a check and the crate that it stands in: the check goes from the lowest crate up, and ends each with a line
+/// `crate NAME: ..`, so that the next such line names it.
+fn first_error(log: &str) -> Option<(&str, &str)> {
+    let mut lines = log.lines();
+    let error = lines.find(|l| l.contains(": error: "))?;
+    let name = lines
+        .find_map(|l| l.strip_prefix("crate ")?.split_once(": "))
+        .map_or("?", |(name, _)| name);
+    Some((name, error))
+}
+
+/// Crate, proof file and line of an error, as `safety/proofs/Create.antt:12:3`: from `./proofs/Create.antt:12:3: error: ..`.
+fn place(name: &str, line: &str) -> String {
+    let file = line.trim_start_matches("./");
+    let file = file.split(": error").next().unwrap_or(file);
+    format!("{name}/{file}").chars().take(60).collect()
 }
 
 /// Tries these edits, as many at a time as the machine has processors, and tells each as it ends. Gives how many ended as they
@@ -255,12 +258,13 @@ pub fn try_all(edits: &[Edit], tell: impl Fn(&Edit, &Outcome) + Sync) -> (usize,
     let (next, good) = (AtomicUsize::new(0), AtomicUsize::new(0));
     let workers = std::thread::available_parallelism().map_or(1, |n| n.get());
     std::thread::scope(|scope| {
-        for _ in 0..workers {
-            scope.spawn(|| loop {
+        for worker in 0..workers {
+            let (next, good, tell) = (&next, &good, &tell);
+            scope.spawn(move || loop {
                 let Some(edit) = edits.get(next.fetch_add(1, Ordering::Relaxed)) else {
                     return;
                 };
-                let outcome = edit.try_it();
+                let outcome = edit.try_it(worker);
                 if edit.holds(&outcome) {
                     good.fetch_add(1, Ordering::Relaxed);
                 }

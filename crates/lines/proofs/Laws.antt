@@ -18,7 +18,7 @@ use Rattle.model.specs.Geometry.{FileNumber, superblock_at, most_files, in_bound
 use Rattle.model.specs.Disk.{Disk, view}
 use Rattle.model.specs.Edition.{layout_of}
 use Rattle.model.specs.Superblock.{geometry_in, state_on}
-use Rattle.model.specs.Entry.{Entry, entry_in, name_in, bad_name, is_occupied}
+use Rattle.model.specs.Entry.{entry_in, name_in, bad_name, is_occupied}
 use Rattle.model.specs.Faults.{bad_mark, bad_entry}
 use Rattle.model.specs.Refusals.{refusal, is_done, state_number}
 use Rattle.model.specs.Summary.{superblock_verdict}

@@ -12,13 +12,13 @@ use Rattle.commit.proofs.Clauses.{value_and_list}
 use Rattle.changes.proofs.create.Goals as goal
 
 pub create_in-requires : goal.create_in-requires
-create_in-requires c = 
+create_in-requires c =
     let a = c.args in
     accepted a.img.now (number_is c.judge-v.ensures c.if-v-eq0.true)
 
 pub returns-then-v-eq0 : goal.returns-then-v-eq0
 unfolding create_answer create_list create_decision
-returns-then-v-eq0 c = 
+returns-then-v-eq0 c =
     let j = c in
     let a = j.args in
     let d = view a.img.now in
@@ -28,7 +28,7 @@ returns-then-v-eq0 c =
 
 pub returns : goal.returns
 unfolding create_answer create_list create_decision
-returns c = 
+returns c =
     let a = c.args in
     let d = view a.img.now in
     let h =

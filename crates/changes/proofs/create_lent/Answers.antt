@@ -13,13 +13,13 @@ use Rattle.commit.proofs.Clauses.{value_and_list}
 use Rattle.changes.proofs.create_lent.Goals as goal
 
 pub create_in-requires : goal.create_in-requires
-create_in-requires c = 
+create_in-requires c =
     let a = c.args in
     lent-accepted a.front.now a.count (number_is c.judge_lent-v.ensures c.if-v-eq0.true)
 
 pub returns-then-v-eq0 : goal.returns-then-v-eq0
 unfolding create_answer create_list create_decision
-returns-then-v-eq0 c = 
+returns-then-v-eq0 c =
     let j = c in
     let a = j.args in
     let d = view a.front.now in
@@ -29,7 +29,7 @@ returns-then-v-eq0 c =
 
 pub returns : goal.returns
 unfolding create_answer create_list create_decision
-returns c = 
+returns c =
     let a = c.args in
     let d = view a.front.now in
     let h =

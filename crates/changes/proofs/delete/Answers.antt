@@ -13,13 +13,13 @@ use Rattle.commit.proofs.Clauses.{value_and_list}
 use Rattle.changes.proofs.delete.Goals as goal
 
 pub delete_in-requires : goal.delete_in-requires
-delete_in-requires c = 
+delete_in-requires c =
     let a = c.args in
     accepted a.img.now (number_is c.judge-v.ensures c.if-v-eq0.true)
 
 pub returns-then-v-eq0 : goal.returns-then-v-eq0
 unfolding delete_answer delete_list delete_decision
-returns-then-v-eq0 c = 
+returns-then-v-eq0 c =
     let j = c in
     let a = j.args in
     let d = view a.img.now in
@@ -29,7 +29,7 @@ returns-then-v-eq0 c =
 
 pub returns : goal.returns
 unfolding delete_answer delete_list delete_decision
-returns c = 
+returns c =
     let a = c.args in
     let d = view a.img.now in
     let h =

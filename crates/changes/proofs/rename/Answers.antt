@@ -11,13 +11,13 @@ use Rattle.commit.proofs.Clauses.{value_and_list}
 use Rattle.changes.proofs.rename.Goals as goal
 
 pub rename_in-requires : goal.rename_in-requires
-rename_in-requires c = 
+rename_in-requires c =
     let a = c.args in
     accepted a.img.now (number_is c.judge-v.ensures c.if-v-eq0.true)
 
 pub returns-then-v-eq0 : goal.returns-then-v-eq0
 unfolding rename_answer rename_list rename_decision
-returns-then-v-eq0 c = 
+returns-then-v-eq0 c =
     let j = c in
     let a = j.args in
     let d = view a.img.now in
@@ -27,7 +27,7 @@ returns-then-v-eq0 c =
 
 pub returns : goal.returns
 unfolding rename_answer rename_list rename_decision
-returns c = 
+returns c =
     let a = c.args in
     let d = view a.img.now in
     let h =

@@ -12,13 +12,13 @@ use Rattle.commit.proofs.Clauses.{value_and_list}
 use Rattle.changes.proofs.rename_lent.Goals as goal
 
 pub rename_in-requires : goal.rename_in-requires
-rename_in-requires c = 
+rename_in-requires c =
     let a = c.args in
     lent-accepted a.front.now a.count (number_is c.judge_lent-v.ensures c.if-v-eq0.true)
 
 pub returns-then-v-eq0 : goal.returns-then-v-eq0
 unfolding rename_answer rename_list rename_decision
-returns-then-v-eq0 c = 
+returns-then-v-eq0 c =
     let j = c in
     let a = j.args in
     let d = view a.front.now in
@@ -28,7 +28,7 @@ returns-then-v-eq0 c =
 
 pub returns : goal.returns
 unfolding rename_answer rename_list rename_decision
-returns c = 
+returns c =
     let a = c.args in
     let d = view a.front.now in
     let h =

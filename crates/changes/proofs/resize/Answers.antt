@@ -12,13 +12,13 @@ use Rattle.commit.proofs.Clauses.{value_and_list}
 use Rattle.changes.proofs.resize.Goals as goal
 
 pub resize_in-requires : goal.resize_in-requires
-resize_in-requires c = 
+resize_in-requires c =
     let a = c.args in
     accepted a.img.now (number_is c.judge-v.ensures c.if-v-eq0.true)
 
 pub returns-then-v-eq0 : goal.returns-then-v-eq0
 unfolding resize_answer resize_list resize_decision
-returns-then-v-eq0 c = 
+returns-then-v-eq0 c =
     let j = c in
     let a = j.args in
     let d = view a.img.now in
@@ -28,7 +28,7 @@ returns-then-v-eq0 c =
 
 pub returns : goal.returns
 unfolding resize_answer resize_list resize_decision
-returns c = 
+returns c =
     let a = c.args in
     let d = view a.img.now in
     let h =

@@ -10,12 +10,12 @@ use Rattle.changes.proofs.Lengths.{number_is}
 use Rattle.changes.proofs.resize_lent.Goals as goal
 
 pub resize_lent_in-requires : goal.resize_lent_in-requires
-resize_lent_in-requires c = 
+resize_lent_in-requires c =
     let a = c.args in
     lent-accepted a.front.now a.count (number_is c.judge_lent-v.ensures c.if-v-eq0.true)
 
 pub returns-then-v-eq0 : goal.returns-then-v-eq0
-returns-then-v-eq0 c = 
+returns-then-v-eq0 c =
     let j = c in
     let a = j.args in
     let d = view a.front.now in
@@ -27,7 +27,7 @@ returns-then-v-eq0 c =
     }
 
 pub returns : goal.returns
-returns c = 
+returns c =
     let a = c.args in
     let d = view a.front.now in
     let v = c.judge_lent-v in

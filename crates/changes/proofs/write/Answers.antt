@@ -12,13 +12,13 @@ use Rattle.commit.proofs.Clauses.{value_and_list}
 use Rattle.changes.proofs.write.Goals as goal
 
 pub write_in-requires : goal.write_in-requires
-write_in-requires c = 
+write_in-requires c =
     let a = c.args in
     accepted a.img.now (number_is c.judge-v.ensures c.if-v-eq0.true)
 
 pub returns-then-v-eq0 : goal.returns-then-v-eq0
 unfolding write_answer write_list write_decision
-returns-then-v-eq0 c = 
+returns-then-v-eq0 c =
     let j = c in
     let a = j.args in
     let d = view a.img.now in
@@ -28,7 +28,7 @@ returns-then-v-eq0 c =
 
 pub returns : goal.returns
 unfolding write_answer write_list write_decision
-returns c = 
+returns c =
     let a = c.args in
     let d = view a.img.now in
     let h =

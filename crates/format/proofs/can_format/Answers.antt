@@ -2,7 +2,7 @@
 use Rattle.format.proofs.can_format.Goals as goal
 
 pub returns-then-is_edition : goal.returns-then-is_edition
-returns-then-is_edition c = 
+returns-then-is_edition c =
     let d = c in
     rw (← d.has_room.ensures, d.if-has_room.true, ← d.is_edition.ensures, c.if-is_edition.true, ← c.bad_time.ensures)
 

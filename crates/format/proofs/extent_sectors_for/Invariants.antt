@@ -1,10 +1,8 @@
 -- `format::extent_sectors_for` meets its contract. The loop's invariant: s is 128 doubled so many times, and the doublings that
 -- are left give what all 24 give.
 use Prim.Native.Nat.{◌+◌, ◌-◌, ◌≤◌, ◌^◌}
-use mathlib.Core.Path.{◌≡◌, refl, sym, ◌∙◌}
-use native.Mathlib.Omega.{arith}
+use mathlib.Core.Path.{◌≡◌}
 use Rattle.model.specs.Format.{doubled}
-use Rattle.format.proofs.Laws.{width_low, width-high, wider, doubled-stop, doubled-next, doubled-end}
 use Rattle.format.proofs.extent_sectors_for.Given as goal
 
 abbrev pub invariant-loop-doublings : goal.invariant-loop-doublings

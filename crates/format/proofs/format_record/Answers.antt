@@ -10,13 +10,13 @@ record_count-requires c = bounded _ _ _ (sym c.can_format.ensures ∙ c.if-can_f
 
 pub put_record-requires : goal.put_record-requires
 put_record-requires c = record {
-      bounded = bounded _ _ _ (sym c.can_format.ensures ∙ c.if-can_format.true) (search rules);
-      p_bound = search rules;
-      record_size_in_bounds = search rules;
-    }
+  bounded = bounded _ _ _ (sym c.can_format.ensures ∙ c.if-can_format.true) (search rules);
+  p_bound = search rules;
+  record_size_in_bounds = search rules;
+}
 
 pub returns-then-out-ge-RECORD_SIZE : goal.returns-then-out-ge-RECORD_SIZE
-returns-then-out-ge-RECORD_SIZE c = 
+returns-then-out-ge-RECORD_SIZE c =
     let s = c.args in
     let a : Format = record { sectors = s.sectors; files = s.files; edition = s.edition; id = s.id; mode = s.mode; time = s.time } in
     let g = c.geometry_for-g in
@@ -28,7 +28,7 @@ returns-then-out-ge-RECORD_SIZE c =
     }
 
 pub returns-then-position-record_count : goal.returns-then-position-record_count
-returns-then-position-record_count c = 
+returns-then-position-record_count c =
     let s = c.args in
     let a : Format = record { sectors = s.sectors; files = s.files; edition = s.edition; id = s.id; mode = s.mode; time = s.time } in
     let g = c.geometry_for-g in
@@ -39,7 +39,7 @@ returns-then-position-record_count c =
     }
 
 pub returns-then-can_format : goal.returns-then-can_format
-returns-then-can_format c = 
+returns-then-can_format c =
     let s = c.args in
     let a : Format = record { sectors = s.sectors; files = s.files; edition = s.edition; id = s.id; mode = s.mode; time = s.time } in
     let g = c.geometry_for-g in
@@ -49,7 +49,7 @@ returns-then-can_format c =
     }
 
 pub returns : goal.returns
-returns c = 
+returns c =
     let s = c.args in
     let a : Format = record { sectors = s.sectors; files = s.files; edition = s.edition; id = s.id; mode = s.mode; time = s.time } in
     let g = c.geometry_for-g in

@@ -10,7 +10,7 @@ use Prim.Native.Nat.{◌+◌}
 use Rattle.format.proofs.has_room.Goals as goal
 
 pub overflow_add-result : goal.overflow_add-result
-overflow_add-result c = 
+overflow_add-result c =
     let g = c.args.g in
     let b = bounds g (sym c.in_bounds.ensures ∙ c.if-in_bounds.true) (search rules) in
     omega (arith, b.files-high)

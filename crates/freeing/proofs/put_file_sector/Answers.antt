@@ -12,7 +12,7 @@ use borrow.Author.Rules.{rules}
 use Rattle.freeing.proofs.put_file_sector.Goals as goal
 
 pub put_freed_sector-requires : goal.put_freed_sector-requires
-put_freed_sector-requires c = 
+put_freed_sector-requires c =
     let s = c in record {
       stages = s.requires.stages;
       opened = s.requires.opened;
@@ -21,7 +21,7 @@ put_freed_sector-requires c =
     }
 
 pub returns-then-holds_from : goal.returns-then-holds_from
-returns-then-holds_from c = 
+returns-then-holds_from c =
     let m = c in
     let a = m.args in
     let p = owned_in a.img.now a.i.0 a.o in
@@ -30,7 +30,7 @@ returns-then-holds_from c =
     rw (sym (marked-sector p a.g (view a.img.now) m.marks_from-marks.result a.t held same)) c.put_freed_sector.ensures
 
 pub returns : goal.returns
-returns c = 
+returns c =
     let a = c.args in
     let none = sym c.holds_from.ensures ∙ c.if-holds_from.false in
     rw (freed-miss (owned_in a.img.now a.i.0 a.o) a.g (view a.img.now) a.t none) (added_none _ _ _ _ _)

@@ -1,16 +1,12 @@
 -- `freeing::put_freed` meets its contract. The loop's invariant: those of the table sectors passed are staged.
 use Prim.Native.Nat.{◌-◌, ◌≤◌}
-use mathlib.Core.Path.{◌≡◌, refl}
-use native.Mathlib.Omega.{arith}
+use mathlib.Core.Path.{◌≡◌}
 use lib.ListN.{length}
 use Rattle.model.specs.Search.{concatenated}
 use Rattle.model.specs.Disk.{view}
 use Rattle.model.specs.Freeing.{freed_sector}
 use Rattle.commit.specs.Commit.{Added}
-use Rattle.commit.proofs.Laws.{added_none}
 use Rattle.table.specs.Owned.{owned_in}
-use Rattle.freeing.proofs.Laws.{freed-next, freed-room, freed-all}
-use borrow.Author.Rules.{rules}
 use Rattle.freeing.proofs.put_freed.Given as goal
 
 abbrev pub invariant-loop-t : goal.invariant-loop-t

@@ -7,14 +7,14 @@ use Rattle.freeing.proofs.put_freed_sector.Goals as goal
 
 pub put_copy-requires : goal.put_copy-requires
 put_copy-requires c = record {
-      stages = c.requires.stages;
-      record_size_in_bounds = search rules;
-      bounded = search rules;
-      j_bound = search rules;
-    }
+  stages = c.requires.stages;
+  record_size_in_bounds = search rules;
+  bounded = search rules;
+  j_bound = search rules;
+}
 
 pub returns : goal.returns
-returns c = 
+returns c =
     let p = c.put_copy in
     let f = c in
     let s = f in

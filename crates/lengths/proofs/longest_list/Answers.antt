@@ -8,14 +8,14 @@ pub records-n-requires : goal.records-n-requires
 records-n-requires c = bounds _ (sym c.in_bounds.ensures ∙ c.if-in_bounds.true) c.if-sectors-le4294967295.true
 
 pub returns-then-n-eq0 : goal.returns-then-n-eq0
-returns-then-n-eq0 c = 
+returns-then-n-eq0 c =
     let d = c in
     c.refused.ensures
     ∙ sym (no_call _ _ (sym d.in_bounds.ensures ∙ c.if-in_bounds.true) d.if-sectors-le4294967295.true
     (sym c.records-n.ensures.value ∙ c.if-n-eq0.true))
 
 pub returns-then-in_bounds : goal.returns-then-in_bounds
-returns-then-in_bounds c = 
+returns-then-in_bounds c =
     let d = c in
     let r = c.records-n.ensures.value in
     rw (answered _ _ (sym d.in_bounds.ensures ∙ c.if-in_bounds.true) d.if-sectors-le4294967295.true (λ z. c.if-n-eq0.false (r ∙ z)), ← r)

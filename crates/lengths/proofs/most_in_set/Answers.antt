@@ -7,7 +7,7 @@ use borrow.Author.Rules.{rules}
 use Rattle.lengths.proofs.most_in_set.Goals as goal
 
 pub overflow_mul-reserve_extents : goal.overflow_mul-reserve_extents
-overflow_mul-reserve_extents c = 
+overflow_mul-reserve_extents c =
     let s = c in
     let k = c.reserve_extents in
     let e : k.result ≤ s.args.g.extents = omega (arith, reserve-small s.args.g s.requires, k.ensures) in

@@ -10,7 +10,7 @@ returns-then-bad_mark_in c = rw (← c.bad_mark_in.ensures, c.if-bad_mark_in.tru
 
 pub returns-then-bad_entry_in : goal.returns-then-bad_entry_in
 unfolding entry_line entry_in
-returns-then-bad_entry_in c = 
+returns-then-bad_entry_in c =
     let b = c in
     let o = b in
     rw (
@@ -25,7 +25,7 @@ returns-then-bad_entry_in c =
 
 pub returns-then-is_occupied : goal.returns-then-is_occupied
 unfolding entry_line entry_in
-returns-then-is_occupied c = 
+returns-then-is_occupied c =
     let b = c in
     let o = b in
     let a = o.args in

@@ -14,7 +14,7 @@ geometry_in-g-requires c = listing-length _ _ (ap (λ (v : Verdict). v.number) (
 
 pub returns-then-v-eq0 : goal.returns-then-v-eq0
 unfolding step_on
-returns-then-v-eq0 c = 
+returns-then-v-eq0 c =
     let v = c.listing_verdict-v in
     let g = c.geometry_in-g.result in
     let h : in_bounds g ≡ _ = ap in_bounds c.geometry_in-g.ensures ∙ listing-bounds _ _ (ap (λ (v : Verdict). v.number) (sym v.ensures) ∙ c.if-v-eq0.true) in record {
@@ -25,6 +25,6 @@ returns-then-v-eq0 c =
 pub returns : goal.returns
 unfolding step_on
 returns c = record {
-      value = rw (← c.listing_verdict-v.ensures, ne_eqb _ _ c.if-v-eq0.false);
-      kept = tt;
-    }
+  value = rw (← c.listing_verdict-v.ensures, ne_eqb _ _ c.if-v-eq0.false);
+  kept = tt;
+}

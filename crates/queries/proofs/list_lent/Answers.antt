@@ -13,7 +13,7 @@ pub list_in-requires : goal.list_in-requires
 list_in-requires c = lent-accepted _ _ (ap (λ (v : Verdict). v.number) (sym c.judge_lent-v.ensures) ∙ c.if-v-eq0.true)
 
 pub returns-then-v-eq0 : goal.returns-then-v-eq0
-returns-then-v-eq0 c = 
+returns-then-v-eq0 c =
     let l = c in
     let k = l in
     let j = k in
@@ -22,7 +22,7 @@ returns-then-v-eq0 c =
     let ok = ap (λ (v : Verdict). v.number) (sym j.judge_lent-v.ensures) ∙ k.if-v-eq0.true in value_out_and_list (lists-same len a.front.now a.out.now a.list.now a.index a.time _ (judged-own len (view a.front.now) ok) (l.list_in.ensures.value, (l.list_in.ensures.out_after, l.list_in.ensures.list_after)))
 
 pub returns : goal.returns
-returns c = 
+returns c =
     let j = c in
     let a = j.args in
     let len = lent_length (length a.front.now) a.count (view a.front.now) in

@@ -11,7 +11,7 @@ use Rattle.reading.proofs.Clauses.{value_out_and_list}
 use Rattle.queries.proofs.read.Goals as goal
 
 pub read_in-requires : goal.read_in-requires
-read_in-requires c = 
+read_in-requires c =
     let ok = ap (λ (v : Verdict). v.number) (sym c.judge-v.ensures) ∙ c.if-v-eq0.true in
     let f = image-fits _ _ (judged-image _ _ ok) in record {
       accepted = accepted _ ok;
@@ -19,7 +19,7 @@ read_in-requires c =
     }
 
 pub returns-then-v-eq0 : goal.returns-then-v-eq0
-returns-then-v-eq0 c = 
+returns-then-v-eq0 c =
     let l = c in
     let k = l in
     let j = k in
@@ -28,7 +28,7 @@ returns-then-v-eq0 c =
     (judged-own (length a.img.now) (view a.img.now) ok) (l.read_in.ensures.value, (l.read_in.ensures.out_after, l.read_in.ensures.list_after)))
 
 pub returns : goal.returns
-returns c = 
+returns c =
     let j = c in
     let a = j.args in
     rw c.not_read.ensures

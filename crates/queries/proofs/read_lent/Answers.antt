@@ -13,7 +13,7 @@ pub read_lent_in-requires : goal.read_lent_in-requires
 read_lent_in-requires c = lent-accepted _ _ (ap (λ (v : Verdict). v.number) (sym c.judge_lent-v.ensures) ∙ c.if-v-eq0.true)
 
 pub returns-then-v-eq0 : goal.returns-then-v-eq0
-returns-then-v-eq0 c = 
+returns-then-v-eq0 c =
     let l = c in
     let k = l in
     let j = k in
@@ -22,7 +22,7 @@ returns-then-v-eq0 c =
     let ok = ap (λ (v : Verdict). v.number) (sym j.judge_lent-v.ensures) ∙ k.if-v-eq0.true in value_and_list (begins-same len a.front.now a.list.now a.name.now a.offset a.asked a.time a.room _ (judged-own len (view a.front.now) ok) (l.read_lent_in.ensures.value, l.read_lent_in.ensures.list_after))
 
 pub returns : goal.returns
-returns c = 
+returns c =
     let j = c in
     let a = j.args in
     let len = lent_length (length a.front.now) a.count (view a.front.now) in

@@ -10,7 +10,7 @@ pub overflow_add-o : goal.overflow_add-o
 overflow_add-o c = let s = c in omega (arith, extents-few (extent_sectors s.args.g) s.args.offset, s.ranges)
 
 pub overflow_add-result : goal.overflow_add-result
-overflow_add-result c = 
+overflow_add-result c =
     let s = c in
     let x = s.args in
     let b = s.requires.opened.bounded in
@@ -22,7 +22,7 @@ pub overflow_sub-result : goal.overflow_sub-result
 overflow_sub-result c = let s = c in omega (arith, offset-within s.args.g s.requires.opened.bounded s.args.offset)
 
 pub returns : goal.returns
-returns c = 
+returns c =
     let s = c in
     let x = s.args in
     let e = c.extent_of in

@@ -8,7 +8,7 @@ use Rattle.reading.proofs.Steps.{begun-none, begun-some}
 use Rattle.reading.proofs.begin_read.Goals as goal
 
 pub returns-then-a-eq0 : goal.returns-then-a-eq0
-returns-then-a-eq0 c = 
+returns-then-a-eq0 c =
     let d = c.decide_read-a in
     let x = c.args in
     let k = catalogue_of (view x.img.now) in record {
@@ -17,7 +17,7 @@ returns-then-a-eq0 c =
     }
 
 pub returns : goal.returns
-returns c = 
+returns c =
     let d = c.decide_read-a in
     let x = c.args in
     let k = catalogue_of (view x.img.now) in record {

@@ -8,12 +8,12 @@ use Rattle.reading.proofs.copy_name.Goals as goal
 
 pub name_at-requires : goal.name_at-requires
 name_at-requires c = let p = c.requires in record {
-      i_in_bounds = p.i_in_bounds;
-      edition_bound = rw (← p.n_value.0) p.n_value.1;
-    }
+  i_in_bounds = p.i_in_bounds;
+  edition_bound = rw (← p.n_value.0) p.n_value.1;
+}
 
 pub copy_bytes-requires : goal.copy_bytes-requires
-copy_bytes-requires c = 
+copy_bytes-requires c =
     let p = c.requires in
     let e : length c.name_at.result.now ≡ c.args.n = ap length c.name_at.ensures ∙ length-name_in _ _ ∙ sym p.n_value.0 in record {
       n_in_bounds = omega arith;
@@ -21,7 +21,7 @@ copy_bytes-requires c =
     }
 
 pub returns : goal.returns
-returns c = 
+returns c =
     let d = c in
     let p = d.requires in
     let e : length d.name_at.result.now ≡ d.args.n = ap length d.name_at.ensures ∙ length-name_in _ _ ∙ sym p.n_value.0 in

@@ -13,9 +13,9 @@ use Rattle.reading.proofs.decide_read.Goals as goal
 
 pub staging-there-requires : goal.staging-there-requires
 staging-there-requires c = record {
-      opened = c.requires.opened;
-      stages_value = refl;
-    }
+  opened = c.requires.opened;
+  stages_value = refl;
+}
 
 pub overflow_sub-size : goal.overflow_sub-size
 overflow_sub-size c = (file-enough _ _ _ _ _ _ (ap (λ (v : Verdict). v.number) (sym c.file_verdict-v.ensures) ∙ c.if-v-eq0.true)).0
@@ -24,7 +24,7 @@ pub sector-target-requires : goal.sector-target-requires
 sector-target-requires c = let s = c in omega (arith, s.requires.i_lt_files.0)
 
 pub put_access-requires : goal.put_access-requires
-put_access-requires c = 
+put_access-requires c =
     let k = c in
     let v = k in
     let room = file-enough _ _ _ _ _ _ (ap (λ (v : Verdict). v.number) (sym v.file_verdict-v.ensures) ∙ k.if-v-eq0.true) in record {
@@ -34,7 +34,7 @@ put_access-requires c =
     }
 
 pub returns-then-v-eq0 : goal.returns-then-v-eq0
-returns-then-v-eq0 c = 
+returns-then-v-eq0 c =
     let q = c in
     let r = q in
     let l = r in
@@ -51,7 +51,7 @@ returns-then-v-eq0 c =
     l.least-count.result q.sector-target.result.0 k.if-v-eq0.true l.least-count.ensures r.accessed_entry-entry.ensures q.sector-target.ensures c.put_access.ensures))
 
 pub returns : goal.returns
-returns c = 
+returns c =
     let v = c in
     let z = v.size_at-size in
     let t = v.staging-there in

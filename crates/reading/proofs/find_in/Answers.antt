@@ -14,21 +14,21 @@ geometry_in-g-requires c = accepted-length _ c.requires
 
 pub returns-then-bad_name : goal.returns-then-bad_name
 unfolding found_by
-returns-then-bad_name c = 
+returns-then-bad_name c =
     let b = c in
     let a = b.args in
     let h = rw b.geometry_in-g.ensures at (sym b.bad_name.ensures ∙ c.if-bad_name.true) in
     rw (find-bad (view a.img.now) a.name.now h, ← c.refusal.ensures) c.not_found.ensures
 
 pub file_named-requires : goal.file_named-requires
-file_named-requires c = 
+file_named-requires c =
     let b = c in record {
       opened = accepted-opened _ _ b.geometry_in-g.ensures (omega arith) b.requires;
       name_len_bound = short-name _ _ (sym b.bad_name.ensures ∙ c.if-bad_name.false);
     }
 
 pub fields_at-fields-requires : goal.fields_at-fields-requires
-fields_at-fields-requires c = 
+fields_at-fields-requires c =
     let f = c in
     let g = f in
     let s = g in
@@ -39,7 +39,7 @@ fields_at-fields-requires c =
 
 pub returns-in-At : goal.returns-in-At
 unfolding found_by
-returns-in-At c = 
+returns-in-At c =
     let f = c in
     let b = f in
     let g = b.geometry_in-g.ensures in
@@ -57,7 +57,7 @@ returns-in-At c =
 
 pub returns : goal.returns
 unfolding found_by
-returns c = 
+returns c =
     let f = c in
     let b = f in
     let a = b.args in

@@ -15,12 +15,12 @@ use Rattle.reading.proofs.list_entry.Goals as goal
 
 pub staging-there-requires : goal.staging-there-requires
 staging-there-requires c = record {
-      opened = c.requires.opened;
-      stages_value = refl;
-    }
+  opened = c.requires.opened;
+  stages_value = refl;
+}
 
 pub copy_name-requires : goal.copy_name-requires
-copy_name-requires c = 
+copy_name-requires c =
     let v = c in
     let f = v.fields_at-fields in
     let s = v in
@@ -31,7 +31,7 @@ copy_name-requires c =
     }
 
 pub put_access-requires : goal.put_access-requires
-put_access-requires c = 
+put_access-requires c =
     let k = c in
     let v = k in
     let room = lent-enough _ _ _ _ (ap (λ (v : Verdict). v.number) (sym v.lent_verdict-verdict.ensures) ∙ k.if-verdict-eq0.true) in record {
@@ -41,7 +41,7 @@ put_access-requires c =
     }
 
 pub returns-then-verdict-eq0 : goal.returns-then-verdict-eq0
-returns-then-verdict-eq0 c = 
+returns-then-verdict-eq0 c =
     let r = c in
     let k = r in
     let v = k in
@@ -58,7 +58,7 @@ returns-then-verdict-eq0 c =
     c.put_access.ensures))
 
 pub returns : goal.returns
-returns c = 
+returns c =
     let v = c in
     let f = v.fields_at-fields in
     let t = v.staging-there in

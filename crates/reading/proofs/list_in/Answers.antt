@@ -13,7 +13,7 @@ pub geometry_in-g-requires : goal.geometry_in-g-requires
 geometry_in-g-requires c = accepted-length _ c.requires
 
 pub returns-then-bad_time : goal.returns-then-bad_time
-returns-then-bad_time c = 
+returns-then-bad_time c =
     let t = c in
     let s = t in
     let a = s.args in
@@ -22,13 +22,13 @@ returns-then-bad_time c =
     (sym t.bad_time.ensures ∙ c.if-bad_time.true)))
 
 pub is_occupied-requires : goal.is_occupied-requires
-is_occupied-requires c = 
+is_occupied-requires c =
     let g = c in
     let o = accepted-opened _ _ g.geometry_in-g.ensures (omega (arith, g.geometry_in-g.type_inv)) g.requires in
     omega arith
 
 pub list_entry-requires : goal.list_entry-requires
-list_entry-requires c = 
+list_entry-requires c =
     let g = c in
     let s = g in
     let o = accepted-opened _ _ g.geometry_in-g.ensures (omega (arith, g.geometry_in-g.type_inv)) s.requires in
@@ -40,7 +40,7 @@ list_entry-requires c =
     }
 
 pub returns-then-is_occupied : goal.returns-then-is_occupied
-returns-then-is_occupied c = 
+returns-then-is_occupied c =
     let l = c in
     let k = l in
     let t = k in
@@ -50,7 +50,7 @@ returns-then-is_occupied c =
     (sym l.is_occupied.ensures ∙ l.if-is_occupied.true) (l.list_entry.ensures.value, (l.list_entry.ensures.out_after, l.list_entry.ensures.list_after)))
 
 pub returns-then-index-g : goal.returns-then-index-g
-returns-then-index-g c = 
+returns-then-index-g c =
     let k = c in
     let t = k in
     let s = t in
@@ -61,7 +61,7 @@ returns-then-index-g c =
     (sym c.is_occupied.ensures ∙ c.if-is_occupied.false)))
 
 pub returns : goal.returns
-returns c = 
+returns c =
     let k = c in
     let t = k in
     let s = t in

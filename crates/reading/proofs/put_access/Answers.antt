@@ -8,7 +8,7 @@ use Rattle.reading.specs.Given.{access_size}
 use Rattle.reading.proofs.put_access.Goals as goal
 
 pub put_one_target-requires : goal.put_one_target-requires
-put_one_target-requires c = 
+put_one_target-requires c =
     let s = c in
     let t = c.if-there.true in record {
       stages_of = s.requires.stages_of t;

@@ -9,12 +9,12 @@ use Rattle.reading.proofs.read_file.Goals as goal
 
 pub decide_read-r-requires : goal.decide_read-r-requires
 decide_read-r-requires c = let s = c in record {
-      opened = s.requires.opened;
-      i_lt_files = (s.requires.i_lt_files.0, s.requires.i_lt_files.1, s.requires.i_lt_files.3);
-    }
+  opened = s.requires.opened;
+  i_lt_files = (s.requires.i_lt_files.0, s.requires.i_lt_files.1, s.requires.i_lt_files.3);
+}
 
 pub returns-then-r-eq0 : goal.returns-then-r-eq0
-returns-then-r-eq0 c = 
+returns-then-r-eq0 c =
     let d = c.decide_read-r in
     let x = c.args in record {
       value = d.ensures.value;
@@ -23,7 +23,7 @@ returns-then-r-eq0 c =
     }
 
 pub read_span-requires : goal.read_span-requires
-read_span-requires c = 
+read_span-requires c =
     let d = c.decide_read-r in
     let s = c in
     let x = s.args in
@@ -38,7 +38,7 @@ read_span-requires c =
 
 pub returns : goal.returns
 returns c = let d = c.decide_read-r in record {
-      value = d.ensures.value;
-      out_after = c.read_span.ensures;
-      list_after = d.ensures.list_after;
-    }
+  value = d.ensures.value;
+  out_after = c.read_span.ensures;
+  list_after = d.ensures.list_after;
+}

@@ -14,7 +14,7 @@ pub geometry_in-g-requires : goal.geometry_in-g-requires
 geometry_in-g-requires c = accepted-length _ c.requires
 
 pub returns-then-bad_argument : goal.returns-then-bad_argument
-returns-then-bad_argument c = 
+returns-then-bad_argument c =
     let t = c in
     let s = t in
     let a = s.args in
@@ -24,7 +24,7 @@ returns-then-bad_argument c =
     (sym t.bad_argument.ensures ∙ c.if-bad_argument.true))))
 
 pub file_named-requires : goal.file_named-requires
-file_named-requires c = 
+file_named-requires c =
     let g = c in
     let s = g in
     let good = good-arguments g.geometry_in-g.result.edition s.args.name.now s.args.asked s.args.time (sym c.bad_argument.ensures ∙ c.if-bad_argument.false) in record {
@@ -33,7 +33,7 @@ file_named-requires c =
     }
 
 pub begin_read-requires : goal.begin_read-requires
-begin_read-requires c = 
+begin_read-requires c =
     let i = c in
     let f = i in
     let b = f in
@@ -47,7 +47,7 @@ begin_read-requires c =
     }
 
 pub returns-in-At : goal.returns-in-At
-returns-in-At c = 
+returns-in-At c =
     let l = c in
     let i = l in
     let f = i in
@@ -62,7 +62,7 @@ returns-in-At c =
     (sym b.bad_argument.ensures ∙ b.if-bad_argument.false) i.in-At.i found (refl, l.begin_read.ensures.list_after))))
 
 pub returns : goal.returns
-returns c = 
+returns c =
     let f = c in
     let b = f in
     let g = b in

@@ -14,7 +14,7 @@ pub wanted_after-wanted-requires : goal.wanted_after-wanted-requires
 wanted_after-wanted-requires c = let k = c in (takes _ _ _ (sym k.takes_read.ensures ∙ k.if-takes_read.true)).below
 
 pub move_bytes-requires : goal.move_bytes-requires
-move_bytes-requires c = 
+move_bytes-requires c =
     let l = c in
     let k = l in
     let both = part-fits _ _ _ _ (takes _ _ _ (sym k.takes_read.ensures ∙ k.if-takes_read.true)) l.least-part.ensures in record {
@@ -24,7 +24,7 @@ move_bytes-requires c =
     }
 
 pub returns-then-takes_read : goal.returns-then-takes_read
-returns-then-takes_read c = 
+returns-then-takes_read c =
     let w = c in
     let l = w in
     let k = l in
@@ -36,7 +36,7 @@ returns-then-takes_read c =
     }
 
 pub returns : goal.returns
-returns c = 
+returns c =
     let a = c.args in
     let both = step-refused a.r a.bytes.now a.out.now (sym c.takes_read.ensures ∙ c.if-takes_read.false) in record {
       value = both.0;

@@ -10,6 +10,6 @@ overflow_mul-result c = omega (arith, mul-le-mul {n₁ = c.mixed.result} {m₁ =
 
 pub returns : goal.returns
 returns c = record {
-      value = rw (← c.table_file.ensures.value, ← c.table_offset.ensures.value, ← c.mixed.ensures);
-      upper_bound = bucket-below c.mixed.result _ (search rules) (search rules);
-    }
+  value = rw (← c.table_file.ensures.value, ← c.table_offset.ensures.value, ← c.mixed.ensures);
+  upper_bound = bucket-below c.mixed.result _ (search rules) (search rules);
+}

@@ -9,13 +9,13 @@ use Rattle.repair.proofs.Kept.{kept-freed, kept-none, kept-one}
 use Rattle.repair.proofs.count_extent.Goals as goal
 
 pub returns-then-marks-e-eq1 : goal.returns-then-marks-e-eq1
-returns-then-marks-e-eq1 c = 
+returns-then-marks-e-eq1 c =
     let s = c in
     let a = s.args in
     kept-freed a.g (view a.img.now) (is_marked a.marks.now) a.e a.kept.now s.requires.kept (eq-eqb _ 1 c.if-marks-e-eq1.true)
 
 pub overflow_add-kept : goal.overflow_add-kept
-overflow_add-kept c = 
+overflow_add-kept c =
     let s = c in
     let a = s.args in
     let f = c.table_file-f.result in
@@ -27,7 +27,7 @@ overflow_add-kept c =
     )
 
 pub returns-then-f-g : goal.returns-then-f-g
-returns-then-f-g c = 
+returns-then-f-g c =
     let s = c in
     let a = s.args in
     let f = c.table_file-f in
@@ -36,7 +36,7 @@ returns-then-f-g c =
     f.result f.ensures.value c.if-f-g.true (omega arith)
 
 pub returns : goal.returns
-returns c = 
+returns c =
     let s = c in
     let a = s.args in
     kept-none a.g (view a.img.now) (is_marked a.marks.now) a.e a.kept.now s.requires.kept (omega (arith, c.table_file-f.ensures.value, c.if-f-g.false))

@@ -1,11 +1,6 @@
 -- `repair::first_lacking` meets its contract.
-use Prim.Native.Nat.{◌-◌}
 use mathlib.Core.Path.{sym, ◌∙◌}
-use Rattle.model.specs.Disk.{view}
-use Rattle.model.specs.Catalogue.{catalogue_of}
-use Rattle.model.specs.Faults.{fault26}
-use Rattle.model.specs.Repair.{repaired}
-use Rattle.laws.proofs.Seeking.{Seeking, seek-start, seek-here, seek-next, seek-end}
+use Rattle.laws.proofs.Seeking.{seek-start, seek-here, seek-next, seek-end}
 use Rattle.repair.proofs.first_lacking.Goals as goal
 
 pub loop-i-init : goal.loop-i-init

@@ -8,7 +8,7 @@ use Rattle.repair.proofs.Strays.{stray-outside, stray-unoccupied, stray-beyond, 
 use Rattle.repair.proofs.is_needless.Goals as goal
 
 pub overflow_mul-before-then-is_occupied : goal.overflow_mul-before-then-is_occupied
-overflow_mul-before-then-is_occupied c = 
+overflow_mul-before-then-is_occupied c =
     let s = c in
     omega (
       arith,
@@ -18,7 +18,7 @@ overflow_mul-before-then-is_occupied c =
     )
 
 pub returns-then-size_at-before : goal.returns-then-size_at-before
-returns-then-size_at-before c = 
+returns-then-size_at-before c =
     let s = c in
     let a = s.args in
     let f = c.table_file-f in
@@ -28,7 +28,7 @@ returns-then-size_at-before c =
     c.size_at.ensures c.if-size_at-before.true
 
 pub returns-then-is_occupied : goal.returns-then-is_occupied
-returns-then-is_occupied c = 
+returns-then-is_occupied c =
     let s = c in
     let a = s.args in
     let f = c.table_file-f in
@@ -39,7 +39,7 @@ returns-then-is_occupied c =
     c.size_at.ensures c.if-size_at-before.false
 
 pub returns-then-f-g : goal.returns-then-f-g
-returns-then-f-g c = 
+returns-then-f-g c =
     let s = c in
     let a = s.args in
     let f = c.table_file-f in
@@ -47,7 +47,7 @@ returns-then-f-g c =
     c.if-f-g.true (sym c.is_occupied.ensures ∙ c.if-is_occupied.false)
 
 pub returns : goal.returns
-returns c = 
+returns c =
     let s = c in
     let a = s.args in
     let f = c.table_file-f in

@@ -5,8 +5,7 @@ use mathlib.Core.Path.{sym, ◌∙◌}
 use native.Mathlib.Omega.{arith}
 use lib.ListN.{length}
 use Rattle.model.specs.Disk.{view}
-use Rattle.duplicates.proofs.Chains.{Walk, walk_start, walk-found, walk-falls, walk-next, walk_end}
-use Rattle.repair.specs.Strays.{member, same_part}
+use Rattle.duplicates.proofs.Chains.{walk_start, walk-found, walk-falls, walk-next, walk_end}
 use Rattle.repair.proofs.Strays.{same-member}
 use Rattle.repair.proofs.is_repeated.Goals as goal
 
@@ -14,7 +13,7 @@ pub overflow_cast-j : goal.overflow_cast-j
 overflow_cast-j c = omega (arith, c.type_inv.chains c.args.b)
 
 pub loop-j-init : goal.loop-j-init
-loop-j-init c = 
+loop-j-init c =
     let s = c in
     let a = s.args in
     let p = s.requires in
@@ -23,9 +22,9 @@ loop-j-init c =
 
 pub is_same_part-requires : goal.is_same_part-requires
 is_same_part-requires c = let s = c in record {
-      opened = s.requires.opened;
-      e_lt_extents = (s.requires.e_lt_extents.0, omega (arith, c.loop-j.invariant.within, c.loop-j-test.true, s.requires.e_lt_extents.0));
-    }
+  opened = s.requires.opened;
+  e_lt_extents = (s.requires.e_lt_extents.0, omega (arith, c.loop-j.invariant.within, c.loop-j-test.true, s.requires.e_lt_extents.0));
+}
 
 pub returns-then-is_same_part : goal.returns-then-is_same_part
 returns-then-is_same_part c = sym (walk-found c.loop-j.invariant c.loop-j-test.true (sym c.is_same_part.ensures ∙ c.if-is_same_part.true))
@@ -40,7 +39,7 @@ pub overflow_cast-j-in-loop-j : goal.overflow_cast-j-in-loop-j
 overflow_cast-j-in-loop-j c = omega (arith, c.type_inv.chains (c.loop-j.j - 1))
 
 pub loop-j-smaller : goal.loop-j-smaller
-loop-j-smaller c = 
+loop-j-smaller c =
     let s = c in
     let a = s.args in
     let p = s.requires in
@@ -48,7 +47,7 @@ loop-j-smaller c =
     walk-falls only (p.linked.chain a.b p.e_lt_extents.1) c.loop-j.invariant c.loop-j-test.true
 
 pub loop-j-preserved : goal.loop-j-preserved
-loop-j-preserved c = 
+loop-j-preserved c =
     let s = c in
     let a = s.args in
     let p = s.requires in

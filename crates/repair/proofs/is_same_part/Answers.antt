@@ -3,7 +3,7 @@ use borrow.Author.Tests.{eq-eqb, ne_eqb}
 use Rattle.repair.proofs.is_same_part.Goals as goal
 
 pub returns-then-table_file : goal.returns-then-table_file
-returns-then-table_file c = 
+returns-then-table_file c =
     rw (
       ← c.table_file.ensures.value,
       ← c.table_file-2.ensures.value,

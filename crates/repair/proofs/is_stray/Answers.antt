@@ -13,7 +13,7 @@ use Rattle.repair.proofs.Strays.{stray-free, member-own, member-other, member-no
 use Rattle.repair.proofs.is_stray.Goals as goal
 
 pub returns-then-table_file-eq-FREE_FILE : goal.returns-then-table_file-eq-FREE_FILE
-returns-then-table_file-eq-FREE_FILE c = 
+returns-then-table_file-eq-FREE_FILE c =
     let s = c in
     let a = s.args in
     let d = view a.img.now in
@@ -24,7 +24,7 @@ returns-then-table_file-eq-FREE_FILE c =
     }
 
 pub is_repeated-again-requires : goal.is_repeated-again-requires
-is_repeated-again-requires c = 
+is_repeated-again-requires c =
     let s = c in
     let a = s.args in
     let b = c.bucket_of-b in
@@ -37,7 +37,7 @@ is_repeated-again-requires c =
     }
 
 pub is_needless-requires : goal.is_needless-requires
-is_needless-requires c = 
+is_needless-requires c =
     let s = c in
     let a = s.args in
     let t = ne_eqb (table_file a.g (view a.img.now) a.e) free_file (λ q. c.if-table_file-eq-FREE_FILE.false
@@ -49,7 +49,7 @@ is_needless-requires c =
     }
 
 pub returns : goal.returns
-returns c = 
+returns c =
     let k = c.enter in
     let b = c.bucket_of-b in
     let s = c in

@@ -1,9 +1,8 @@
 -- `repair::mark_strays` meets its contract. The loop's invariant: the chains and the bytes are those of the extents passed.
-use Prim.Native.Nat.{ℕ, ◌-◌, ◌/◌, ◌≤◌}
+use Prim.Native.Nat.{◌/◌}
 use mathlib.Core.Path.{◌≡◌, refl, ap, ◌∙◌}
 use mathlib.Core.Bool.{Bool, cond}
 use native.Mathlib.Omega.{arith}
-use lib.ListN.{length, get_or}
 use lib.Seq.{get_or-set_other}
 use Rattle.model.specs.Search.{count_below}
 use Rattle.model.specs.Disk.{view}
@@ -12,21 +11,19 @@ use Rattle.model.specs.Repair.{is_stray}
 use Rattle.laws.proofs.Search.{count_below-more}
 use Rattle.duplicates.proofs.Chains.{chains-none}
 use Rattle.laws.proofs.Bytes.{set_next}
-use Rattle.table.specs.Owned.{Marks}
-use Rattle.repair.specs.Strays.{Linked}
 use Rattle.repair.proofs.Strays.{marked-is}
 use borrow.Author.Rules.{rules}
 use Rattle.repair.proofs.mark_strays.Goals as goal
 
 pub loop-e-init : goal.loop-e-init
 unfolding count_below
-loop-e-init c = 
+loop-e-init c =
     let s = c in
     let chained = chains-none _ _ _ _ (λ b l. ap (λ w. w / 65536) (s.requires.by_index b l)) in
     (omega arith, refl, refl, chained, (λ k l. absurd (omega arith)), (λ k l. s.requires.by_index_2 k), refl, omega arith)
 
 pub is_stray-requires : goal.is_stray-requires
-is_stray-requires c = 
+is_stray-requires c =
     let l = c.loop-e in
     let s = c in record {
       opened = s.requires.opened;
@@ -35,7 +32,7 @@ is_stray-requires c =
     }
 
 pub loop-e-preserved : goal.loop-e-preserved
-loop-e-preserved c = 
+loop-e-preserved c =
     let l = c.loop-e in
     let a = c.args in
     let k = c.is_stray in
@@ -52,7 +49,7 @@ loop-e-preserved c =
     )
 
 pub returns : goal.returns
-returns c = 
+returns c =
     let l = c.loop-e in
     let s = c in
     let a = s.args in

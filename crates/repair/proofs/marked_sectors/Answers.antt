@@ -1,5 +1,4 @@
 -- `repair::marked_sectors` meets its contract. The loop's invariant: how many of the sectors passed hold one.
-use Prim.Native.Nat.{◌-◌, ◌≤◌}
 use mathlib.Core.Path.{◌≡◌, refl}
 use native.Mathlib.Omega.{arith}
 use Rattle.model.specs.Search.{count_below}
@@ -13,7 +12,7 @@ unfolding count_below
 loop-t-init c = (omega arith, omega arith, refl)
 
 pub loop-t-preserved : goal.loop-t-preserved
-loop-t-preserved c = 
+loop-t-preserved c =
     let l = c.loop-t in
     let a = c.args in (
       omega arith,
@@ -23,7 +22,7 @@ loop-t-preserved c =
 
 pub returns : goal.returns
 unfolding sectors_holding
-returns c = 
+returns c =
     let l = c.loop-t in
     let e : l.t ≡ c.table_sectors-n.result = omega arith in record {
       value = rw (← c.table_sectors-n.ensures) (rw e at l.invariant.2);

@@ -1,10 +1,8 @@
 -- `repair::marked_sectors` meets its contract. The loop's invariant: how many of the sectors passed hold one.
 use Prim.Native.Nat.{◌-◌, ◌≤◌}
-use mathlib.Core.Path.{◌≡◌, refl}
-use native.Mathlib.Omega.{arith}
+use mathlib.Core.Path.{◌≡◌}
 use Rattle.model.specs.Search.{count_below}
-use Rattle.model.specs.Table.{holds_any, sectors_holding}
-use Rattle.laws.proofs.Search.{count_below-more}
+use Rattle.model.specs.Table.{holds_any}
 use Rattle.table.specs.Owned.{is_marked}
 use Rattle.repair.proofs.marked_sectors.Given as goal
 

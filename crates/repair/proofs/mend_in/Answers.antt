@@ -11,7 +11,7 @@ use borrow.Author.Rules.{rules}
 use Rattle.repair.proofs.mend_in.Goals as goal
 
 pub mark_strays-freed-requires : goal.mark_strays-freed-requires
-mark_strays-freed-requires c = 
+mark_strays-freed-requires c =
     let s = c in record {
       opened = s.requires.opened;
       chains_len_bound = (omega arith, omega arith, omega arith);
@@ -20,7 +20,7 @@ mark_strays-freed-requires c =
     }
 
 pub first_lacking-lacking-requires : goal.first_lacking-lacking-requires
-first_lacking-lacking-requires c = 
+first_lacking-lacking-requires c =
     let s = c in
     let m = c.mark_strays-freed in
     let k = c.count_kept in record {
@@ -30,7 +30,7 @@ first_lacking-lacking-requires c =
     }
 
 pub returns-then-freed-eq0 : goal.returns-then-freed-eq0
-returns-then-freed-eq0 c = 
+returns-then-freed-eq0 c =
     let s = c in
     let a = s.args in
     let d = view a.img.now in
@@ -39,7 +39,7 @@ returns-then-freed-eq0 c =
     mends-none d a.g s.requires.opened.is a.list.now m.result m.ensures.value f.result f.ensures c.if-freed-eq0.true
 
 pub put_repair-requires : goal.put_repair-requires
-put_repair-requires c = 
+put_repair-requires c =
     let t = c in
     let k = t in
     let s = k in
@@ -52,7 +52,7 @@ put_repair-requires c =
     }
 
 pub returns-then-needed-list : goal.returns-then-needed-list
-returns-then-needed-list c = 
+returns-then-needed-list c =
     let t = c in
     let k = t in
     let s = k in
@@ -68,7 +68,7 @@ returns-then-needed-list c =
     (omega (arith, c.if-needed-list.true)) c.put_repair.ensures
 
 pub returns-then-staging : goal.returns-then-staging
-returns-then-staging c = 
+returns-then-staging c =
     let t = c in
     let k = t in
     let s = k in
@@ -83,7 +83,7 @@ returns-then-staging c =
     (t.staging.ensures.img_value ∙ ap not c.if-staging.true) (omega (arith, e, strays, c.if-needed-list.false))
 
 pub returns : goal.returns
-returns c = 
+returns c =
     let t = c in
     let k = t in
     let s = k in

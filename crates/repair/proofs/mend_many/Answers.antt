@@ -6,7 +6,7 @@ use Rattle.laws.proofs.Bytes.{zeros-at}
 use Rattle.repair.proofs.mend_many.Goals as goal
 
 pub mend_in-requires : goal.mend_in-requires
-mend_in-requires c = 
+mend_in-requires c =
     let s = c in
     let n = length-replicate {A = ℕ} 65536 0 in
     let extents = s.requires.bounded.extents-high in

@@ -6,7 +6,7 @@ use Rattle.laws.proofs.Bytes.{zeros-at}
 use Rattle.repair.proofs.mend_more.Goals as goal
 
 pub mend_in-requires : goal.mend_in-requires
-mend_in-requires c = 
+mend_in-requires c =
     let s = c in
     let n = length-replicate {A = ℕ} 8192 0 in record {
       opened = s.requires.opened;

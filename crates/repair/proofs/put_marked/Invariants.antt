@@ -1,16 +1,12 @@
 -- `repair::put_marked` meets its contract. The loop's invariant: those of the table sectors passed are staged.
 use Prim.Native.Nat.{◌-◌, ◌≤◌}
-use mathlib.Core.Path.{◌≡◌, refl}
-use native.Mathlib.Omega.{arith}
+use mathlib.Core.Path.{◌≡◌}
 use lib.ListN.{length}
 use Rattle.model.specs.Search.{concatenated}
 use Rattle.model.specs.Disk.{view}
 use Rattle.model.specs.Freeing.{freed_sector}
 use Rattle.commit.specs.Commit.{Added}
-use Rattle.commit.proofs.Laws.{added_none}
 use Rattle.table.specs.Owned.{is_marked}
-use Rattle.freeing.proofs.Laws.{freed-next, freed-room, freed-all}
-use borrow.Author.Rules.{rules}
 use Rattle.repair.proofs.put_marked.Given as goal
 
 abbrev pub invariant-loop-t : goal.invariant-loop-t

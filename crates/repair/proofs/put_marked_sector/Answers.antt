@@ -17,7 +17,7 @@ part-marked : (marks : List ℕ) (from n k : ℕ) → k < n → is_marked (take 
 part-marked marks from n k l = rw (get_or-take, get_or-drop)
 
 pub put_freed_sector-requires : goal.put_freed_sector-requires
-put_freed_sector-requires c = 
+put_freed_sector-requires c =
     let s = c in record {
       stages = s.requires.stages;
       opened = s.requires.opened;
@@ -26,7 +26,7 @@ put_freed_sector-requires c =
     }
 
 pub returns-then-holds_marked : goal.returns-then-holds_marked
-returns-then-holds_marked c = 
+returns-then-holds_marked c =
     let h = c in
     let a = h.args in
     let d = view a.img.now in
@@ -37,7 +37,7 @@ returns-then-holds_marked c =
     c.put_freed_sector.ensures
 
 pub returns : goal.returns
-returns c = 
+returns c =
     let a = c.args in
     let none = sym c.holds_marked.ensures ∙ c.if-holds_marked.false in
     rw (freed-miss (is_marked a.marks.now) a.g (view a.img.now) a.t none) (added_none _ _ _ _ _)

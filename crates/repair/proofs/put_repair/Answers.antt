@@ -11,7 +11,7 @@ use Rattle.repair.proofs.Planned.{repair-targets, repair-alone}
 use Rattle.repair.proofs.put_repair.Goals as goal
 
 pub put_marked-n-requires : goal.put_marked-n-requires
-put_marked-n-requires c = 
+put_marked-n-requires c =
     let s = c in record {
       stages = s.requires.stages_of.inside;
       opened = s.requires.opened;
@@ -20,7 +20,7 @@ put_marked-n-requires c =
     }
 
 pub put_commit-requires : goal.put_commit-requires
-put_commit-requires c = 
+put_commit-requires c =
     let s = c in
     let all = c.put_marked-n.ensures.value in record {
       stages = s.requires.stages_of.inside;
@@ -31,7 +31,7 @@ put_commit-requires c =
     }
 
 pub returns : goal.returns
-returns c = 
+returns c =
     let f = c.put_marked-n in
     let s = c in
     let a = s.args in

@@ -12,7 +12,7 @@ use Rattle.repair.proofs.Decisions.{remains}
 use Rattle.repair.proofs.remaining.Goals as goal
 
 pub returns-in-Faulty : goal.returns-in-Faulty
-returns-in-Faulty c = 
+returns-in-Faulty c =
     let s = c in
     let a = s.args in
     let d = view a.img.now in
@@ -21,7 +21,7 @@ returns-in-Faulty c =
     ∙ sym (remains d a.g s.requires.opened.is))
 
 pub returns-in-At : goal.returns-in-At
-returns-in-At c = 
+returns-in-At c =
     let s = c in
     let a = s.args in
     let d = view a.img.now in
@@ -30,7 +30,7 @@ returns-in-At c =
     (sym c.directory_fault.ensures ∙ c.in_default.is) ∙ sym (remains d a.g s.requires.opened.is))
 
 pub returns-in-Nowhere : goal.returns-in-Nowhere
-returns-in-Nowhere c = 
+returns-in-Nowhere c =
     let s = c in
     let a = s.args in
     let d = view a.img.now in

@@ -11,27 +11,27 @@ pub geometry_in-g-requires : goal.geometry_in-g-requires
 geometry_in-g-requires c = readable-length _ c.requires.readable
 
 pub mend_with-m-requires : goal.mend_with-m-requires
-mend_with-m-requires c = 
+mend_with-m-requires c =
     let g = c.geometry_in-g in record {
       opened = opened _ _ g.ensures (omega (arith, g.type_inv)) c.requires.readable;
       room_nonzero = omega arith;
     }
 
 pub remaining-verdict-requires : goal.remaining-verdict-requires
-remaining-verdict-requires c = 
+remaining-verdict-requires c =
     let g = c.geometry_in-g in record {
       opened = opened _ _ g.ensures (omega (arith, g.type_inv)) c.requires.readable;
       lacking_value = c.mend_with-m.ensures.lacking;
     }
 
 pub returns-then-m-eq0 : goal.returns-then-m-eq0
-returns-then-m-eq0 c = 
+returns-then-m-eq0 c =
     let s = c in
     let d = view s.args.img.now in
     let clean = clean-both (volume_length d) d s.args.list.now s.requires.readable.verdict s.requires.img_value in value_and_list (repair-done (volume_length d) d s.args.list.now clean c.mend_with-m.ensures _ c.if-m-eq0.true c.remaining-verdict.ensures)
 
 pub returns : goal.returns
-returns c = 
+returns c =
     let s = c in
     let d = view s.args.img.now in
     let clean = clean-both (volume_length d) d s.args.list.now s.requires.readable.verdict s.requires.img_value in

@@ -10,7 +10,7 @@ use Rattle.commit.proofs.Clauses.{value_and_list}
 use Rattle.repair.proofs.repair_lent.Goals as goal
 
 pub repair_in-requires : goal.repair_in-requires
-repair_in-requires c = 
+repair_in-requires c =
     let a = c.args in
     let d = view a.front.now in
     let len = lent_length (length a.front.now) a.count d in
@@ -20,14 +20,14 @@ repair_in-requires c =
     }
 
 pub returns-then-v-eq0 : goal.returns-then-v-eq0
-returns-then-v-eq0 c = 
+returns-then-v-eq0 c =
     let a = c.args in
     let d = view a.front.now in
     let len = lent_length (length a.front.now) a.count d in
     let clean = ap (λ (v : Verdict). v.number) (sym c.clean_verdict_lent-v.ensures) ∙ c.if-v-eq0.true in value_and_list (own-comes len d a.list.now (clean-image len d a.list.now clean) (c.repair_in.ensures.value, c.repair_in.ensures.list_after))
 
 pub returns : goal.returns
-returns c = 
+returns c =
     let a = c.args in
     let d = view a.front.now in
     let len = lent_length (length a.front.now) a.count d in

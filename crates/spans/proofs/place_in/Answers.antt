@@ -4,7 +4,7 @@ use Rattle.spans.proofs.Sources.{own-run, other-run}
 use Rattle.spans.proofs.place_in.Goals as goal
 
 pub returns-then-bytes-len : goal.returns-then-bytes-len
-returns-then-bytes-len c = 
+returns-then-bytes-len c =
     let s = c in
     let a = s.args in record {
       n_in_bounds = omega (arith, c.if-bytes-len.true, s.requires.n_bound.0);
@@ -12,7 +12,7 @@ returns-then-bytes-len c =
     }
 
 pub returns : goal.returns
-returns c = 
+returns c =
     let s = c in
     let a = s.args in
     let o = c.if-bytes-len.false in record {

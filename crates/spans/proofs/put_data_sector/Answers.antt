@@ -9,7 +9,7 @@ use Rattle.spans.proofs.Splices.{splice-part, splice-whole}
 use Rattle.spans.proofs.put_data_sector.Goals as goal
 
 pub returns-then-to-from-eq512 : goal.returns-then-to-from-eq512
-returns-then-to-from-eq512 c = 
+returns-then-to-from-eq512 c =
     let a = c.args in
     let d = view a.img.now a.place.0 in
     let span = span_of a.bytes.now a.len in
@@ -25,7 +25,7 @@ returns-then-to-from-eq512 c =
     c.put_from.ensures
 
 pub returns : goal.returns
-returns c = 
+returns c =
     let a = c.args in
     let d = view a.img.now a.place.0 in
     let span = span_of a.bytes.now a.len in

@@ -8,13 +8,13 @@ use Rattle.spans.proofs.Splices.{piece-records}
 use Rattle.spans.proofs.put_in_extent.Goals as goal
 
 pub overflow_sub-size : goal.overflow_sub-size
-overflow_sub-size c = 
+overflow_sub-size c =
     let s = c in
     let w = sector-within s.args.g s.requires.opened.bounded s.args.s in
     omega arith
 
 pub put_piece-requires : goal.put_piece-requires
-put_piece-requires c = 
+put_piece-requires c =
     let s = c in
     let q = c.least-m.ensures in
     let t = s.requires.touched in record {
@@ -25,7 +25,7 @@ put_piece-requires c =
     }
 
 pub returns : goal.returns
-returns c = 
+returns c =
     let s = c in
     let a = s.args in
     let w = sector-within a.g s.requires.opened.bounded a.s in

@@ -1,17 +1,14 @@
 -- `spans::put_piece` meets its contract. The loop's invariant: the first j sectors are emitted.
 -- the record of file sector x, where sector s stands at start
 use Prim.Native.Nat.{ℕ, ◌+◌, ◌-◌, ◌≤◌}
-use mathlib.Core.Path.{◌≡◌, refl}
+use mathlib.Core.Path.{◌≡◌}
 use mathlib.Core.List.{List}
-use native.Mathlib.Omega.{arith}
 use lib.ListN.{length}
 use Rattle.model.specs.Search.{tabulate}
 use Rattle.model.specs.Disk.{view}
 use Rattle.model.specs.WriteList.{Record, sector_write, Emitted}
 use Rattle.model.specs.Write.{spliced}
 use Rattle.spans.specs.Touched.{span_of}
-use Rattle.laws.proofs.Search.{tabulate-more}
-use Rattle.laws.proofs.WriteList.{emitted-none, emitted_then}
 use Rattle.spans.proofs.put_piece.Given as goal
 
 abbrev pub sector_at : List ℕ → ℕ → ℕ → List ℕ → ℕ → ℕ → Record

@@ -7,14 +7,14 @@ use Rattle.spans.proofs.read_piece.Goals as goal
 
 pub extent_at-start-requires : goal.extent_at-start-requires
 extent_at-start-requires c = record {
-      bounded = c.requires.opened.bounded;
-      e_le_extents = omega (
-        arith,
-        c.extent_of.ensures.result_value,
-        extent-below c.args.img.now c.args.g c.requires.opened
-            c.args.i.0 (c.args.offset / extent_bytes c.args.g),
-      );
-    }
+  bounded = c.requires.opened.bounded;
+  e_le_extents = omega (
+    arith,
+    c.extent_of.ensures.result_value,
+    extent-below c.args.img.now c.args.g c.requires.opened
+        c.args.i.0 (c.args.offset / extent_bytes c.args.g),
+  );
+}
 
 pub overflow_sub-e : goal.overflow_sub-e
 overflow_sub-e c = omega (
@@ -54,7 +54,7 @@ copy_bytes-requires c = omega (
 )
 
 pub returns : goal.returns
-returns c = 
+returns c =
     let m = c.least-m.result in
     let e = extent_bytes c.args.g in
     let w = offset-within c.args.g

@@ -7,7 +7,7 @@ use Rattle.spans.proofs.Splices.{lent_below, lent-small, lent-place}
 use Rattle.spans.proofs.sector_at.Goals as goal
 
 pub extent_at-start-requires : goal.extent_at-start-requires
-extent_at-start-requires c = 
+extent_at-start-requires c =
     let s = c in
     let a = s.args in
     let x = c.extent_for in record {
@@ -16,7 +16,7 @@ extent_at-start-requires c =
     }
 
 pub overflow_add-result : goal.overflow_add-result
-overflow_add-result c = 
+overflow_add-result c =
     let s = c in
     let a = s.args in
     let w = sector-within a.g s.requires.opened.bounded a.s in
@@ -25,7 +25,7 @@ overflow_add-result c =
     omega (arith, lent-small a.img.now a.g s.requires.opened a.i.0 a.s a.held a.next.0 x.result.0 at.result.0 s.requires.lent x.ensures at.ensures)
 
 pub returns : goal.returns
-returns c = 
+returns c =
     let s = c in
     let a = s.args in
     let w = sector-within a.g s.requires.opened.bounded a.s in

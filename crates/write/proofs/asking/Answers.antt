@@ -22,22 +22,22 @@ pub extents_for-extents-requires : goal.extents_for-extents-requires
 extents_for-extents-requires c = (accepted-opened _ _ c.geometry_in-g.ensures (omega (arith, c.geometry_in-g.type_inv)) c.requires.accepted).bounded
 
 pub next_extent-next-requires : goal.next_extent-next-requires
-next_extent-next-requires c = 
+next_extent-next-requires c =
     let g = c.geometry_in-g in
     accepted-opened _ _ g.ensures (omega (arith, g.type_inv)) c.requires.accepted
 
 pub overflow_add-touched : goal.overflow_add-touched
-overflow_add-touched c = 
+overflow_add-touched c =
     let s = c in
     omega (arith, (s.requires.spans (omega (arith, c.if-a-eq0.false))).ends)
 
 pub overflow_add-touched-2 : goal.overflow_add-touched-2
-overflow_add-touched-2 c = 
+overflow_add-touched-2 c =
     let s = c in
     omega (arith, (s.requires.spans (omega (arith, c.if-a-eq0.false))).ends)
 
 pub part_at-first-requires : goal.part_at-first-requires
-part_at-first-requires c = 
+part_at-first-requires c =
     let s = c in
     let a = s.args in
     let g = c.geometry_in-g in
@@ -50,7 +50,7 @@ part_at-first-requires c =
     }
 
 pub part_at-last-requires : goal.part_at-last-requires
-part_at-last-requires c = 
+part_at-last-requires c =
     let s = c in
     let a = s.args in
     let g = c.geometry_in-g in
@@ -63,7 +63,7 @@ part_at-last-requires c =
     }
 
 pub returns-then-touched-gt1 : goal.returns-then-touched-gt1
-returns-then-touched-gt1 c = 
+returns-then-touched-gt1 c =
     let a = c.args in
     let d = catalogue_of (view a.img.now) in
     c.asked_two.ensures
@@ -72,7 +72,7 @@ returns-then-touched-gt1 c =
     ∙ some-asked a.a (partly_covered d a.i.0 a.offset a.n) c.if-a-eq0.false
 
 pub returns : goal.returns
-returns c = 
+returns c =
     let a = c.args in
     let d = catalogue_of (view a.img.now) in
     c.asked_one.ensures

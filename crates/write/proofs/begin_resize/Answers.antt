@@ -16,7 +16,7 @@ pub geometry_in-g-requires : goal.geometry_in-g-requires
 geometry_in-g-requires c = accepted-length _ c.requires
 
 pub returns-then-bad_name_or_time : goal.returns-then-bad_name_or_time
-returns-then-bad_name_or_time c = 
+returns-then-bad_name_or_time c =
     let b = c in
     let s = b in
     let a = s.args in
@@ -29,7 +29,7 @@ returns-then-bad_name_or_time c =
     }
 
 pub file_named-requires : goal.file_named-requires
-file_named-requires c = 
+file_named-requires c =
     let b = c in
     let s = b in
     let e = b.geometry_in-g.result.edition in record {
@@ -38,7 +38,7 @@ file_named-requires c =
     }
 
 pub size_at-old-requires : goal.size_at-old-requires
-size_at-old-requires c = 
+size_at-old-requires c =
     let f = c in
     let g = f in
     let s = g in
@@ -47,7 +47,7 @@ size_at-old-requires c =
     omega (arith, o.held, h)
 
 pub resize_file-answer-requires : goal.resize_file-answer-requires
-resize_file-answer-requires c = 
+resize_file-answer-requires c =
     let i = c in
     let f = i in
     let g = f in
@@ -57,7 +57,7 @@ resize_file-answer-requires c =
     c.size_at-old.result 0 c.size_at-old.ensures (omega arith)
 
 pub returns-in-At : goal.returns-in-At
-returns-in-At c = 
+returns-in-At c =
     let f = c in
     let t = f in
     let g = t in
@@ -78,7 +78,7 @@ returns-in-At c =
     }
 
 pub returns : goal.returns
-returns c = 
+returns c =
     let t = c in
     let s = t in
     let a = s.args in

@@ -17,7 +17,7 @@ pub geometry_in-g-requires : goal.geometry_in-g-requires
 geometry_in-g-requires c = accepted-length _ c.requires
 
 pub returns-then-bad_name_or_time : goal.returns-then-bad_name_or_time
-returns-then-bad_name_or_time c = 
+returns-then-bad_name_or_time c =
     let b = c in
     let s = b in
     let a = s.args in
@@ -30,7 +30,7 @@ returns-then-bad_name_or_time c =
     }
 
 pub returns-then-bytes-gt-LONGEST_TRANSFER : goal.returns-then-bytes-gt-LONGEST_TRANSFER
-returns-then-bytes-gt-LONGEST_TRANSFER c = 
+returns-then-bytes-gt-LONGEST_TRANSFER c =
     let s = c in
     let a = s.args in
     let both = begun-refused a.img.now a.name.now (a.offset + length a.bytes.now) c.not_begun-then-bytes-gt-LONGEST_TRANSFER.result (refusal 8) c.not_begun-then-bytes-gt-LONGEST_TRANSFER.ensures
@@ -41,7 +41,7 @@ returns-then-bytes-gt-LONGEST_TRANSFER c =
     }
 
 pub file_named-requires : goal.file_named-requires
-file_named-requires c = 
+file_named-requires c =
     let b = c in
     let s = b in
     let e = b.geometry_in-g.result.edition in record {
@@ -50,7 +50,7 @@ file_named-requires c =
     }
 
 pub size_at-size-requires : goal.size_at-size-requires
-size_at-size-requires c = 
+size_at-size-requires c =
     let f = c in
     let g = f in
     let s = g in
@@ -59,7 +59,7 @@ size_at-size-requires c =
     omega (arith, o.held, h)
 
 pub write_file-answer-requires : goal.write_file-answer-requires
-write_file-answer-requires c = 
+write_file-answer-requires c =
     let i = c in
     let f = i in
     let g = f in
@@ -71,7 +71,7 @@ write_file-answer-requires c =
     }
 
 pub returns-in-At : goal.returns-in-At
-returns-in-At c = 
+returns-in-At c =
     let f = c in
     let t = f in
     let g = t in
@@ -92,7 +92,7 @@ returns-in-At c =
     }
 
 pub returns : goal.returns
-returns c = 
+returns c =
     let t = c in
     let s = t in
     let a = s.args in

@@ -11,7 +11,7 @@ pub bounds-stages-0 : goal.bounds-stages-0
 bounds-stages-0 c = omega (arith, c.requires.stages_of.inside.five)
 
 pub returns-in-At : goal.returns-in-At
-returns-in-At c = 
+returns-in-At c =
     let s = c in
     let img = s.args.img.now in
     let q = sym c.in-At.is ∙ c.free_extent.ensures in record {
@@ -26,7 +26,7 @@ returns-in-At c =
     }
 
 pub returns : goal.returns
-returns c = 
+returns c =
     let s = c in
     let img = s.args.img.now in
     let q = sym c.in_default.is ∙ c.free_extent.ensures in record {

@@ -3,7 +3,7 @@ use native.Mathlib.Omega.{arith}
 use Rattle.write.proofs.part_at.Goals as goal
 
 pub returns : goal.returns
-returns c = 
+returns c =
     let s = c in
     let l = c.least.ensures in
     let m = c.most.ensures in record {

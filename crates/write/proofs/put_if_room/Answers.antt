@@ -11,7 +11,7 @@ use Rattle.spans.proofs.Sources.{length-span}
 use Rattle.write.proofs.put_if_room.Goals as goal
 
 pub returns-then-list-records : goal.returns-then-list-records
-returns-then-list-records c = 
+returns-then-list-records c =
     let s = c in
     let a = s.args in
     let len = length-span a.bytes.now a.len in
@@ -22,7 +22,7 @@ returns-then-list-records c =
     (omega (arith, len, c.records.ensures.0, c.if-list-records.true)))
 
 pub put_write-n-requires : goal.put_write-n-requires
-put_write-n-requires c = 
+put_write-n-requires c =
     let s = c in
     let h = s.requires.i_lt_files in
     let r = s.requires in record {
@@ -35,7 +35,7 @@ put_write-n-requires c =
     }
 
 pub overflow_mul-result : goal.overflow_mul-result
-overflow_mul-result c = 
+overflow_mul-result c =
     let s = c in
     let a = s.args in
     let len = length-span a.bytes.now a.len in
@@ -51,7 +51,7 @@ overflow_mul-result c =
     )
 
 pub returns : goal.returns
-returns c = 
+returns c =
     let s = c in
     let a = s.args in
     let len = length-span a.bytes.now a.len in

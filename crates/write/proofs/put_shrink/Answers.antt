@@ -13,14 +13,14 @@ use Rattle.write.proofs.put_shrink.Goals as goal
 
 pub put_copy-k-requires : goal.put_copy-k-requires
 put_copy-k-requires c = record {
-      stages = c.requires.stages_of.inside;
-      record_size_in_bounds = search rules;
-      bounded = search rules;
-      j_bound = search rules;
-    }
+  stages = c.requires.stages_of.inside;
+  record_size_in_bounds = search rules;
+  bounded = search rules;
+  j_bound = search rules;
+}
 
 pub put_freed-n-requires : goal.put_freed-n-requires
-put_freed-n-requires c = 
+put_freed-n-requires c =
     let p = c in
     let s = p in
     let a = s.args in
@@ -35,7 +35,7 @@ put_freed-n-requires c =
     }
 
 pub put_commit-requires : goal.put_commit-requires
-put_commit-requires c = 
+put_commit-requires c =
     let f = c in
     let p = f in
     let s = p in
@@ -52,7 +52,7 @@ put_commit-requires c =
     }
 
 pub returns : goal.returns
-returns c = 
+returns c =
     let m = c in
     let f = m in
     let p = f in

@@ -15,7 +15,7 @@ use borrow.Author.Rules.{rules}
 use Rattle.write.proofs.put_write.Goals as goal
 
 pub put_data-k-requires : goal.put_data-k-requires
-put_data-k-requires c = 
+put_data-k-requires c =
     let s = c in
     let w = s.requires.grown.0 in
     let h = s.requires.i_lt_files in record {
@@ -28,28 +28,28 @@ put_data-k-requires c =
 
 pub put_copy-k1-requires : goal.put_copy-k1-requires
 put_copy-k1-requires c = record {
-      stages = c.requires.stages_of.inside;
-      record_size_in_bounds = search rules;
-      bounded = search rules;
-      j_bound = search rules;
-    }
+  stages = c.requires.stages_of.inside;
+  record_size_in_bounds = search rules;
+  bounded = search rules;
+  j_bound = search rules;
+}
 
 pub taken_sector-t-requires : goal.taken_sector-t-requires
-taken_sector-t-requires c = 
+taken_sector-t-requires c =
     let s = c in record {
       opened = s.requires.opened;
       x_lt_extents = s.requires.grown.1;
     }
 
 pub table_sector_of-requires : goal.table_sector_of-requires
-table_sector_of-requires c = 
+table_sector_of-requires c =
     let s = c in record {
       bounded = s.requires.opened.bounded;
       e_lt_extents = s.requires.grown.1;
     }
 
 pub put_copy-k2-requires : goal.put_copy-k2-requires
-put_copy-k2-requires c = 
+put_copy-k2-requires c =
     let entry = c in
     let spans = entry in
     let s = spans in
@@ -57,19 +57,19 @@ put_copy-k2-requires c =
     let room = rw c.if-w.true at s.requires.record_size_in_bounds in record {
       stages = s.requires.stages_of.inside;
       record_size_in_bounds = omega (
-          arith,
-          room,
-          entry.put_copy-k1.ensures.emitted.next,
-          spans.put_data-k.ensures.value,
-          c.list-2-1.given,
-          entry.list-1.given,
-        );
+        arith,
+        room,
+        entry.put_copy-k1.ensures.emitted.next,
+        spans.put_data-k.ensures.value,
+        c.list-2-1.given,
+        entry.list-1.given,
+      );
       bounded = s.requires.opened.bounded;
       j_bound = (omega arith, omega (arith, many));
     }
 
 pub put_commit-requires : goal.put_commit-requires
-put_commit-requires c = 
+put_commit-requires c =
     let table = c in
     let entry = table in
     let spans = entry in
@@ -79,29 +79,29 @@ put_commit-requires c =
     let n2 = table.put_copy-k2.ensures.emitted.next in record {
       stages = s.requires.stages_of.inside;
       record_size_in_bounds = omega (
-          arith,
-          room,
-          n1,
-          n2,
-          spans.put_data-k.ensures.value,
-          c.list-then-w-1.given,
-          table.list-2-1.given,
-          entry.list-1.given,
-        );
+        arith,
+        room,
+        n1,
+        n2,
+        spans.put_data-k.ensures.value,
+        c.list-then-w-1.given,
+        table.list-2-1.given,
+        entry.list-1.given,
+      );
       in_bounds = omega (arith, s.requires.opened.held);
       bounded = s.requires.opened.bounded;
       n_bound = (omega arith, omega arith, omega (arith, n1, n2));
     }
 
 pub shape_of-list-then-w : goal.shape_of-list-then-w
-shape_of-list-then-w c = 
+shape_of-list-then-w c =
     let table = c in
     let entry = table in
     c.list-then-w-2-1.given ∙ c.list-then-w-1.given ∙ table.list-2-1.given
     ∙ entry.list-1.given
 
 pub returns-then-w : goal.returns-then-w
-returns-then-w c = 
+returns-then-w c =
     let commit = c in
     let table = commit in
     let entry = table in
@@ -125,7 +125,7 @@ returns-then-w c =
     commit.put_commit.ensures.emitted
 
 pub put_commit-requires-2 : goal.put_commit-requires-2
-put_commit-requires-2 c = 
+put_commit-requires-2 c =
     let entry = c in
     let spans = entry in
     let s = spans in
@@ -139,7 +139,7 @@ put_commit-requires-2 c =
     }
 
 pub returns : goal.returns
-returns c = 
+returns c =
     let commit = c in
     let entry = commit in
     let spans = entry in

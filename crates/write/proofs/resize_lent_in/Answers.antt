@@ -18,7 +18,7 @@ use Rattle.commit.proofs.Clauses.{value_and_list}
 use Rattle.write.proofs.resize_lent_in.Goals as goal
 
 pub returns-then-size-b : goal.returns-then-size-b
-returns-then-size-b c = 
+returns-then-size-b c =
     let a = c.args in
     let d = view a.img.now in
     let b = c.begin_resize-b in
@@ -29,7 +29,7 @@ returns-then-size-b c =
     (λ l. ap (λ (t : Bool). cond t [] ps) (lt-ltb a.size n (omega (arith, m l, c.if-size-b.true))))))
 
 pub asking-requires : goal.asking-requires
-asking-requires c = 
+asking-requires c =
     let s = c in
     let b = c.begin_resize-b in record {
       accepted = s.requires;
@@ -37,7 +37,7 @@ asking-requires c =
     }
 
 pub returns : goal.returns
-returns c = 
+returns c =
     let a = c.args in
     let d = view a.img.now in
     let b = c.begin_resize-b in

@@ -7,12 +7,12 @@ use Rattle.write.proofs.shrink_file.Goals as goal
 
 pub staging-requires : goal.staging-requires
 staging-requires c = record {
-      opened = c.requires.opened;
-      stages_value = refl;
-    }
+  opened = c.requires.opened;
+  stages_value = refl;
+}
 
 pub returns-then-list-shrink_count : goal.returns-then-list-shrink_count
-returns-then-list-shrink_count c = 
+returns-then-list-shrink_count c =
     let s = c in
     let a = s.args in
     rw (c.refused.ensures, c.refusal.ensures)
@@ -21,7 +21,7 @@ returns-then-list-shrink_count c =
     (rw c.shrink_count.ensures.value at c.if-list-shrink_count.true))
 
 pub put_shrink-n-requires : goal.put_shrink-n-requires
-put_shrink-n-requires c = 
+put_shrink-n-requires c =
     let s = c in
     let k = c.staging.ensures.stages_of c.if-staging.true in record {
       stages_of = k;
@@ -31,7 +31,7 @@ put_shrink-n-requires c =
     }
 
 pub overflow_mul-result : goal.overflow_mul-result
-overflow_mul-result c = 
+overflow_mul-result c =
     let s = c in
     let a = s.args in
     omega (
@@ -43,7 +43,7 @@ overflow_mul-result c =
     )
 
 pub returns-then-staging : goal.returns-then-staging
-returns-then-staging c = 
+returns-then-staging c =
     let s = c in
     let a = s.args in
     rw c.refusal-verdict.ensures
@@ -54,7 +54,7 @@ returns-then-staging c =
     c.put_shrink-n.ensures)
 
 pub returns : goal.returns
-returns c = 
+returns c =
     let s = c in
     let a = s.args in
     rw (c.refused-2.ensures, c.refusal-2.ensures)

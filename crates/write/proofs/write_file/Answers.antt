@@ -8,7 +8,7 @@ use mathlib.Core.Bool.{not}
 use Rattle.write.proofs.write_file.Goals as goal
 
 pub returns-then-size-offset : goal.returns-then-size-offset
-returns-then-size-offset c = 
+returns-then-size-offset c =
     let s = c in
     let a = s.args in
     let len = length-span a.bytes.now a.len in
@@ -17,7 +17,7 @@ returns-then-size-offset c =
     (file-12 a.img.now s.requires.asked.judgment.verdict a.list.now a.i.0 a.offset span a.time a.size s.requires.asked.says c.if-size-offset.true)
 
 pub returns-then-len-eq0 : goal.returns-then-len-eq0
-returns-then-len-eq0 c = 
+returns-then-len-eq0 c =
     let s = c in
     let a = s.args in
     let len = length-span a.bytes.now a.len in
@@ -28,12 +28,12 @@ returns-then-len-eq0 c =
 
 pub staging-requires : goal.staging-requires
 staging-requires c = record {
-      opened = c.requires.asked.opened;
-      stages_value = refl;
-    }
+  opened = c.requires.asked.opened;
+  stages_value = refl;
+}
 
 pub write_staged-requires : goal.write_staged-requires
-write_staged-requires c = 
+write_staged-requires c =
     let s = c in
     let taken = c.if-staging.true in
     let there = c.staging.ensures.img_value ∙ ap not taken in
@@ -49,7 +49,7 @@ pub returns-then-staging : goal.returns-then-staging
 returns-then-staging c = c.write_staged.ensures
 
 pub returns : goal.returns
-returns c = 
+returns c =
     let s = c in
     let a = s.args in
     let len = length-span a.bytes.now a.len in

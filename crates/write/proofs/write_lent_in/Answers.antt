@@ -13,14 +13,14 @@ use Rattle.commit.proofs.Clauses.{value_and_list}
 use Rattle.write.proofs.write_lent_in.Goals as goal
 
 pub asking-requires : goal.asking-requires
-asking-requires c = 
+asking-requires c =
     let s = c in record {
       accepted = s.requires;
       spans = λ l. (c.begin_write-b.ensures.named l).1;
     }
 
 pub returns : goal.returns
-returns c = 
+returns c =
     let a = c.args in
     let d = view a.img.now in
     let b = c.begin_write-b in

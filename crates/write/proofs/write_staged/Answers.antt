@@ -14,14 +14,14 @@ use Rattle.write.proofs.write_staged.Goals as goal
 
 pub need_for-w-requires : goal.need_for-w-requires
 need_for-w-requires c = let s = c in record {
-      stages_of = s.requires.stages_of;
-      img_value = s.requires.img_value.0;
-      opened = s.requires.asked.opened;
-      size_value = s.requires.asked.says;
-    }
+  stages_of = s.requires.stages_of;
+  img_value = s.requires.img_value.0;
+  opened = s.requires.asked.opened;
+  size_value = s.requires.asked.says;
+}
 
 pub put_if_room-requires : goal.put_if_room-requires
-put_if_room-requires c = 
+put_if_room-requires c =
     let s = c in
     let a = s.args in
     let len = length-span a.bytes.now a.len in
@@ -37,7 +37,7 @@ put_if_room-requires c =
     }
 
 pub returns-then-w-2 : goal.returns-then-w-2
-returns-then-w-2 c = 
+returns-then-w-2 c =
     let s = c in
     let a = s.args in
     let len = length-span a.bytes.now a.len in
@@ -51,7 +51,7 @@ returns-then-w-2 c =
     (and-false (grows (catalogue_of (view a.img.now)) a.i.0 c.most-z.result))) c.put_if_room.ensures
 
 pub returns-then-w : goal.returns-then-w
-returns-then-w c = 
+returns-then-w c =
     let s = c in
     let a = s.args in
     let len = length-span a.bytes.now a.len in
@@ -64,7 +64,7 @@ returns-then-w c =
     (sym w.needs-one ∙ c.if-w.true) (w.has_one ∙ ap not c.if-w-2.false))
 
 pub put_if_room-requires-2 : goal.put_if_room-requires-2
-put_if_room-requires-2 c = 
+put_if_room-requires-2 c =
     let s = c in
     let a = s.args in
     let len = length-span a.bytes.now a.len in
@@ -80,7 +80,7 @@ put_if_room-requires-2 c =
     }
 
 pub returns : goal.returns
-returns c = 
+returns c =
     let s = c in
     let a = s.args in
     let len = length-span a.bytes.now a.len in

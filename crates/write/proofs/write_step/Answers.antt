@@ -7,7 +7,7 @@ use Rattle.write.proofs.Lent.{takes-yes}
 use Rattle.write.proofs.write_step.Goals as goal
 
 pub complete-requires : goal.complete-requires
-complete-requires c = 
+complete-requires c =
     let a = c.args in
     let t = takes-yes a.w (length a.bytes.now) (length a.list.now) (sym c.takes_write.ensures ∙ c.if-takes_write.true) in record {
       bytes_len = t.0;
@@ -16,7 +16,7 @@ complete-requires c =
 
 pub returns-then-takes_write : goal.returns-then-takes_write
 unfolding write_step write_step_list
-returns-then-takes_write c = 
+returns-then-takes_write c =
     let t = sym c.takes_write.ensures ∙ c.if-takes_write.true in
     rw t record {
       value = c.write_taken.ensures;
@@ -25,7 +25,7 @@ returns-then-takes_write c =
 
 pub returns : goal.returns
 unfolding write_step write_step_list
-returns c = 
+returns c =
     let t = sym c.takes_write.ensures ∙ c.if-takes_write.false in
     rw t record {
       value = c.write_not_taken.ensures;

@@ -7,7 +7,7 @@ use Rattle.spans.proofs.Sources.{span-zeros, source-zeros}
 use Rattle.write.proofs.write_zeros.Goals as goal
 
 pub write_file-requires : goal.write_file-requires
-write_file-requires c = 
+write_file-requires c =
     let s = c in
     let n = length-replicate {A = ℕ} 512 0 in record {
       asked = s.requires;
@@ -15,6 +15,6 @@ write_file-requires c =
     }
 
 pub returns : goal.returns
-returns c = 
+returns c =
     let a = c.args in
     rw (span-zeros (replicate 512 0) a.n (zeros-at 512)) at c.write_file.ensures

@@ -21,6 +21,35 @@ def norm(n):
     return n.replace("_", "-")
 
 
+def closing(text, at):
+    """Where the bracket that opens at `at` closes."""
+    depth = 0
+    for i in range(at, len(text)):
+        depth += (text[i] in "([{") - (text[i] in ")]}")
+        if depth == 0:
+            return i + 1
+    return len(text)
+
+
+def contract(text, at):
+    """The names of a function's ensures and requires, and of its parameters; `at` is behind its name."""
+    at = text.index("(", at)
+    end = closing(text, at)
+    params = [p.split(":")[0].strip().split()[-1] for p in split_top(text[at + 1:end - 1], ",") if p.strip()]
+    params = [p.lstrip("&") for p in params]
+    ensures, requires = [], []
+    m = re.compile(r"\s*->\s*(\([^)]*\)|&?(?:mut )?\[[^\]]*\]|[^\s{]+)").match(text, end)
+    end = m.end() if m else end
+    clause = re.compile(r"\s*(requires|ensures)\*?\s+(\w+\s+)?(?=\{)")
+    while True:
+        m = clause.match(text, end)
+        if not m:
+            return ensures, requires, params
+        if m.group(2):
+            (ensures if m.group(1) == "ensures" else requires).append(m.group(2).strip())
+        end = closing(text, m.end())
+
+
 def clause_names(root):
     """By the path of a function: the names of its ensures and of its requires."""
     out = {}
@@ -30,18 +59,14 @@ def clause_names(root):
         mod = [m for m in mod if m not in ("lib", "main")]
         text = re.sub(r"//.*", "", open(src, encoding="utf-8").read())
         impl = None
-        for m in re.finditer(r"(?m)^(impl (\w+) \{|\}$)|\bfn (\w+)([^{;]*?(?:(?:requires|ensures)\*? (?:\w+ )?\{[\s\S]*?)?)(?=\n *\{\n|\Z)", text):
-            if m.group(2):
-                impl = m.group(2)
-                continue
+        for m in re.finditer(r"(?m)^impl (\w+) \{|^\}$|\bfn (\w+)", text):
             if m.group(1):
+                impl = m.group(1)
+            elif not m.group(2):
                 impl = None
-                continue
-            path = "::".join([crate, *mod, *([impl] if impl else []), m.group(3)])
-            out[path] = (
-                re.findall(r"\bensures\*? (\w+) \{", m.group(4)),
-                re.findall(r"\brequires\*? (\w+) \{", m.group(4)),
-            )
+            else:
+                path = "::".join([crate, *mod, *([impl] if impl else []), m.group(2)])
+                out[path] = contract(text, m.end())
     return out
 
 
@@ -224,9 +249,20 @@ class Turner:
                 elif k == "step":
                     key, callee = of_step
                     if f == "given" and key in given:
-                        out[-1:] = ["type_inv", given[key]] if out else []
+                        word = "items_fit" if key.startswith("slice_known") else "type_inv"
+                        out[-1:] = [word, given[key]] if out else []
                         if not out:
-                            head = "c.type_inv." + given[key]
+                            head = f"c.{word}." + given[key]
+                        kind = ("other", None)
+                    elif f in ("new", "auto"):
+                        out.append(f)
+                        params = self.clauses.get(callee, ([], [], []))[2]
+                        n = 0
+                        while n < len(parts) and parts[n] == "1":
+                            n += 1
+                        if n < len(parts) and parts[n] == "0" and n < len(params):
+                            out.append(params[n])
+                            del parts[:n + 1]
                         kind = ("other", None)
                     elif f == "ensures":
                         out.append(f)
@@ -239,7 +275,7 @@ class Turner:
                     out.append(f)
                     kind = ("other", None)
                 elif k == "ensures":
-                    f = clause_at(self.clauses.get(of_step, ([], []))[0], f, parts)
+                    f = clause_at(self.clauses.get(of_step, ([], [], []))[0], f, parts)
                     out.append(f)
                     kind = ("other", None)
                 else:
@@ -400,7 +436,8 @@ class Turner:
                         if a.startswith(".args ."):
                             body = re.sub(r"\.args\." + re.escape(a[7:]) + r"(?![\w-])", ".args." + b2[7:], body)
                     body = self.paths(body, of, place, None)
-                    asked = of["asked"].get(new) or of["asked"].get(m.group(1))
+                    by_norm = {norm(k): v for k, v in of["asked"].items()}
+                    asked = by_norm.get(norm(new)) or by_norm.get(key)
                     if not asked and new.startswith("returns"):
                         asked = of["own"][0] if len(of["own"][0]) > 1 else None
                     if not asked and "-requires" in new:
@@ -458,7 +495,7 @@ class Turner:
             need = need[: -len("-requires")]
         for p in of["places"]:
             if p[3] and norm(re.sub(r"\d+\Z", "", p[2][0])) == norm(need):
-                return self.clauses.get(p[3], ([], []))[1]
+                return self.clauses.get(p[3], ([], [], []))[1]
         return None
 
 
@@ -483,7 +520,7 @@ def main():
         if not os.path.exists(proof):
             continue
         me = os.path.basename(crate) + "::" + path.replace(".", "::")
-        own = clauses.get(me, ([], []))
+        own = clauses.get(me, ([], [], []))
         pre = (of.get("pre") or {}).get("fields") or []
         of["own"] = (own[0], pre or own[1])
         written, left = t.turn(proof, of)

@@ -17,7 +17,11 @@ unfolding tabulate
 loop-j-init c = (omega arith, rw add-zero (emitted-none _ _), refl)
 
 pub journal_sector-s-requires : goal.journal_sector-s-requires
-journal_sector-s-requires c = (c.requires.stages, search rules)
+journal_sector-s-requires c = record {
+      stages = c.requires.stages;
+      bounded = search rules;
+      n_bound = search rules;
+    }
 
 pub loop-j-preserved : goal.loop-j-preserved
 loop-j-preserved c = 

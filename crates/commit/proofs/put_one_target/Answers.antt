@@ -10,7 +10,12 @@ use borrow.Author.Rules.{rules}
 use Rattle.commit.proofs.put_one_target.Goals as goal
 
 pub put_copy-k-requires : goal.put_copy-k-requires
-put_copy-k-requires c = (c.requires.stages_of.inside, search rules)
+put_copy-k-requires c = record {
+      stages = c.requires.stages_of.inside;
+      record_size_in_bounds = search rules;
+      bounded = search rules;
+      j_bound = search rules;
+    }
 
 pub put_commit-requires : goal.put_commit-requires
 put_commit-requires c = record {
@@ -27,5 +32,5 @@ returns c =
     let p = m in
     let s = p in
     let a = s.args in
-    let one = staged-more a.target.0 (staged-none {numbers = replicate 1 0} (emitted-none a.list.now 0)) refl (omega arith) p.put_copy-k.ensures.0 p.put_copy-k.ensures.1 in
+    let one = staged-more a.target.0 (staged-none {numbers = replicate 1 0} (emitted-none a.list.now 0)) refl (omega arith) p.put_copy-k.ensures.emitted p.put_copy-k.ensures.numbers_after in
     committed-for (view a.img.now) (one_target a.target.0 a.s) s.requires.opened.is s.requires.stages_of one refl (omega arith) m.put_commit.ensures.emitted

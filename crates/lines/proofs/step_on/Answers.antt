@@ -19,22 +19,24 @@ entry_step-requires c =
     }
 
 pub returns-in-Superblock : goal.returns-in-Superblock
-returns-in-Superblock c = rw c.in-Superblock.is (outcome _ _ _ c.superblock_step.ensures.value c.superblock_step.ensures.kept)
+returns-in-Superblock c =
+    let o = outcome _ _ _ c.superblock_step.ensures.value c.superblock_step.ensures.kept in
+    rw c.in-Superblock.is record { value = o.0; name_in_sector = o.1.0; kept_2 = o.1.1.0; next_bound = o.1.1.1 }
 
 pub returns-in-Root : goal.returns-in-Root
 returns-in-Root c = 
-    let d = c in
-    let e = c.next-1.given in
-    rw e.1
-    (outcome _ _ _ c.root_step.ensures (subst KeptAfter (sym c.root_step.ensures) (root_kept d.args.s.now e.0.0 (subst Kept e.1 d.requires.kept))))
+    let a = c.in-Root in
+    let k = subst KeptAfter (sym c.root_step.ensures) (root_kept c.args.s.now a.g (subst Kept a.is c.requires.kept)) in
+    let o = outcome _ _ _ c.root_step.ensures k in
+    rw a.is record { value = o.0; name_in_sector = o.1.0; kept_2 = o.1.1.0; next_bound = o.1.1.1 }
 
 pub returns-in-Entry : goal.returns-in-Entry
 returns-in-Entry c = 
-    let d = c in
-    let e = c.next-in-Entry-1.given in
-    let k = subst Kept e.1 d.requires.kept in
-    rw e.1
-    (outcome _ _ _ c.entry_step.ensures (subst KeptAfter (sym c.entry_step.ensures) (entry-step-kept d.args.s.now e.0.0 e.0.1.0 k.0)))
+    let a = c.in-Entry in
+    let k = subst Kept a.is c.requires.kept in
+    let r = subst KeptAfter (sym c.entry_step.ensures) (entry-step-kept c.args.s.now a.g a.i k.0) in
+    let o = outcome _ _ _ c.entry_step.ensures r in
+    rw a.is record { value = o.0; name_in_sector = o.1.0; kept_2 = o.1.1.0; next_bound = o.1.1.1 }
 
 pub returns-in-None : goal.returns-in-None
 unfolding step_on

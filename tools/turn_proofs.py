@@ -105,8 +105,8 @@ def whole_paren(t):
     return None
 
 
-def as_record(body, names):
-    """A tuple at the end of the body, behind its lets, becomes a record of the clauses."""
+def as_record(body, names, own=()):
+    """A tuple at the end of the body, behind its lets, becomes a record of the clauses. `own` are the names of the function's requires."""
     head, tail = "", body
     while True:
         s = tail.lstrip()
@@ -144,10 +144,20 @@ def as_record(body, names):
         else:
             inner = None
     if inner is None:
-        return body
+        word = re.match(r"\s*([^\s({.]+)", tail)
+        if not word or word.group(1) in ("rw", "simp", "subst", "search", "omega", "grind", "elim", "record", "cc", "absurd", "λ", "refl", "?"):
+            return body
+        way = lambda i: ".".join(["1"] * i + (["0"] if i < len(names) - 1 else []))
+        fields = ";\n".join(f"      {n} = both.{way(i)}" for i, n in enumerate(names))
+        return head.rstrip() + ("\n" if head.strip() else "") + "    let both = " + tail.strip() + " in record {\n" + fields + ";\n    }"
     parts = [p.strip() for p in split_top(inner, ",") if p.strip()]
     while len(parts) < len(names):
         last = whole_paren(parts[-1])
+        rest = re.fullmatch(r"(\S+)\.requires\.(1(?:\.1)*)", parts[-1])
+        if rest:
+            k = rest.group(2).count("1")
+            parts = parts[:-1] + [f"{rest.group(1)}.requires.{n}" for n in own[k:]]
+            break
         if last is None:
             if re.match(r"(search|omega|grind)\b", parts[-1]):
                 parts += parts[-1:]
@@ -249,10 +259,10 @@ class Turner:
                 elif k == "step":
                     key, callee = of_step
                     if f == "given" and key in given:
-                        word = "items_fit" if key.startswith("slice_known") else "type_inv"
-                        out[-1:] = [word, given[key]] if out else []
+                        word = "items_fit" if key.startswith("slice_known") else f"type_inv.{given[key]}"
+                        out[-1:] = [word] if out else []
                         if not out:
-                            head = f"c.{word}." + given[key]
+                            head = f"c.{word}"
                         kind = ("other", None)
                     elif f in ("new", "auto"):
                         out.append(f)
@@ -443,7 +453,7 @@ class Turner:
                     if not asked and "-requires" in new:
                         asked = self.asked_of(of, m.group(1))
                     if asked and len(asked) > 1:
-                        body = as_record(body, asked)
+                        body = as_record(body, asked, of["own"][1])
                     out.append(f"{new} {' '.join(args)} = {body.strip() if not body.startswith(chr(10)) else body}")
                 ans.append(out)
                 continue

@@ -1,5 +1,6 @@
 // The allocation table: its entries, the searches of it, and which entries of its sectors are a file's.
 #![tactic(auto)]
+
 ghost use Rattle.std.specs.Prelude.{◌≡◌, true, cond, not, ◌&&◌, ◌||◌, ◌+◌, ◌-◌, ◌*◌, ◌≤◌, ◌<◌, eqb, length, replicate};
 ghost use Rattle.model.specs.Bytes.{put, be_at};
 ghost use Rattle.model.specs.Search.{any_below, all_below, scan, index_of};

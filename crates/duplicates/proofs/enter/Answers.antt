@@ -4,13 +4,13 @@ use Rattle.duplicates.proofs.Chains.{entered}
 use Rattle.duplicates.proofs.enter.Goals as goal
 
 pub overflow_mul-chains : goal.overflow_mul-chains
-overflow_mul-chains c = omega (arith, c.type_inv.chains c.args.i)
+overflow_mul-chains c = omega (arith, c.items_fit c.args.i)
 
 pub overflow_add-chains : goal.overflow_add-chains
-overflow_add-chains c = let a = c.args in omega (arith, c.type_inv.chains a.i, c.type_inv.chains a.b)
+overflow_add-chains c = let a = c.args in omega (arith, c.items_fit a.i, c.items_fit a.b)
 
 pub returns : goal.returns
 returns c = 
     let s = c in
     let a = s.args in
-    entered a.chains.now a.i a.b s.requires.1 s.requires.0 (omega (arith, c.type_inv.chains a.b))
+    entered a.chains.now a.i a.b s.requires.1 s.requires.0 (omega (arith, c.items_fit a.b))

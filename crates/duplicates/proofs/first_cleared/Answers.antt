@@ -8,6 +8,6 @@ first_in-requires c =
     let k = c.clear in record {
       opened = s.requires.opened;
       keys_fit = s.requires.keys_fit;
-      chains_len_bound = (omega (arith, k.auto.0, s.requires.opened.bounded.files-high), omega (arith, k.auto.0), omega (arith, s.requires.opened.bounded.files-high));
+      chains_len_bound = (omega (arith, k.auto.s, s.requires.opened.bounded.files-high), omega (arith, k.auto.s), omega (arith, s.requires.opened.bounded.files-high));
       by_index = k.ensures;
     }

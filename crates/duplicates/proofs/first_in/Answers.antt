@@ -35,7 +35,7 @@ loop-i-preserved c =
     let k = c.is_faulty in
     let l = c.loop-i.invariant in
     let t = c.loop-i-test.true in
-    (k.auto.1.1.1.0 ∙ l.0, k.ensures.chained_2 c.if-is_faulty.false, seek-next l.2 t (sym k.ensures.value ∙ c.if-is_faulty.false))
+    (k.auto.chains ∙ l.0, k.ensures.chained_2 c.if-is_faulty.false, seek-next l.2 t (sym k.ensures.value ∙ c.if-is_faulty.false))
 
 pub returns : goal.returns
 returns c = seek-end c.loop-i.invariant.2 (search rules)

@@ -59,8 +59,8 @@ returns-then-is_occupied c =
     let a = s.args in
     let d = view a.img.now in
     let o : is_occupied (d (entry_at a.i)) ≡ true = sym b.is_occupied.ensures ∙ b.if-is_occupied.true in
-    let joined : Chained a.key d (a.i + 1) k.new.1.1.0 =
-    chained-join a.key d a.i a.chains.now s.requires.chained k.new.1.1.0 b.place_of-place.result k.auto.1.1.0 o b.place_of-place.ensures.value
+    let joined : Chained a.key d (a.i + 1) k.new.chains =
+    chained-join a.key d a.i a.chains.now s.requires.chained k.new.chains b.place_of-place.result k.auto.chains o b.place_of-place.ensures.value
     b.place_of-place.ensures.result_bound k.ensures in record {
       value = rw (o, ← b.is_reserved.ensures, b.if-is_reserved.false, ← t.is_repeated.ensures, t.if-is_repeated.false);
       chained_2 = λ e. joined;

@@ -3,7 +3,7 @@ use native.Mathlib.Omega.{arith}
 use Rattle.duplicates.proofs.put_link.Goals as goal
 
 pub overflow_mul-chains : goal.overflow_mul-chains
-overflow_mul-chains c = omega (arith, c.type_inv.chains c.args.k)
+overflow_mul-chains c = omega (arith, c.items_fit c.args.k)
 
 pub overflow_add-chains : goal.overflow_add-chains
-overflow_add-chains c = omega (arith, c.type_inv.chains c.args.k)
+overflow_add-chains c = omega (arith, c.items_fit c.args.k)

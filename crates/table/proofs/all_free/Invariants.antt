@@ -1,0 +1,17 @@
+-- `table::all_free` meets its contract. The loop's invariant: whether all entries passed are free.
+use Prim.Native.Nat.{◌+◌, ◌-◌, ◌≤◌}
+use mathlib.Core.Path.{◌≡◌, refl, sym, ap₂, ◌∙◌}
+use mathlib.Core.Bool.{Bool, ◌&&◌}
+use native.Mathlib.Omega.{arith}
+use lib.Dec.{eqb}
+use Rattle.model.specs.Search.{all_below}
+use Rattle.model.specs.Disk.{view}
+use Rattle.model.specs.Table.{table_file, free_file}
+use Rattle.laws.proofs.Search.{all_below-more}
+use Rattle.table.proofs.all_free.Given as goal
+
+abbrev pub invariant-loop-k : goal.invariant-loop-k
+invariant-loop-k l = (l.k ≤ 128) × (l.all ≡ all_below (λ j. eqb (table_file l.g (view l.img) (l.e + j)) free_file) l.k)
+
+abbrev pub decreases-loop-k : goal.decreases-loop-k
+decreases-loop-k l = 128 - l.k

@@ -1,5 +1,6 @@
 // The search for a free extent, exported alone so that the bench can time it. Calls for a volume stand in `goofs`.
 #![tactic(auto)]
+
 ghost use Rattle.std.specs.Prelude.{◌≡◌};
 ghost use Rattle.model.specs.Disk.{view, on_image};
 ghost use Rattle.model.specs.Opened.{Readable};

@@ -143,6 +143,18 @@ def as_record(body, names, own=()):
             head, tail = head + flat[:i], flat[i:]
         else:
             inner = None
+    if inner is None and names == ["value", "list_after"]:
+        flat = tail.rstrip()
+        word = re.match(r"\s*([^\s({.]+)", tail)
+        if word and word.group(1) in ("rw", "simp") and flat.endswith(")"):
+            depth = 0
+            for i in range(len(flat) - 1, -1, -1):
+                depth += (flat[i] in ")]}") - (flat[i] in "([{")
+                if depth == 0:
+                    break
+            return head + flat[:i] + "(value_and_list " + flat[i:] + ")"
+        if word and word.group(1) not in ("rw", "simp", "subst", "search", "omega", "grind", "elim", "record", "cc", "absurd", "λ", "refl", "?"):
+            return head + " value_and_list (" + flat.strip() + ")"
     if inner is None:
         word = re.match(r"\s*([^\s({.]+)", tail)
         if not word or word.group(1) in ("rw", "simp", "subst", "search", "omega", "grind", "elim", "record", "cc", "absurd", "λ", "refl", "?"):
@@ -185,7 +197,7 @@ def clause_at(names, first, rest):
         if at == len(names) - 1:
             return names[at]
         if not rest or rest[0] not in ("0", "1"):
-            return ".".join(["1"] * at)
+            return at
         f = rest.pop(0)
 
 
@@ -249,7 +261,7 @@ class Turner:
                         kind = ("other", None)
                     elif f == "requires":
                         out.append(f)
-                        kind = ("requires", None)
+                        kind = ("requires", 0)
                     elif key in steps:
                         out.append(steps[key][0])
                         kind = ("step", (key, steps[key][1]))
@@ -276,18 +288,25 @@ class Turner:
                         kind = ("other", None)
                     elif f == "ensures":
                         out.append(f)
-                        kind = ("ensures", callee)
+                        kind = ("ensures", (callee, 0))
                     else:
                         out.append(f)
                         kind = ("other", None)
                 elif k == "requires":
-                    f = clause_at(own_requires, f, parts)
-                    out.append(f)
-                    kind = ("other", None)
+                    f = clause_at(own_requires[of_step:], f, parts)
+                    if isinstance(f, int):
+                        kind = ("requires", of_step + f)
+                    else:
+                        out.append(f)
+                        kind = ("other", None)
                 elif k == "ensures":
-                    f = clause_at(self.clauses.get(of_step, ([], [], []))[0], f, parts)
-                    out.append(f)
-                    kind = ("other", None)
+                    callee, off = of_step
+                    f = clause_at(self.clauses.get(callee, ([], [], []))[0][off:], f, parts)
+                    if isinstance(f, int):
+                        kind = ("ensures", (callee, off + f))
+                    else:
+                        out.append(f)
+                        kind = ("other", None)
                 else:
                     out.append(f)
             return ".".join([head, *out]), kind
@@ -300,8 +319,18 @@ class Turner:
             if head not in kinds:
                 return m.group(0)
             text, kind = fields_of(kinds[head], parts, head)
+            names = []
+            if kind[0] == "ensures":
+                names = self.clauses.get(kind[1][0], ([], [], []))[0][kind[1][1]:]
+            elif kind[0] == "requires":
+                names = own_requires[kind[1]:]
+            bound_here = binds and re.match(r"\s+in\b", m.string[m.end():])
+            if len(names) > 1 and not bound_here:
+                tuple_ = f"{text}.{names[-1]}"
+                for n in reversed(names[:-1]):
+                    tuple_ = f"({text}.{n}, {tuple_})"
+                text = tuple_
             if binds:
-                after = m.string[m.end():m.end() + 4]
                 kinds[binds] = kind if re.match(r"\s+in\b", m.string[m.end():]) else ("other", None)
             return (m.group(1) or "") + text
 
@@ -427,6 +456,10 @@ class Turner:
             if m:
                 key = norm(m.group(1))
                 if key not in needs:
+                    again = [i for i, (old, new) in enumerate(of["needs"]) if norm(new) == key]
+                    if len(again) == 1:
+                        needs[key] = (of["needs"][again[0]][1], of["asked_at"][again[0]][0])
+                if key not in needs:
                     left.append(f"-- gone: {m.group(1)}\n" + "\n".join("\n".join(d) for d in b["defs"]).rstrip())
                     continue
                 new, place = needs[key]
@@ -445,7 +478,7 @@ class Turner:
                     for a, b2 in of["args"]:
                         if a.startswith(".args ."):
                             body = re.sub(r"\.args\." + re.escape(a[7:]) + r"(?![\w-])", ".args." + b2[7:], body)
-                    body = self.paths(body, of, place, None)
+                    body = self.paths(body.replace(".type-inv", ".type_inv"), of, place, None)
                     by_norm = {norm(k): v for k, v in of["asked"].items()}
                     asked = by_norm.get(norm(new)) or by_norm.get(key)
                     if not asked and new.startswith("returns"):
@@ -489,6 +522,8 @@ class Turner:
             written.append("Invariants")
         if ans or in_ans:
             more = [f"use {base}.Goals as goal"]
+            if any("value_and_list" in x for a in ans for x in a):
+                more.insert(0, "use Rattle.commit.proofs.Clauses.{value_and_list}")
             names = [h[0] for h in in_inv] if inv else []
             if names:
                 more.append(f"use {base}.Invariants.{{{', '.join(names)}}}")

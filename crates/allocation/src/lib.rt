@@ -1,6 +1,7 @@
 // Faults 25 and 26 in one pass over the allocation table. For fault 26 there is a byte for each extent that the files need, set when
 // its table entry is met. u16 holds a start, since starts past the number of extents are never stored.
 #![tactic(auto)]
+
 ghost use Rattle.std.specs.Prelude.{◌≡◌, ℕ, ◌+◌, ◌-◌, ◌≤◌, ◌<◌, eqb, length, get_or, drop};
 ghost use Rattle.model.specs.Search.{first, any_below};
 ghost use Rattle.model.specs.Disk.{view};

@@ -3,3 +3,4 @@ pub mod Records
 pub mod Laws
 pub mod Decided
 pub mod Turns
+pub mod Clauses

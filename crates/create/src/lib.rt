@@ -1,5 +1,6 @@
 // Create, on a volume that the refusals 1 to 7 let pass.
 #![tactic(auto)]
+
 ghost use Rattle.std.specs.Prelude.{◌≡◌, ◌||◌, [], ◌∷◌, ◌*◌, ◌≤◌, eqb, length};
 ghost use Rattle.std.proofs.Math.Option.{some};
 ghost use Rattle.model.specs.Search.{any_below, is_at, index_of};

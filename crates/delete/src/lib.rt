@@ -1,5 +1,6 @@
 // Delete: a file's entry and the table sectors that hold its extents, rewritten.
 #![tactic(auto)]
+
 ghost use Rattle.std.specs.Prelude.{◌≡◌, ◌+◌, ◌*◌, ◌≤◌, ◌<◌, length};
 ghost use Rattle.std.proofs.Math.Option.{some};
 ghost use Rattle.model.specs.Disk.{view};

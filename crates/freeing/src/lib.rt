@@ -1,5 +1,6 @@
 // Freed table sectors as targets of a change: what a delete, a resize that shrinks, a rename onto an existing name and a repair share.
 #![tactic(auto)]
+
 ghost use Rattle.std.specs.Prelude.{[], ◌∷◌, ◌≡◌, ◌+◌, ◌*◌, ◌≤◌, ◌<◌, length};
 ghost use Rattle.model.specs.Geometry.{table_sectors};
 ghost use Rattle.model.specs.Disk.{view};

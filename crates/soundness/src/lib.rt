@@ -1,6 +1,7 @@
 // Judging a volume: the first fault, and the refusals 1 to 7 that all calls but format, summary, recovery and carrying out share.
 // The judging needs no heap; it has arrays of its own, or is lent scratch (T-10). bench/README.md has its stack.
 #![tactic(auto)]
+
 ghost use Rattle.std.specs.Prelude.{◌≡◌, ◌≤◌, length};
 ghost use Rattle.model.specs.Disk.{view, on_image};
 ghost use Rattle.model.specs.Faults.{first_fault};

@@ -1,6 +1,7 @@
 // A file's bytes over its extents: a span is cut at the next extent edge and the rest again, until nothing is left.
 // Reading copies a span out; writing emits its data sectors in file order.
 #![tactic(auto)]
+
 ghost use Rattle.std.specs.Prelude.{◌≡◌, cond, [], ◌∷◌, ◌+◌, ◌*◌, ◌-◌, ◌%◌, ◌≤◌, ◌<◌, ◌^◌, ltb, length};
 ghost use Rattle.model.specs.Bytes.{bytes_from, put};
 ghost use Rattle.model.specs.Search.{tabulate};

@@ -1,0 +1,13 @@
+-- `allocation::lowest_lacking` meets its contract. The loop's invariant: the search has passed the files below i.
+use Prim.Native.Nat.{◌+◌, ◌-◌}
+use mathlib.Core.Path.{sym, ◌∙◌}
+use native.Mathlib.Omega.{arith}
+use Rattle.laws.proofs.Seeking.{Seeking, seek-start, seek-here, seek-next, seek-end}
+use Rattle.allocation.specs.Marks.{lacks}
+use Rattle.allocation.proofs.lowest_lacking.Given as goal
+
+abbrev pub invariant-loop-i : goal.invariant-loop-i
+invariant-loop-i l = Seeking (lacks l.starts l.seen) l.m l.i
+
+abbrev pub decreases-loop-i : goal.decreases-loop-i
+decreases-loop-i l = l.m - l.i

@@ -143,7 +143,8 @@ def as_record(body, names, own=()):
             head, tail = head + flat[:i], flat[i:]
         else:
             inner = None
-    if inner is None and names == ["value", "list_after"]:
+    whole = {("value", "list_after"): "value_and_list", ("value", "out_after", "list_after"): "value_out_and_list"}.get(tuple(names))
+    if inner is None and whole:
         flat = tail.rstrip()
         word = re.match(r"\s*([^\s({.]+)", tail)
         if word and word.group(1) in ("rw", "simp") and flat.endswith(")"):
@@ -152,9 +153,9 @@ def as_record(body, names, own=()):
                 depth += (flat[i] in ")]}") - (flat[i] in "([{")
                 if depth == 0:
                     break
-            return head + flat[:i] + "(value_and_list " + flat[i:] + ")"
+            return head + flat[:i] + f"({whole} " + flat[i:] + ")"
         if word and word.group(1) not in ("rw", "simp", "subst", "search", "omega", "grind", "elim", "record", "cc", "absurd", "λ", "refl", "?"):
-            return head + " value_and_list (" + flat.strip() + ")"
+            return head + f" {whole} (" + flat.strip() + ")"
     if inner is None:
         word = re.match(r"\s*([^\s({.]+)", tail)
         if not word or word.group(1) in ("rw", "simp", "subst", "search", "omega", "grind", "elim", "record", "cc", "absurd", "λ", "refl", "?"):
@@ -524,6 +525,8 @@ class Turner:
             more = [f"use {base}.Goals as goal"]
             if any("value_and_list" in x for a in ans for x in a):
                 more.insert(0, "use Rattle.commit.proofs.Clauses.{value_and_list}")
+            if any("value_out_and_list" in x for a in ans for x in a):
+                more.insert(0, "use Rattle.reading.proofs.Clauses.{value_out_and_list}")
             names = [h[0] for h in in_inv] if inv else []
             if names:
                 more.append(f"use {base}.Invariants.{{{', '.join(names)}}}")

@@ -1,6 +1,7 @@
 // The calls that fill a write list, on any bytes and any arguments: create, delete, resize, write, rename, a set of renames. The image is only read. Each has a form
 // on the lent sectors before the data area and the count of the volume's sectors (T-11).
 #![tactic(auto)]
+
 ghost use Rattle.std.specs.Prelude.{◌≡◌, length};
 ghost use Rattle.model.specs.Disk.{on_image};
 ghost use Rattle.model.specs.Create.{create_answer, create_list};

@@ -1,6 +1,7 @@
 // The C interface: every call under its plain name, thin over the proved calls. A slice passes as pointer and length; results are
 // structs of numbers. `include/goofs.h` declares it.
 #![tactic(auto)]
+
 ghost use Rattle.std.specs.Prelude.{◌≡◌, length};
 ghost use Rattle.model.specs.Disk.{view, on_image};
 ghost use Rattle.model.specs.Summary.{state_code, summary_answer, check_answer};

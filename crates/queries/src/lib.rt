@@ -1,6 +1,7 @@
 // The calls that give what a volume holds, on any bytes and any arguments: check, with lent scratch too, and find, which only read; list and read,
 // which also give the write list of an access time. Each has a form on lent sectors and the volume's sector count (T-11). (The summary stands in `volume`.)
 #![tactic(auto)]
+
 ghost use Rattle.std.specs.Prelude.{◌≡◌, length};
 ghost use Rattle.model.specs.Disk.{on_image};
 ghost use Rattle.model.specs.Summary.{check_answer};

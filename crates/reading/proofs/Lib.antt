@@ -3,3 +3,4 @@ pub mod Verdicts
 pub mod ListAnswers
 pub mod ReadAnswers
 pub mod Steps
+pub mod Clauses

@@ -1,6 +1,7 @@
 // Repair: the table entries that no file needs, freed in one transaction. A byte for each extent says whether it is freed; repeated
 // offsets are found by chained hashing, as `duplicates` finds names and ids.
 #![tactic(auto)]
+
 ghost use Rattle.std.specs.Prelude.{◌≡◌, true, false, ℕ, ◌+◌, ◌*◌, ◌≤◌, ◌<◌, eqb, length, get_or};
 ghost use Rattle.std.proofs.Math.Option.{some};
 ghost use Rattle.model.specs.Search.{first, any_below, count_below};

@@ -1,6 +1,7 @@
 // The calls write and resize on a volume that the refusals 1 to 7 let pass: their refusals and their write lists; and their forms on lent sectors,
 // which ask for the sectors that the span covers partly (T-11).
 #![tactic(auto)]
+
 ghost use Rattle.std.specs.Prelude.{◌≡◌, false, cond, [], ◌+◌, ◌*◌, ◌-◌, ◌/◌, ◌≤◌, ◌<◌, ◌^◌, eqb, ltb, length};
 ghost use Rattle.std.proofs.Math.Option.{some};
 ghost use Rattle.model.specs.Search.{index_of};

@@ -1,0 +1,10 @@
+-- `goofs::goofs_delete_lent` meets its contract. The numbers and the list are those of `changes::delete_lent`.
+use mathlib.Core.Path.{ap, ◌∙◌}
+use Rattle.goofs.specs.Numbers.{change_numbers}
+use Rattle.goofs.proofs.goofs_delete_lent.Goals as goal
+
+pub returns : goal.returns
+returns c = record {
+      value = c.change_result.ensures ∙ ap change_numbers c.delete_lent-a.ensures.value;
+      list_after = c.delete_lent-a.ensures.list_after;
+    }

@@ -1,0 +1,21 @@
+-- `repair::put_marked` meets its contract. The loop's invariant: those of the table sectors passed are staged.
+use Prim.Native.Nat.{◌-◌, ◌≤◌}
+use mathlib.Core.Path.{◌≡◌, refl}
+use native.Mathlib.Omega.{arith}
+use lib.ListN.{length}
+use Rattle.model.specs.Search.{concatenated}
+use Rattle.model.specs.Disk.{view}
+use Rattle.model.specs.Freeing.{freed_sector}
+use Rattle.commit.specs.Commit.{Added}
+use Rattle.commit.proofs.Laws.{added_none}
+use Rattle.table.specs.Owned.{is_marked}
+use Rattle.freeing.proofs.Laws.{freed-next, freed-room, freed-all}
+use borrow.Author.Rules.{rules}
+use Rattle.repair.proofs.put_marked.Given as goal
+
+abbrev pub invariant-loop-t : goal.invariant-loop-t
+invariant-loop-t l = (l.t ≤ l.n) × Added l.g l.stages l.initial.numbers l.initial.list 0 (concatenated (freed_sector (is_marked l.marks) l.g (view l.img)) 0 l.t) l.numbers l.list l.j
+    × (length l.list ≡ length l.initial.list) × (length l.numbers ≡ length l.initial.numbers)
+
+abbrev pub decreases-loop-t : goal.decreases-loop-t
+decreases-loop-t l = l.n - l.t

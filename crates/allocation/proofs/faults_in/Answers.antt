@@ -7,7 +7,7 @@ use Rattle.allocation.proofs.Verdict.{misplaced-at, lacking-at, stopped-at, nowh
 use Rattle.allocation.proofs.faults_in.Goals as goal
 
 pub pass_over-pass-requires : goal.pass_over-pass-requires
-pass_over-pass-requires c = 
+pass_over-pass-requires c =
     let s = c in
     let f = c.fill_starts-f in record {
       opened = s.requires.opened;
@@ -16,13 +16,13 @@ pass_over-pass-requires c =
     }
 
 pub returns-in-At : goal.returns-in-At
-returns-in-At c = 
+returns-in-At c =
     let s = c in
     misplaced-at s.args.g (view s.args.img.now) s.requires.opened.is (omega arith) c.in-At.e
     (sym c.in-At.is ∙ c.pass_over-pass.ensures.found)
 
 pub first_lacking-requires : goal.first_lacking-requires
-first_lacking-requires c = 
+first_lacking-requires c =
     let s = c in
     let g = s.args.g in
     let d = view s.args.img.now in
@@ -37,7 +37,7 @@ first_lacking-requires c =
     }
 
 pub returns-in-At-first_lacking : goal.returns-in-At-first_lacking
-returns-in-At-first_lacking c = 
+returns-in-At-first_lacking c =
     let s = c in
     let g = s.args.g in
     let d = view s.args.img.now in
@@ -51,7 +51,7 @@ returns-in-At-first_lacking c =
     (sym c.in-At-first_lacking.is ∙ c.first_lacking.ensures)
 
 pub returns-then-m-g : goal.returns-then-m-g
-returns-then-m-g c = 
+returns-then-m-g c =
     let s = c in
     let g = s.args.g in
     let d = view s.args.img.now in
@@ -65,7 +65,7 @@ returns-then-m-g c =
     (sym c.in_default-first_lacking.is ∙ c.first_lacking.ensures) c.if-m-g.true
 
 pub returns : goal.returns
-returns c = 
+returns c =
     let s = c in
     let g = s.args.g in
     let d = view s.args.img.now in

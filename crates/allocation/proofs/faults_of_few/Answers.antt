@@ -6,7 +6,7 @@ use Rattle.laws.proofs.Bytes.{zeros-at}
 use Rattle.allocation.proofs.faults_of_few.Goals as goal
 
 pub faults_in-requires : goal.faults_in-requires
-faults_in-requires c = 
+faults_in-requires c =
     let s = c in
     let n = length-replicate {A = ℕ} 4096 0 in
     let k = length-replicate {A = ℕ} 1025 0 in record {

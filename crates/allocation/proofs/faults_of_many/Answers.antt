@@ -6,7 +6,7 @@ use Rattle.laws.proofs.Bytes.{zeros-at}
 use Rattle.allocation.proofs.faults_of_many.Goals as goal
 
 pub faults_in-requires : goal.faults_in-requires
-faults_in-requires c = 
+faults_in-requires c =
     let s = c in
     let n = length-replicate {A = ℕ} 65536 0 in record {
       opened = s.requires;

@@ -11,12 +11,12 @@ use Rattle.allocation.proofs.faults_on.Goals as goal
 
 pub put_starts-f-requires : goal.put_starts-f-requires
 put_starts-f-requires c = let s = c in record {
-      opened = s.requires.opened;
-      files_in_bounds = omega (arith, c.clear.auto.s, s.requires.s_len);
-    }
+  opened = s.requires.opened;
+  files_in_bounds = omega (arith, c.clear.auto.s, s.requires.s_len);
+}
 
 pub pass_in-pass-requires : goal.pass_in-pass-requires
-pass_in-pass-requires c = 
+pass_in-pass-requires c =
     let s = c in
     let g = s.args.g in
     let d = view s.args.img.now in
@@ -31,17 +31,17 @@ pass_in-pass-requires c =
       from_le_to = (omega arith, omega arith, omega arith);
       starts = f.ensures.starts;
       marks = no-marks g d f.result filled (drop (g.files + 1) filled) f.ensures.starts
-              (omega (arith, length-drop (g.files + 1) filled, f.auto.s, k.auto.s, s.requires.s_len)) unmarked f.ensures.extents_bound;
+          (omega (arith, length-drop (g.files + 1) filled, f.auto.s, k.auto.s, s.requires.s_len)) unmarked f.ensures.extents_bound;
     }
 
 pub returns-in-At : goal.returns-in-At
-returns-in-At c = 
+returns-in-At c =
     let s = c in
     misplaced-at s.args.g (view s.args.img.now) s.requires.opened.is (omega arith) c.in-At.e
     (sym c.in-At.is ∙ c.pass_in-pass.ensures.passed.found)
 
 pub lowest_unmarked-requires : goal.lowest_unmarked-requires
-lowest_unmarked-requires c = 
+lowest_unmarked-requires c =
     let s = c in
     let g = s.args.g in
     let d = view s.args.img.now in
@@ -55,7 +55,7 @@ lowest_unmarked-requires c =
     }
 
 pub returns-in-At-lowest_unmarked : goal.returns-in-At-lowest_unmarked
-returns-in-At-lowest_unmarked c = 
+returns-in-At-lowest_unmarked c =
     let s = c in
     let g = s.args.g in
     let d = view s.args.img.now in
@@ -67,7 +67,7 @@ returns-in-At-lowest_unmarked c =
     (sym c.in-At-lowest_unmarked.is ∙ c.lowest_unmarked.ensures)
 
 pub returns-then-reached-g : goal.returns-then-reached-g
-returns-then-reached-g c = 
+returns-then-reached-g c =
     let s = c in
     let g = s.args.g in
     let d = view s.args.img.now in
@@ -78,7 +78,7 @@ returns-then-reached-g c =
     (sym c.in_default-lowest_unmarked.is ∙ c.lowest_unmarked.ensures) c.if-reached-g.true
 
 pub returns : goal.returns
-returns c = 
+returns c =
     let s = c in
     let g = s.args.g in
     let d = view s.args.img.now in

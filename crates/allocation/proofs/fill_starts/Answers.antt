@@ -1,8 +1,7 @@
 -- `allocation::fill_starts` meets its contract. The loop's invariant: the starts below i stand in the array, and the sum is the start of file i.
-use Prim.Native.Nat.{ℕ, ◌-◌, ◌≤◌, ◌<◌}
 use mathlib.Core.Path.{◌≡◌, refl, ◌∙◌}
 use native.Mathlib.Omega.{arith}
-use lib.ListN.{length, get_or, length-set}
+use lib.ListN.{length-set}
 use Rattle.model.specs.Disk.{view}
 use Rattle.laws.proofs.Bytes.{set_next}
 use Rattle.allocation.specs.Marks.{sum_to, start_of}
@@ -14,7 +13,7 @@ unfolding start_of sum_to
 loop-i-init c = (omega arith, refl, refl, omega arith, λ j l. absurd (omega arith))
 
 pub returns-then-g-next : goal.returns-then-g-next
-returns-then-g-next c = 
+returns-then-g-next c =
     let l = c.loop-i in
     let a = c.args in
     let h = start_of a.g (view a.img.now) in record {
@@ -28,7 +27,7 @@ returns-then-g-next c =
     }
 
 pub loop-i-preserved : goal.loop-i-preserved
-loop-i-preserved c = 
+loop-i-preserved c =
     let l = c.loop-i in
     let a = c.args in
     let h = start_of a.g (view a.img.now) in (
@@ -40,7 +39,7 @@ loop-i-preserved c =
     )
 
 pub returns : goal.returns
-returns c = 
+returns c =
     let l = c.loop-i in
     let a = c.args in
     let e : l.i ≡ a.g.files = omega arith in

@@ -1,12 +1,9 @@
 -- `allocation::fill_starts` meets its contract. The loop's invariant: the starts below i stand in the array, and the sum is the start of file i.
 use Prim.Native.Nat.{ℕ, ◌-◌, ◌≤◌, ◌<◌}
-use mathlib.Core.Path.{◌≡◌, refl, ◌∙◌}
-use native.Mathlib.Omega.{arith}
-use lib.ListN.{length, get_or, length-set}
+use mathlib.Core.Path.{◌≡◌}
+use lib.ListN.{length, get_or}
 use Rattle.model.specs.Disk.{view}
-use Rattle.laws.proofs.Bytes.{set_next}
-use Rattle.allocation.specs.Marks.{sum_to, start_of}
-use Rattle.allocation.proofs.Marks.{start-next}
+use Rattle.allocation.specs.Marks.{start_of}
 use Rattle.allocation.proofs.fill_starts.Given as goal
 
 abbrev pub invariant-loop-i : goal.invariant-loop-i

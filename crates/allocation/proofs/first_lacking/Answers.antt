@@ -9,7 +9,7 @@ use Rattle.allocation.specs.Marks.{lacks}
 use Rattle.allocation.proofs.first_lacking.Goals as goal
 
 pub returns : goal.returns
-returns c = 
+returns c =
     let s = c in
     let a = s.args in
     let none = none-at (λ k. eqb (get_or a.seen.now (0 + k) 0) 0) (get_or a.starts.now a.m 0 - 0) (sym c.has_unseen.ensures ∙ c.if-has_unseen.false) in

@@ -1,11 +1,7 @@
 -- `allocation::has_unmarked` meets its contract. The loop's invariant: none of the first i numbers is 0.
-use Prim.Native.Nat.{ℕ, ◌+◌, ◌-◌, ◌≤◌}
+use Prim.Native.Nat.{◌-◌}
 use mathlib.Core.Path.{◌≡◌, refl, sym, ◌∙◌}
-use mathlib.Core.Bool.{Bool, false}
-use mathlib.Core.List.{List}
 use native.Mathlib.Omega.{arith}
-use lib.Dec.{eqb}
-use lib.ListN.{get_or}
 use borrow.Author.Tests.{eq-eqb, ne_eqb}
 use Rattle.model.specs.Search.{any_below}
 use Rattle.laws.proofs.Search.{any_below-more, any_below-true}
@@ -17,19 +13,19 @@ unfolding any_below
 loop-i-init c = (omega arith, refl)
 
 pub returns-then-s-a-eq0 : goal.returns-then-s-a-eq0
-returns-then-s-a-eq0 c = 
+returns-then-s-a-eq0 c =
     let a = c.args in
     let l = c.loop-i in
     sym (any_below-true (is_zero a.s.now a.a) l.i (a.b - a.a) (omega arith) (eq-eqb _ _ c.if-s-a-eq0.true))
 
 pub loop-i-preserved : goal.loop-i-preserved
-loop-i-preserved c = 
+loop-i-preserved c =
     let a = c.args in
     let l = c.loop-i in
     (omega arith, any_below-more (is_zero a.s.now a.a) l.i ∙ rw (ne_eqb _ _ c.if-s-a-eq0.false) l.invariant.1)
 
 pub returns : goal.returns
-returns c = 
+returns c =
     let l = c.loop-i in
     let a = c.args in
     let e : l.i ≡ a.b - a.a = omega arith in

@@ -1,14 +1,11 @@
 -- `allocation::has_unmarked` meets its contract. The loop's invariant: none of the first i numbers is 0.
 use Prim.Native.Nat.{ℕ, ◌+◌, ◌-◌, ◌≤◌}
-use mathlib.Core.Path.{◌≡◌, refl, sym, ◌∙◌}
+use mathlib.Core.Path.{◌≡◌}
 use mathlib.Core.Bool.{Bool, false}
 use mathlib.Core.List.{List}
-use native.Mathlib.Omega.{arith}
 use lib.Dec.{eqb}
 use lib.ListN.{get_or}
-use borrow.Author.Tests.{eq-eqb, ne_eqb}
 use Rattle.model.specs.Search.{any_below}
-use Rattle.laws.proofs.Search.{any_below-more, any_below-true}
 use Rattle.allocation.proofs.has_unmarked.Given as goal
 
 abbrev pub is_zero : List ℕ → ℕ → ℕ → Bool

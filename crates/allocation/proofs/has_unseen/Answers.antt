@@ -18,6 +18,6 @@ zero-part s a n l =
     rw w (any_below-ext (λ k. eqb (get_or (take n (drop a s)) k 0) 0) (λ k. eqb (get_or s (a + k) 0) 0) n (λ k h. rw (get_or-take, get_or-drop)))
 
 pub returns : goal.returns
-returns c = 
+returns c =
     let a = c.args in
     c.has_zero.ensures ∙ zero-part a.seen.now a.a (a.b - a.a) (omega arith)

@@ -5,13 +5,13 @@ use Rattle.allocation.proofs.Misplaced.{fault25-on}
 use Rattle.allocation.proofs.is_misplaced.Goals as goal
 
 pub returns-then-f-eq-FREE_FILE : goal.returns-then-f-eq-FREE_FILE
-returns-then-f-eq-FREE_FILE c = 
+returns-then-f-eq-FREE_FILE c =
     let s = c in
     let a = s.args in
     rw (fault25-on (view a.img.now) a.g s.requires.opened.is a.e.0 s.requires.e_lt_extents, ← c.table_file-f.ensures.value, eq-eqb _ _ c.if-f-eq-FREE_FILE.true)
 
 pub returns-then-is_occupied : goal.returns-then-is_occupied
-returns-then-is_occupied c = 
+returns-then-is_occupied c =
     let s = c in
     let a = s.args in
     rw (
@@ -24,7 +24,7 @@ returns-then-is_occupied c =
     )
 
 pub returns-then-f-g : goal.returns-then-f-g
-returns-then-f-g c = 
+returns-then-f-g c =
     let s = c in
     let a = s.args in
     rw (
@@ -37,7 +37,7 @@ returns-then-f-g c =
     )
 
 pub returns : goal.returns
-returns c = 
+returns c =
     let s = c in
     let a = s.args in
     rw (

@@ -1,8 +1,6 @@
 -- `allocation::lowest_lacking` meets its contract. The loop's invariant: the search has passed the files below i.
-use Prim.Native.Nat.{◌+◌, ◌-◌}
-use mathlib.Core.Path.{sym, ◌∙◌}
-use native.Mathlib.Omega.{arith}
-use Rattle.laws.proofs.Seeking.{Seeking, seek-start, seek-here, seek-next, seek-end}
+use Prim.Native.Nat.{◌-◌}
+use Rattle.laws.proofs.Seeking.{Seeking}
 use Rattle.allocation.specs.Marks.{lacks}
 use Rattle.allocation.proofs.lowest_lacking.Given as goal
 

@@ -6,7 +6,7 @@ use Rattle.allocation.proofs.Misplaced.{fault-met}
 use Rattle.allocation.proofs.mark.Goals as goal
 
 pub returns-then-m-f : goal.returns-then-m-f
-returns-then-m-f c = 
+returns-then-m-f c =
     let s = c in
     let a = s.args in
     let f = c.table_file-f in record {
@@ -16,7 +16,7 @@ returns-then-m-f c =
     }
 
 pub overflow_cast-p : goal.overflow_cast-p
-overflow_cast-p c = 
+overflow_cast-p c =
     let s = c in
     let a = s.args in
     let d = view a.img.now in
@@ -25,7 +25,7 @@ overflow_cast-p c =
     omega arith
 
 pub overflow_add-p : goal.overflow_add-p
-overflow_add-p c = 
+overflow_add-p c =
     let s = c in
     let a = s.args in
     let d = view a.img.now in
@@ -34,7 +34,7 @@ overflow_add-p c =
     omega arith
 
 pub overflow_cast-starts : goal.overflow_cast-starts
-overflow_cast-starts c = 
+overflow_cast-starts c =
     let s = c in
     let a = s.args in
     let d = view a.img.now in
@@ -43,7 +43,7 @@ overflow_cast-starts c =
     omega arith
 
 pub returns-then-starts-f : goal.returns-then-starts-f
-returns-then-starts-f c = 
+returns-then-starts-f c =
     let s = c in
     let a = s.args in
     let f = c.table_file-f in
@@ -55,7 +55,7 @@ returns-then-starts-f c =
     }
 
 pub bounds-seen-p : goal.bounds-seen-p
-bounds-seen-p c = 
+bounds-seen-p c =
     let s = c in
     let a = s.args in
     let d = view a.img.now in
@@ -64,7 +64,7 @@ bounds-seen-p c =
     omega (arith, s.requires.marks.size)
 
 pub returns-then-seen-p-eq1 : goal.returns-then-seen-p-eq1
-returns-then-seen-p-eq1 c = 
+returns-then-seen-p-eq1 c =
     let s = c in
     let a = s.args in
     let d = view a.img.now in
@@ -77,7 +77,7 @@ returns-then-seen-p-eq1 c =
     }
 
 pub bounds-seen-p-2 : goal.bounds-seen-p-2
-bounds-seen-p-2 c = 
+bounds-seen-p-2 c =
     let s = c in
     let a = s.args in
     let d = view a.img.now in
@@ -86,7 +86,7 @@ bounds-seen-p-2 c =
     omega (arith, s.requires.marks.size)
 
 pub returns : goal.returns
-returns c = 
+returns c =
     let s = c in
     let a = s.args in
     let d = view a.img.now in
@@ -95,6 +95,6 @@ returns c =
     let l = c.if-m-f.false in record {
       misplaced_value = fault-met d a.g s.requires.opened.is a.e.0 f.result a.m o.result a.starts.now s.requires.e_lt_extents f.ensures.value (omega arith) s.requires.starts l (omega arith);
       marks_2 = new a.g d a.e.0 a.m a.seen.now s.requires.marks f.result f.ensures.value o.result o.ensures.value a.starts.now s.requires.starts l (omega arith)
-            c.if-seen-p-eq1.false;
+          c.if-seen-p-eq1.false;
       reached_le_m = omega arith;
     }

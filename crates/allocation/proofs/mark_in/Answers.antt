@@ -9,7 +9,7 @@ use Rattle.allocation.proofs.Misplaced.{fault-met}
 use Rattle.allocation.proofs.mark_in.Goals as goal
 
 pub returns-then-m-f : goal.returns-then-m-f
-returns-then-m-f c = 
+returns-then-m-f c =
     let s = c in
     let a = s.args in
     let d = view a.img.now in
@@ -21,7 +21,7 @@ returns-then-m-f c =
     }
 
 pub overflow_cast-p : goal.overflow_cast-p
-overflow_cast-p c = 
+overflow_cast-p c =
     let s = c in
     let a = s.args in
     let d = view a.img.now in
@@ -30,7 +30,7 @@ overflow_cast-p c =
     omega arith
 
 pub overflow_add-p : goal.overflow_add-p
-overflow_add-p c = 
+overflow_add-p c =
     let s = c in
     let a = s.args in
     let d = view a.img.now in
@@ -39,7 +39,7 @@ overflow_add-p c =
     omega arith
 
 pub overflow_cast-s : goal.overflow_cast-s
-overflow_cast-s c = 
+overflow_cast-s c =
     let s = c in
     let a = s.args in
     let d = view a.img.now in
@@ -48,7 +48,7 @@ overflow_cast-s c =
     omega arith
 
 pub returns-then-s-f : goal.returns-then-s-f
-returns-then-s-f c = 
+returns-then-s-f c =
     let s = c in
     let a = s.args in
     let d = view a.img.now in
@@ -56,13 +56,13 @@ returns-then-s-f c =
     let o = c.table_offset in record {
       misplaced_value = c.is_misplaced-then-s-f.ensures;
       marks_2 = past a.g d a.e.0 a.m (drop a.at a.s.now) s.requires.marks f.result f.ensures.value o.result
-            o.ensures.value a.s.now s.requires.starts c.if-m-f.false (omega arith);
+          o.ensures.value a.s.now s.requires.starts c.if-m-f.false (omega arith);
       starts_2 = s.requires.starts;
       reached_le_m = omega arith;
     }
 
 pub overflow_add-at : goal.overflow_add-at
-overflow_add-at c = 
+overflow_add-at c =
     let s = c in
     let a = s.args in
     let d = view a.img.now in
@@ -71,7 +71,7 @@ overflow_add-at c =
     omega (arith, s.requires.opened.bounded.files-high, s.requires.opened.bounded.extents-high)
 
 pub offset_bounds-s-at : goal.offset_bounds-s-at
-offset_bounds-s-at c = 
+offset_bounds-s-at c =
     let s = c in
     let a = s.args in
     let d = view a.img.now in
@@ -80,7 +80,7 @@ offset_bounds-s-at c =
     omega (arith, s.requires.opened.bounded.files-high, s.requires.opened.bounded.extents-high)
 
 pub bounds-s-at : goal.bounds-s-at
-bounds-s-at c = 
+bounds-s-at c =
     let s = c in
     let a = s.args in
     let d = view a.img.now in
@@ -89,7 +89,7 @@ bounds-s-at c =
     omega (arith, length-drop a.at a.s.now, s.requires.marks.size)
 
 pub returns-then-s-at-eq1 : goal.returns-then-s-at-eq1
-returns-then-s-at-eq1 c = 
+returns-then-s-at-eq1 c =
     let s = c in
     let a = s.args in
     let d = view a.img.now in
@@ -99,13 +99,13 @@ returns-then-s-at-eq1 c =
     let q = get_or a.s.now f.result 0 + o.result in record {
       misplaced_value = fault-met d a.g s.requires.opened.is a.e.0 f.result a.m o.result a.s.now s.requires.e_lt_extents.0 f.ensures.value (omega arith) s.requires.starts l (omega arith);
       marks_2 = again a.g d a.e.0 a.m (drop a.at a.s.now) s.requires.marks f.result f.ensures.value o.result o.ensures.value a.s.now s.requires.starts l (omega arith)
-            (rw (get_or-drop a.at a.s.now q 0) c.if-s-at-eq1.true);
+          (rw (get_or-drop a.at a.s.now q 0) c.if-s-at-eq1.true);
       starts_2 = s.requires.starts;
       reached_le_m = omega arith;
     }
 
 pub overflow_add-s : goal.overflow_add-s
-overflow_add-s c = 
+overflow_add-s c =
     let s = c in
     let a = s.args in
     let d = view a.img.now in
@@ -114,7 +114,7 @@ overflow_add-s c =
     omega (arith, s.requires.opened.bounded.files-high, s.requires.opened.bounded.extents-high)
 
 pub offset_bounds-s-at-2 : goal.offset_bounds-s-at-2
-offset_bounds-s-at-2 c = 
+offset_bounds-s-at-2 c =
     let s = c in
     let a = s.args in
     let d = view a.img.now in
@@ -123,7 +123,7 @@ offset_bounds-s-at-2 c =
     omega (arith, s.requires.opened.bounded.files-high, s.requires.opened.bounded.extents-high)
 
 pub bounds-s-at-2 : goal.bounds-s-at-2
-bounds-s-at-2 c = 
+bounds-s-at-2 c =
     let s = c in
     let a = s.args in
     let d = view a.img.now in
@@ -132,7 +132,7 @@ bounds-s-at-2 c =
     omega (arith, length-drop a.at a.s.now, s.requires.marks.size)
 
 pub returns : goal.returns
-returns c = 
+returns c =
     let s = c in
     let a = s.args in
     let d = view a.img.now in
@@ -142,8 +142,8 @@ returns c =
     let q = get_or a.s.now f.result 0 + o.result in record {
       misplaced_value = fault-met d a.g s.requires.opened.is a.e.0 f.result a.m o.result a.s.now s.requires.e_lt_extents.0 f.ensures.value (omega arith) s.requires.starts l (omega arith);
       marks_2 = rw (drop-set-add a.at a.s.now q 1)
-            (new a.g d a.e.0 a.m (drop a.at a.s.now) s.requires.marks f.result f.ensures.value o.result o.ensures.value a.s.now s.requires.starts l (omega arith)
-            (rw (get_or-drop a.at a.s.now q 0) c.if-s-at-eq1.false));
+          (new a.g d a.e.0 a.m (drop a.at a.s.now) s.requires.marks f.result f.ensures.value o.result o.ensures.value a.s.now s.requires.starts l (omega arith)
+          (rw (get_or-drop a.at a.s.now q 0) c.if-s-at-eq1.false));
       starts_2 = starts-kept a.g d a.m (a.at + q) 1 a.s.now s.requires.starts (omega arith);
       reached_le_m = omega arith;
     }

@@ -10,6 +10,6 @@ returns-then-is_occupied c = rw (← c.is_occupied.ensures, c.if-is_occupied.tru
 pub returns : goal.returns
 unfolding needed
 returns c = record {
-      value = rw (← c.is_occupied.ensures, c.if-is_occupied.false);
-      upper_bound = omega arith;
-    }
+  value = rw (← c.is_occupied.ensures, c.if-is_occupied.false);
+  upper_bound = omega arith;
+}

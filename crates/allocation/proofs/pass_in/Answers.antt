@@ -1,18 +1,10 @@
 -- `allocation::pass_in` meets its contract. The loop's invariant: the search for fault 25 has passed the extents below e, and the
 -- marks are those of these extents.
-use Prim.Native.Nat.{ℕ, ◌-◌, ◌≤◌}
 use mathlib.Core.Path.{◌≡◌, refl, sym, ◌∙◌}
-use mathlib.Core.Bool.{Bool}
-use mathlib.Core.List.{List}
 use native.Mathlib.Omega.{arith}
-use lib.ListN.{length, drop}
-use Rattle.model.specs.Search.{scan}
 use Rattle.model.specs.Disk.{view}
-use Rattle.model.specs.Catalogue.{catalogue_of}
-use Rattle.model.specs.Faults.{fault25}
 use Rattle.laws.proofs.Search.{scan-here, scan-next, scan-end}
 use Rattle.laws.proofs.Seeking.{at-nowhere}
-use Rattle.allocation.specs.Marks.{Starts, Marks}
 use Rattle.allocation.proofs.Marks.{starts-down}
 use Rattle.allocation.proofs.pass_in.Goals as goal
 use Rattle.allocation.proofs.pass_in.Invariants.{hit}
@@ -21,7 +13,7 @@ pub loop-e-init : goal.loop-e-init
 loop-e-init c = let s = c in (omega arith, refl, s.requires.marks, omega arith, refl, s.requires.starts)
 
 pub mark_in-next-requires : goal.mark_in-next-requires
-mark_in-next-requires c = 
+mark_in-next-requires c =
     let l = c.loop-e in
     let s = c in record {
       opened = s.requires.opened;
@@ -31,7 +23,7 @@ mark_in-next-requires c =
     }
 
 pub returns-then-next : goal.returns-then-next
-returns-then-next c = 
+returns-then-next c =
     let l = c.loop-e in
     let a = c.args in record {
       passed = record {
@@ -43,7 +35,7 @@ returns-then-next c =
     }
 
 pub loop-e-preserved : goal.loop-e-preserved
-loop-e-preserved c = 
+loop-e-preserved c =
     let l = c.loop-e in
     let a = c.args in
     let m = c.mark_in-next in (
@@ -56,7 +48,7 @@ loop-e-preserved c =
     )
 
 pub returns : goal.returns
-returns c = 
+returns c =
     let l = c.loop-e in
     let a = c.args in
     let e : l.e ≡ a.to = omega arith in record {

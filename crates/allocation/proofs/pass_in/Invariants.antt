@@ -1,19 +1,15 @@
 -- `allocation::pass_in` meets its contract. The loop's invariant: the search for fault 25 has passed the extents below e, and the
 -- marks are those of these extents.
 use Prim.Native.Nat.{ℕ, ◌-◌, ◌≤◌}
-use mathlib.Core.Path.{◌≡◌, refl, sym, ◌∙◌}
+use mathlib.Core.Path.{◌≡◌}
 use mathlib.Core.Bool.{Bool}
 use mathlib.Core.List.{List}
-use native.Mathlib.Omega.{arith}
 use lib.ListN.{length, drop}
 use Rattle.model.specs.Search.{scan}
 use Rattle.model.specs.Disk.{view}
 use Rattle.model.specs.Catalogue.{catalogue_of}
 use Rattle.model.specs.Faults.{fault25}
-use Rattle.laws.proofs.Search.{scan-here, scan-next, scan-end}
-use Rattle.laws.proofs.Seeking.{at-nowhere}
 use Rattle.allocation.specs.Marks.{Starts, Marks}
-use Rattle.allocation.proofs.Marks.{starts-down}
 use Rattle.allocation.proofs.pass_in.Given as goal
 
 abbrev pub hit : List ℕ → ℕ → Bool

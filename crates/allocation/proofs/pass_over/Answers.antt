@@ -1,25 +1,18 @@
 -- `allocation::pass_over` meets its contract. The loop's invariant: the search for fault 25 has passed the extents below e, and the
 -- marks are those of these extents.
-use Prim.Native.Nat.{ℕ, ◌+◌, ◌-◌, ◌≤◌}
+use Prim.Native.Nat.{◌+◌, ◌-◌}
 use mathlib.Core.Path.{◌≡◌, refl, sym, ◌∙◌}
-use mathlib.Core.Bool.{Bool}
-use mathlib.Core.List.{List}
 use native.Mathlib.Omega.{arith}
-use lib.ListN.{length}
 use Rattle.model.specs.Disk.{view}
-use Rattle.model.specs.Catalogue.{catalogue_of}
-use Rattle.model.specs.Faults.{fault25}
-use Rattle.laws.proofs.Seeking.{at-nowhere, Seeking, seek-start, seek_found, seek-over}
-use Rattle.allocation.specs.Marks.{Marks}
+use Rattle.laws.proofs.Seeking.{at-nowhere, seek-start, seek_found, seek-over}
 use Rattle.allocation.proofs.Marks.{starts-down}
 use Rattle.allocation.proofs.pass_over.Goals as goal
-use Rattle.allocation.proofs.pass_over.Invariants.{hit}
 
 pub loop-e-init : goal.loop-e-init
 loop-e-init c = (omega arith, refl, c.requires.marks, seek-start)
 
 pub pass_sector-p-requires : goal.pass_sector-p-requires
-pass_sector-p-requires c = 
+pass_sector-p-requires c =
     let l = c.loop-e in
     let s = c in
     let a = s.args in record {
@@ -30,7 +23,7 @@ pass_sector-p-requires c =
     }
 
 pub returns-in-At : goal.returns-in-At
-returns-in-At c = 
+returns-in-At c =
     let l = c.loop-e in
     let z : l.e + 128 - l.e ≡ 128 = omega arith in record {
       found = seek_found l.invariant.3 128 c.loop-e-test.true
@@ -40,7 +33,7 @@ returns-in-At c =
     }
 
 pub loop-e-preserved : goal.loop-e-preserved
-loop-e-preserved c = 
+loop-e-preserved c =
     let l = c.loop-e in
     let p = c.pass_sector-p in
     let none = c.in_default.is in
@@ -52,7 +45,7 @@ loop-e-preserved c =
     )
 
 pub pass_part-requires : goal.pass_part-requires
-pass_part-requires c = 
+pass_part-requires c =
     let l = c.loop-e in
     let s = c in
     let a = s.args in record {
@@ -63,7 +56,7 @@ pass_part-requires c =
     }
 
 pub returns : goal.returns
-returns c = 
+returns c =
     let l = c.loop-e in
     let p = c.pass_part.ensures in record {
       found = p.found ∙ l.invariant.3.rest;

@@ -1,17 +1,15 @@
 -- `allocation::pass_over` meets its contract. The loop's invariant: the search for fault 25 has passed the extents below e, and the
 -- marks are those of these extents.
-use Prim.Native.Nat.{ℕ, ◌+◌, ◌-◌, ◌≤◌}
-use mathlib.Core.Path.{◌≡◌, refl, sym, ◌∙◌}
+use Prim.Native.Nat.{ℕ, ◌-◌, ◌≤◌}
+use mathlib.Core.Path.{◌≡◌}
 use mathlib.Core.Bool.{Bool}
 use mathlib.Core.List.{List}
-use native.Mathlib.Omega.{arith}
 use lib.ListN.{length}
 use Rattle.model.specs.Disk.{view}
 use Rattle.model.specs.Catalogue.{catalogue_of}
 use Rattle.model.specs.Faults.{fault25}
-use Rattle.laws.proofs.Seeking.{at-nowhere, Seeking, seek-start, seek_found, seek-over}
+use Rattle.laws.proofs.Seeking.{Seeking}
 use Rattle.allocation.specs.Marks.{Marks}
-use Rattle.allocation.proofs.Marks.{starts-down}
 use Rattle.allocation.proofs.pass_over.Given as goal
 
 abbrev pub hit : List ℕ → ℕ → Bool

@@ -1,18 +1,10 @@
 -- `allocation::pass_part` meets its contract. The loop's invariant: the search for fault 25 has passed the extents below e, and the
 -- marks are those of these extents.
-use Prim.Native.Nat.{ℕ, ◌-◌, ◌≤◌}
 use mathlib.Core.Path.{◌≡◌, refl, sym, ◌∙◌}
-use mathlib.Core.Bool.{Bool}
-use mathlib.Core.List.{List}
 use native.Mathlib.Omega.{arith}
-use lib.ListN.{length}
-use Rattle.model.specs.Search.{scan}
 use Rattle.model.specs.Disk.{view}
-use Rattle.model.specs.Catalogue.{catalogue_of}
-use Rattle.model.specs.Faults.{fault25}
 use Rattle.laws.proofs.Search.{scan-here, scan-next, scan-end}
 use Rattle.laws.proofs.Seeking.{at-nowhere}
-use Rattle.allocation.specs.Marks.{Marks}
 use Rattle.allocation.proofs.Marks.{starts-down}
 use Rattle.allocation.proofs.pass_part.Goals as goal
 use Rattle.allocation.proofs.pass_part.Invariants.{hit}
@@ -21,7 +13,7 @@ pub loop-e-init : goal.loop-e-init
 loop-e-init c = let s = c in (omega arith, refl, s.requires.marks, omega arith, refl)
 
 pub mark-next-requires : goal.mark-next-requires
-mark-next-requires c = 
+mark-next-requires c =
     let l = c.loop-e in
     let s = c in
     let a = s.args in record {
@@ -32,7 +24,7 @@ mark-next-requires c =
     }
 
 pub returns-then-next : goal.returns-then-next
-returns-then-next c = 
+returns-then-next c =
     let l = c.loop-e in
     let a = c.args in record {
       found = sym (scan-here (hit a.img.now) a.to l.e (omega arith) (sym c.mark-next.ensures.misplaced_value ∙ c.if-next.true)) ∙ l.invariant.4;
@@ -41,7 +33,7 @@ returns-then-next c =
     }
 
 pub loop-e-preserved : goal.loop-e-preserved
-loop-e-preserved c = 
+loop-e-preserved c =
     let l = c.loop-e in
     let a = c.args in
     let m = c.mark-next in (
@@ -53,7 +45,7 @@ loop-e-preserved c =
     )
 
 pub returns : goal.returns
-returns c = 
+returns c =
     let l = c.loop-e in
     let a = c.args in
     let e : l.e ≡ a.to = omega arith in record {

@@ -14,7 +14,7 @@ use Rattle.allocation.proofs.Misplaced.{free-sound}
 use Rattle.allocation.proofs.pass_sector.Goals as goal
 
 pub returns-then-all_free : goal.returns-then-all_free
-returns-then-all_free c = 
+returns-then-all_free c =
     let s = c in
     let a = s.args in
     let d = view a.img.now in
@@ -30,8 +30,8 @@ returns-then-all_free c =
 
 pub pass_part-requires : goal.pass_part-requires
 pass_part-requires c = let s = c in record {
-      opened = s.requires.opened;
-      from_le_to = (omega arith, s.requires.e_bound);
-      starts = s.requires.starts;
-      marks = s.requires.marks;
-    }
+  opened = s.requires.opened;
+  from_le_to = (omega arith, s.requires.e_bound);
+  starts = s.requires.starts;
+  marks = s.requires.marks;
+}

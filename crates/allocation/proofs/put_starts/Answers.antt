@@ -1,8 +1,8 @@
 -- `allocation::put_starts` meets its contract. As `fill_starts`; no number behind the starts is stored.
-use Prim.Native.Nat.{ℕ, ◌+◌, ◌-◌, ◌≤◌, ◌<◌}
+use Prim.Native.Nat.{◌+◌}
 use mathlib.Core.Path.{◌≡◌, refl, ◌∙◌}
 use native.Mathlib.Omega.{arith}
-use lib.ListN.{length, get_or, drop, length-set}
+use lib.ListN.{length-set}
 use lib.Seq.{drop-set-lt}
 use Rattle.model.specs.Disk.{view}
 use Rattle.laws.proofs.Bytes.{set_next}
@@ -15,7 +15,7 @@ unfolding start_of sum_to
 loop-i-init c = (omega arith, refl, refl, omega arith, λ j l. absurd (omega arith), refl)
 
 pub returns-then-g-end : goal.returns-then-g-end
-returns-then-g-end c = 
+returns-then-g-end c =
     let l = c.loop-i in
     let a = c.args in
     let h = start_of a.g (view a.img.now) in record {
@@ -30,7 +30,7 @@ returns-then-g-end c =
     }
 
 pub loop-i-preserved : goal.loop-i-preserved
-loop-i-preserved c = 
+loop-i-preserved c =
     let l = c.loop-i in
     let a = c.args in
     let h = start_of a.g (view a.img.now) in (
@@ -43,7 +43,7 @@ loop-i-preserved c =
     )
 
 pub returns : goal.returns
-returns c = 
+returns c =
     let l = c.loop-i in
     let a = c.args in
     let e : l.i ≡ a.g.files = omega arith in

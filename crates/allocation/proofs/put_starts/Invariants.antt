@@ -1,13 +1,9 @@
 -- `allocation::put_starts` meets its contract. As `fill_starts`; no number behind the starts is stored.
 use Prim.Native.Nat.{ℕ, ◌+◌, ◌-◌, ◌≤◌, ◌<◌}
-use mathlib.Core.Path.{◌≡◌, refl, ◌∙◌}
-use native.Mathlib.Omega.{arith}
-use lib.ListN.{length, get_or, drop, length-set}
-use lib.Seq.{drop-set-lt}
+use mathlib.Core.Path.{◌≡◌}
+use lib.ListN.{length, get_or, drop}
 use Rattle.model.specs.Disk.{view}
-use Rattle.laws.proofs.Bytes.{set_next}
-use Rattle.allocation.specs.Marks.{sum_to, start_of}
-use Rattle.allocation.proofs.Marks.{start-next}
+use Rattle.allocation.specs.Marks.{start_of}
 use Rattle.allocation.proofs.put_starts.Given as goal
 
 abbrev pub invariant-loop-i : goal.invariant-loop-i

@@ -1,13 +1,9 @@
 -- `commit::entries_in` meets its contract. The loop's invariant: the first i entries are put in.
-use mathlib.Core.Path.{◌≡◌, refl}
+use mathlib.Core.Path.{◌≡◌}
 use Prim.Native.Nat.{◌-◌, ◌≤◌}
-use native.Mathlib.Omega.{arith}
 use lib.ListN.{length, get_or}
-use Rattle.model.specs.Bytes.{zero_sector}
 use Rattle.model.specs.Journal.{entries_in}
 use Rattle.model.specs.WriteList.{stage_in}
-use Rattle.commit.proofs.Turns.{entries-more}
-use borrow.Author.Rules.{rules}
 use Rattle.commit.proofs.entries_in.Given as goal
 
 abbrev pub invariant-loop-i : goal.invariant-loop-i

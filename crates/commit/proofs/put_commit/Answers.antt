@@ -10,14 +10,14 @@ use Rattle.commit.proofs.put_commit.Goals as goal
 
 pub put_journal-k1-requires : goal.put_journal-k1-requires
 put_journal-k1-requires c = record {
-      stages = c.requires.stages;
-      record_size_in_bounds = search rules;
-      bounded = search rules;
-      n_bound = search rules;
-    }
+  stages = c.requires.stages;
+  record_size_in_bounds = search rules;
+  bounded = search rules;
+  n_bound = search rules;
+}
 
 pub put_superblock-requires : goal.put_superblock-requires
-put_superblock-requires c = 
+put_superblock-requires c =
     let c5 = c in
     let c4 = c5 in
     let c3 = c4 in
@@ -31,7 +31,7 @@ put_superblock-requires c =
     }
 
 pub returns : goal.returns
-returns c = 
+returns c =
     let c6 = c in
     let c5 = c6 in
     let c4 = c5 in

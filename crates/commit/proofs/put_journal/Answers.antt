@@ -1,11 +1,9 @@
 -- `commit::put_journal` meets its contract. The loop's invariant: the first j journal sectors are emitted.
 use mathlib.Core.Path.{◌≡◌, refl}
-use Prim.Native.Nat.{◌+◌, ◌-◌, ◌/◌, ◌≤◌}
+use Prim.Native.Nat.{◌+◌, ◌/◌}
 use native.Mathlib.Nat.{add-zero}
 use native.Mathlib.Omega.{arith}
-use lib.ListN.{length}
 use Rattle.model.specs.Search.{tabulate}
-use Rattle.model.specs.WriteList.{Emitted}
 use Rattle.laws.proofs.WriteList.{emitted-none}
 use Rattle.commit.proofs.Records.{emitted-more}
 use Rattle.commit.proofs.Turns.{journal_record, journal-staged}
@@ -18,13 +16,13 @@ loop-j-init c = (omega arith, rw add-zero (emitted-none _ _), refl)
 
 pub journal_sector-s-requires : goal.journal_sector-s-requires
 journal_sector-s-requires c = record {
-      stages = c.requires.stages;
-      bounded = search rules;
-      n_bound = search rules;
-    }
+  stages = c.requires.stages;
+  bounded = search rules;
+  n_bound = search rules;
+}
 
 pub loop-j-preserved : goal.loop-j-preserved
-loop-j-preserved c = 
+loop-j-preserved c =
     let b = c in
     let a = b.args in (
       search rules,
@@ -34,7 +32,7 @@ loop-j-preserved c =
     )
 
 pub returns : goal.returns
-returns c = 
+returns c =
     let a = c.args in
     let e : c.loop-j.j ≡ (a.n + 31) / 32 = omega arith in record {
       emitted = rw (journal-staged, ← e) c.loop-j.invariant.1;

@@ -1,15 +1,10 @@
 -- `commit::put_journal` meets its contract. The loop's invariant: the first j journal sectors are emitted.
-use mathlib.Core.Path.{◌≡◌, refl}
-use Prim.Native.Nat.{◌+◌, ◌-◌, ◌/◌, ◌≤◌}
-use native.Mathlib.Nat.{add-zero}
-use native.Mathlib.Omega.{arith}
+use mathlib.Core.Path.{◌≡◌}
+use Prim.Native.Nat.{◌+◌, ◌-◌, ◌≤◌}
 use lib.ListN.{length}
 use Rattle.model.specs.Search.{tabulate}
 use Rattle.model.specs.WriteList.{Emitted}
-use Rattle.laws.proofs.WriteList.{emitted-none}
-use Rattle.commit.proofs.Records.{emitted-more}
-use Rattle.commit.proofs.Turns.{journal_record, journal-staged}
-use borrow.Author.Rules.{rules}
+use Rattle.commit.proofs.Turns.{journal_record}
 use Rattle.commit.proofs.put_journal.Given as goal
 
 abbrev pub invariant-loop-j : goal.invariant-loop-j

@@ -11,23 +11,23 @@ use Rattle.commit.proofs.put_one_target.Goals as goal
 
 pub put_copy-k-requires : goal.put_copy-k-requires
 put_copy-k-requires c = record {
-      stages = c.requires.stages_of.inside;
-      record_size_in_bounds = search rules;
-      bounded = search rules;
-      j_bound = search rules;
-    }
+  stages = c.requires.stages_of.inside;
+  record_size_in_bounds = search rules;
+  bounded = search rules;
+  j_bound = search rules;
+}
 
 pub put_commit-requires : goal.put_commit-requires
 put_commit-requires c = record {
-      stages = c.requires.stages_of.inside;
-      record_size_in_bounds = search rules;
-      in_bounds = search rules;
-      bounded = search rules;
-      n_bound = search rules;
-    }
+  stages = c.requires.stages_of.inside;
+  record_size_in_bounds = search rules;
+  in_bounds = search rules;
+  bounded = search rules;
+  n_bound = search rules;
+}
 
 pub returns : goal.returns
-returns c = 
+returns c =
     let m = c in
     let p = m in
     let s = p in

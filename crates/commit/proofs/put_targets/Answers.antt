@@ -1,11 +1,8 @@
 -- `commit::put_targets` meets its contract. The loop's invariant: the first j targets are emitted, with their copies' contents.
 use mathlib.Core.Path.{◌≡◌, refl}
-use Prim.Native.Nat.{◌+◌, ◌-◌, ◌≤◌}
 use native.Mathlib.Nat.{add-zero}
 use native.Mathlib.Omega.{arith}
-use lib.ListN.{length}
 use Rattle.model.specs.Search.{tabulate}
-use Rattle.model.specs.WriteList.{Emitted}
 use Rattle.laws.proofs.WriteList.{emitted-none}
 use Rattle.commit.specs.Commit.{staged_targets}
 use Rattle.commit.proofs.Turns.{targets-more}
@@ -17,13 +14,13 @@ unfolding staged_targets tabulate
 loop-j-init c = (omega arith, rw add-zero (emitted-none _ _), refl)
 
 pub loop-j-preserved : goal.loop-j-preserved
-loop-j-preserved c = 
+loop-j-preserved c =
     let b = c in
     let a = b.args in
     (search rules, targets-more a.from a.numbers.now b.loop-j.j b.loop-j.invariant.1 (search rules) c.put_target.ensures, search rules)
 
 pub returns : goal.returns
-returns c = 
+returns c =
     let e : c.loop-j.j ≡ c.args.n = omega arith in record {
       emitted = rw (← e) c.loop-j.invariant.1;
       value = refl;

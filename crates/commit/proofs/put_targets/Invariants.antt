@@ -1,15 +1,9 @@
 -- `commit::put_targets` meets its contract. The loop's invariant: the first j targets are emitted, with their copies' contents.
-use mathlib.Core.Path.{◌≡◌, refl}
+use mathlib.Core.Path.{◌≡◌}
 use Prim.Native.Nat.{◌+◌, ◌-◌, ◌≤◌}
-use native.Mathlib.Nat.{add-zero}
-use native.Mathlib.Omega.{arith}
 use lib.ListN.{length}
-use Rattle.model.specs.Search.{tabulate}
 use Rattle.model.specs.WriteList.{Emitted}
-use Rattle.laws.proofs.WriteList.{emitted-none}
 use Rattle.commit.specs.Commit.{staged_targets}
-use Rattle.commit.proofs.Turns.{targets-more}
-use borrow.Author.Rules.{rules}
 use Rattle.commit.proofs.put_targets.Given as goal
 
 abbrev pub invariant-loop-j : goal.invariant-loop-j

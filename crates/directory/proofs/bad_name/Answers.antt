@@ -5,7 +5,7 @@ use Rattle.directory.proofs.bad_name.Goals as goal
 
 pub returns-then-n-longest_name : goal.returns-then-n-longest_name
 unfolding bad_name
-returns-then-n-longest_name c = 
+returns-then-n-longest_name c =
     let d = c in
     rw (le-leb _ _ d.if-n-ge1.true, ← d.longest_name.ensures, le-leb _ _ c.if-n-longest_name.true) c.has_zero.ensures
 

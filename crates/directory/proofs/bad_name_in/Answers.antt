@@ -7,12 +7,12 @@ use Rattle.laws.proofs.Entry.{length-name_in, long-name}
 use Rattle.directory.proofs.bad_name_in.Goals as goal
 
 pub returns-then-name_length-longest_name : goal.returns-then-name_length-longest_name
-returns-then-name_length-longest_name c = 
+returns-then-name_length-longest_name c =
     let edition = c.args.edition in
     c.bad_name.ensures ∙ ap (bad_name edition) c.name.ensures
 
 pub returns : goal.returns
-returns c = 
+returns c =
     let d = c in
     let s = d.args.s.now in
     let edition = d.args.edition in

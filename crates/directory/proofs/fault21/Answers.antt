@@ -1,10 +1,7 @@
 -- `directory::fault21` meets its contract. The loop's invariant: the search has passed the entries below i.
 use borrow.Author.Rules.{rules}
-use Prim.Native.Nat.{◌-◌}
 use mathlib.Core.Path.{sym, ◌∙◌}
-use Rattle.model.specs.Disk.{view}
-use Rattle.model.specs.Faults.{fault21}
-use Rattle.laws.proofs.Seeking.{Seeking, seek-start, seek-here, seek-next, seek-end}
+use Rattle.laws.proofs.Seeking.{seek-start, seek-here, seek-next, seek-end}
 use Rattle.directory.proofs.fault21.Goals as goal
 
 pub loop-i-init : goal.loop-i-init

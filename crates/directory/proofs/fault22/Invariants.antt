@@ -1,10 +1,8 @@
 -- `directory::fault22` meets its contract. The loop's invariant: the search for a bad entry has passed the entries below i.
-use borrow.Author.Rules.{rules}
 use Prim.Native.Nat.{◌-◌}
-use mathlib.Core.Path.{sym, ◌∙◌}
 use Rattle.model.specs.Disk.{view}
-use Rattle.laws.proofs.Seeking.{Seeking, seek-start, seek-here, seek-next, seek-end}
-use Rattle.directory.proofs.Laws.{is_bad, fault22-on}
+use Rattle.laws.proofs.Seeking.{Seeking}
+use Rattle.directory.proofs.Laws.{is_bad}
 use Rattle.directory.proofs.fault22.Given as goal
 
 abbrev pub invariant-loop-i : goal.invariant-loop-i

@@ -1,15 +1,8 @@
 -- `directory::file_named_between` meets its contract. The loop's invariant: the search from i on finds what the search from `from` on does.
 use borrow.Author.Rules.{rules}
-use Prim.Native.Nat.{ℕ, ◌-◌, ◌≤◌}
-use mathlib.Core.Path.{◌≡◌, refl, sym, ◌∙◌}
-use mathlib.Core.Bool.{Bool}
-use mathlib.Core.List.{List}
+use mathlib.Core.Path.{refl, sym, ◌∙◌}
 use native.Mathlib.Omega.{arith}
-use Rattle.model.specs.Search.{scan}
-use Rattle.model.specs.Geometry.{entry_at}
-use Rattle.model.specs.Disk.{view}
 use Rattle.laws.proofs.Search.{scan-here, scan-next, scan-end}
-use Rattle.directory.specs.Named.{is_named}
 use Rattle.directory.proofs.file_named_between.Goals as goal
 use Rattle.directory.proofs.file_named_between.Invariants.{hit}
 
@@ -17,13 +10,13 @@ pub loop-i-init : goal.loop-i-init
 loop-i-init c = (search rules, refl)
 
 pub returns-then-has_name : goal.returns-then-has_name
-returns-then-has_name c = 
+returns-then-has_name c =
     let l = c in
     let a = l.args in
     sym (scan-here (hit a.img.now a.g.edition a.name.now) a.to l.loop-i.i (search rules) (sym c.has_name.ensures ∙ c.if-has_name.true)) ∙ l.loop-i.invariant.1
 
 pub loop-i-preserved : goal.loop-i-preserved
-loop-i-preserved c = 
+loop-i-preserved c =
     let l = c in
     let a = l.args in (
       omega arith,
@@ -31,7 +24,7 @@ loop-i-preserved c =
     )
 
 pub returns : goal.returns
-returns c = 
+returns c =
     let l = c in
     let a = l.args in
     sym (scan-end (hit a.img.now a.g.edition a.name.now) a.to l.loop-i.i (search rules)) ∙ l.loop-i.invariant.1

@@ -1,14 +1,11 @@
 -- `directory::file_named_between` meets its contract. The loop's invariant: the search from i on finds what the search from `from` on does.
-use borrow.Author.Rules.{rules}
 use Prim.Native.Nat.{ℕ, ◌-◌, ◌≤◌}
-use mathlib.Core.Path.{◌≡◌, refl, sym, ◌∙◌}
+use mathlib.Core.Path.{◌≡◌}
 use mathlib.Core.Bool.{Bool}
 use mathlib.Core.List.{List}
-use native.Mathlib.Omega.{arith}
 use Rattle.model.specs.Search.{scan}
 use Rattle.model.specs.Geometry.{entry_at}
 use Rattle.model.specs.Disk.{view}
-use Rattle.laws.proofs.Search.{scan-here, scan-next, scan-end}
 use Rattle.directory.specs.Named.{is_named}
 use Rattle.directory.proofs.file_named_between.Given as goal
 

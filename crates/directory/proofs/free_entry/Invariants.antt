@@ -1,12 +1,10 @@
 -- `directory::free_entry` meets its contract. The loop's invariant: the search for a free entry has passed the entries below i.
-use borrow.Author.Rules.{rules}
 use Prim.Native.Nat.{◌-◌}
 use mathlib.Core.Bool.{not}
 use Rattle.model.specs.Geometry.{entry_at}
 use Rattle.model.specs.Disk.{view}
 use Rattle.model.specs.Entry.{is_occupied}
-use Rattle.laws.proofs.Catalogue.{free_on}
-use Rattle.laws.proofs.Seeking.{Seeking, seek-start, seek-here, seek-next, seek-end}
+use Rattle.laws.proofs.Seeking.{Seeking}
 use Rattle.directory.proofs.free_entry.Given as goal
 
 abbrev pub invariant-loop-i : goal.invariant-loop-i

@@ -1,16 +1,9 @@
 -- `directory::has_id` meets its contract. The loop's invariant: none of the entries passed is occupied and has the id.
 use borrow.Author.Rules.{rules}
-use Prim.Native.Nat.{ℕ, ◌-◌, ◌≤◌}
 use mathlib.Core.Path.{◌≡◌, refl, sym, ◌∙◌}
-use mathlib.Core.Bool.{Bool, false, ◌&&◌}
-use mathlib.Core.List.{List}
 use native.Mathlib.Omega.{arith}
-use lib.Dec.{eqb}
-use Rattle.model.specs.Bytes.{number_in}
 use Rattle.model.specs.Search.{any_below}
-use Rattle.model.specs.Geometry.{entry_at}
 use Rattle.model.specs.Disk.{view}
-use Rattle.model.specs.Entry.{entry_field, is_occupied}
 use Rattle.laws.proofs.Search.{any_below-more, any_below-true}
 use Rattle.directory.proofs.Laws.{id-on}
 use Rattle.directory.proofs.has_id.Goals as goal
@@ -21,7 +14,7 @@ unfolding any_below
 loop-i-init c = (search rules, refl)
 
 pub returns-then-has_id_at : goal.returns-then-has_id_at
-returns-then-has_id_at c = 
+returns-then-has_id_at c =
     let b = c in
     let s = b in
     let a = s.args in
@@ -29,12 +22,12 @@ returns-then-has_id_at c =
     (sym (any_below-true (hit a.img.now a.id) b.loop-i.i a.g.files (search rules) (sym c.has_id_at.ensures ∙ c.if-has_id_at.true)))
 
 pub loop-i-preserved : goal.loop-i-preserved
-loop-i-preserved c = 
+loop-i-preserved c =
     let b = c in
     (search rules, rw (any_below-more, ← c.has_id_at.ensures, c.if-has_id_at.false) b.loop-i.invariant.1)
 
 pub returns : goal.returns
-returns c = 
+returns c =
     let s = c in
     let a = s.args in
     let e : c.loop-i.i ≡ a.g.files = omega arith in

@@ -1,18 +1,14 @@
 -- `directory::has_id` meets its contract. The loop's invariant: none of the entries passed is occupied and has the id.
-use borrow.Author.Rules.{rules}
 use Prim.Native.Nat.{ℕ, ◌-◌, ◌≤◌}
-use mathlib.Core.Path.{◌≡◌, refl, sym, ◌∙◌}
+use mathlib.Core.Path.{◌≡◌}
 use mathlib.Core.Bool.{Bool, false, ◌&&◌}
 use mathlib.Core.List.{List}
-use native.Mathlib.Omega.{arith}
 use lib.Dec.{eqb}
 use Rattle.model.specs.Bytes.{number_in}
 use Rattle.model.specs.Search.{any_below}
 use Rattle.model.specs.Geometry.{entry_at}
 use Rattle.model.specs.Disk.{view}
 use Rattle.model.specs.Entry.{entry_field, is_occupied}
-use Rattle.laws.proofs.Search.{any_below-more, any_below-true}
-use Rattle.directory.proofs.Laws.{id-on}
 use Rattle.directory.proofs.has_id.Given as goal
 
 abbrev pub hit : List ℕ → ℕ → ℕ → Bool

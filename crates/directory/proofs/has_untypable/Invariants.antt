@@ -1,14 +1,11 @@
 -- `directory::has_untypable` meets its contract. The loop's invariant: every byte passed can be typed.
 use Prim.Native.Nat.{ℕ, ◌-◌, ◌≤◌}
-use mathlib.Core.Path.{◌≡◌, refl, sym, ◌∙◌}
+use mathlib.Core.Path.{◌≡◌}
 use mathlib.Core.Bool.{Bool, false, not}
 use mathlib.Core.List.{List}
-use native.Mathlib.Omega.{arith}
 use lib.ListN.{length, get_or}
 use Rattle.model.specs.Search.{any_below}
 use Rattle.model.specs.Entry.{is_typable}
-use Rattle.laws.proofs.Search.{any_below-more, any_below-true}
-use borrow.Author.Rules.{rules}
 use Rattle.directory.proofs.has_untypable.Given as goal
 
 abbrev pub hit : List ℕ → ℕ → Bool

@@ -13,7 +13,7 @@ use Rattle.directory.proofs.is_named.Goals as goal
 
 pub returns-then-name_length-name : goal.returns-then-name_length-name
 unfolding name_in
-returns-then-name_length-name c = 
+returns-then-name_length-name c =
     let d = c in
     let o = d in
     let s = o.args.s.now in
@@ -25,7 +25,7 @@ returns-then-name_length-name c =
     c.starts_with.ensures
 
 pub returns-then-is_occupied : goal.returns-then-is_occupied
-returns-then-is_occupied c = 
+returns-then-is_occupied c =
     let d = c in
     let o = d in
     let s = o.args.s.now in

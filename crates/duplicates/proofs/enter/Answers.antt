@@ -10,7 +10,7 @@ pub overflow_add-chains : goal.overflow_add-chains
 overflow_add-chains c = let a = c.args in omega (arith, c.items_fit a.i, c.items_fit a.b)
 
 pub returns : goal.returns
-returns c = 
+returns c =
     let s = c in
     let a = s.args in
     entered a.chains.now a.i a.b s.requires.1 s.requires.0 (omega (arith, c.items_fit a.b))

@@ -5,13 +5,13 @@ use Rattle.duplicates.proofs.Keys.{names-faulty, names-fit}
 use Rattle.duplicates.proofs.fault23.Goals as goal
 
 pub first_faulty-requires : goal.first_faulty-requires
-first_faulty-requires c = 
+first_faulty-requires c =
     let s = c in record {
       opened = s.requires.opened;
       keys_fit = rw s.requires.opened.is (names-fit (view s.args.img.now) (rw s.requires.opened.is at s.requires.files_value));
     }
 
 pub returns : goal.returns
-returns c = 
+returns c =
     let s = c in
     rw s.requires.opened.is (rw s.requires.opened.is at c.first_faulty.ensures ∙ sym (names-faulty (view s.args.img.now)))

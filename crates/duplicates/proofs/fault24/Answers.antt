@@ -5,6 +5,6 @@ use Rattle.duplicates.proofs.Keys.{ids-faulty}
 use Rattle.duplicates.proofs.fault24.Goals as goal
 
 pub returns : goal.returns
-returns c = 
+returns c =
     let s = c in
     rw s.requires.is (rw s.requires.is at c.first_faulty.ensures ∙ sym (ids-faulty (view s.args.img.now)))

@@ -3,7 +3,7 @@ use native.Mathlib.Omega.{arith}
 use Rattle.duplicates.proofs.first_cleared.Goals as goal
 
 pub first_in-requires : goal.first_in-requires
-first_in-requires c = 
+first_in-requires c =
     let s = c in
     let k = c.clear in record {
       opened = s.requires.opened;

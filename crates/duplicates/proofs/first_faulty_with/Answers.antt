@@ -4,7 +4,7 @@ use lib.ListN.{length-take, length-drop}
 use Rattle.duplicates.proofs.first_faulty_with.Goals as goal
 
 pub first_cleared-requires : goal.first_cleared-requires
-first_cleared-requires c = 
+first_cleared-requires c =
     let s = c in
     let e = c.least-n.ensures in record {
       opened = s.requires.opened;

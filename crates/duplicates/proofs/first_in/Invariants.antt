@@ -1,15 +1,12 @@
 -- `duplicates::first_in` meets its contract. The loop's invariant: the search has passed the entries below i, and the chains are
 -- those of these entries.
-use borrow.Author.Rules.{rules}
 use Prim.Native.Nat.{◌-◌}
-use mathlib.Core.Path.{◌≡◌, refl, sym, ◌∙◌}
-use native.Mathlib.Omega.{arith}
+use mathlib.Core.Path.{◌≡◌}
 use lib.ListN.{length}
 use Rattle.model.specs.Disk.{view}
-use Rattle.laws.proofs.Seeking.{Seeking, seek-start, seek-here, seek-next, seek-end}
+use Rattle.laws.proofs.Seeking.{Seeking}
 use Rattle.duplicates.specs.Keys.{is_faulty}
 use Rattle.duplicates.specs.Chains.{Chained}
-use Rattle.duplicates.proofs.Chained.{chained-none}
 use Rattle.duplicates.proofs.first_in.Given as goal
 
 abbrev pub invariant-loop-i : goal.invariant-loop-i

@@ -6,7 +6,7 @@ use Rattle.laws.proofs.Bytes.{zeros-at}
 use Rattle.duplicates.proofs.first_of_few.Goals as goal
 
 pub first_in-requires : goal.first_in-requires
-first_in-requires c = 
+first_in-requires c =
     let s = c in
     let n = length-replicate {A = ℕ} 1024 0 in record {
       opened = s.requires.opened;

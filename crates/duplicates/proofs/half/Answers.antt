@@ -6,6 +6,6 @@ use Rattle.duplicates.proofs.half.Goals as goal
 pub returns : goal.returns
 unfolding half_at
 returns c = record {
-      value = search rules;
-      upper_bound = search rules;
-    }
+  value = search rules;
+  upper_bound = search rules;
+}

@@ -13,14 +13,14 @@ use Rattle.duplicates.proofs.is_faulty.Goals as goal
 
 pub returns-then-is_reserved : goal.returns-then-is_reserved
 unfolding is_faulty
-returns-then-is_reserved c = 
+returns-then-is_reserved c =
     let o = c in record {
       value = rw (← o.is_occupied.ensures, c.if-is_occupied.true, ← c.is_reserved.ensures, c.if-is_reserved.true);
       chained_2 = λ e. absurd (true≢false e);
     }
 
 pub place_of-place-requires : goal.place_of-place-requires
-place_of-place-requires c = 
+place_of-place-requires c =
     let o = c in
     let s = o in record {
       i_in_bounds = s.requires.i_in_bounds;
@@ -29,7 +29,7 @@ place_of-place-requires c =
     }
 
 pub is_repeated-requires : goal.is_repeated-requires
-is_repeated-requires c = 
+is_repeated-requires c =
     let b = c in
     let o = b in
     let s = o in record {
@@ -42,7 +42,7 @@ is_repeated-requires c =
 
 pub returns-then-is_repeated : goal.returns-then-is_repeated
 unfolding is_faulty
-returns-then-is_repeated c = 
+returns-then-is_repeated c =
     let b = c in
     let o = b in record {
       value = rw (← o.is_occupied.ensures, b.if-is_occupied.true, ← b.is_reserved.ensures, b.if-is_reserved.false, ← c.is_repeated.ensures, c.if-is_repeated.true);
@@ -51,7 +51,7 @@ returns-then-is_repeated c =
 
 pub returns-then-is_occupied : goal.returns-then-is_occupied
 unfolding is_faulty
-returns-then-is_occupied c = 
+returns-then-is_occupied c =
     let k = c.join in
     let t = c in
     let b = t in
@@ -68,7 +68,7 @@ returns-then-is_occupied c =
 
 pub returns : goal.returns
 unfolding is_faulty
-returns c = 
+returns c =
     let s = c in
     let a = s.args in
     let d = view a.img.now in

@@ -5,9 +5,8 @@ use mathlib.Core.Path.{sym, ap, ◌∙◌}
 use native.Mathlib.Omega.{arith}
 use lib.ListN.{length}
 use Rattle.model.specs.Disk.{view}
-use Rattle.duplicates.specs.Keys.{shares, is_repeated}
-use Rattle.duplicates.specs.Chains.{member}
-use Rattle.duplicates.proofs.Chains.{Walk, walk_start, walk-found, walk-falls, walk-next, walk_end}
+use Rattle.duplicates.specs.Keys.{is_repeated}
+use Rattle.duplicates.proofs.Chains.{walk_start, walk-found, walk-falls, walk-next, walk_end}
 use Rattle.duplicates.proofs.Keys.{shares-place, shares-member}
 use Rattle.model.specs.Geometry.{entry_at}
 use Rattle.model.specs.Entry.{is_occupied}
@@ -15,7 +14,7 @@ use Rattle.laws.proofs.Booleans.{and_left}
 use Rattle.duplicates.proofs.is_repeated.Goals as goal
 
 pub loop-j-init : goal.loop-j-init
-loop-j-init c = 
+loop-j-init c =
     let s = c in
     let a = s.args in
     let n = length a.chains.now / 2 in
@@ -24,7 +23,7 @@ loop-j-init c =
     rw c.last-j.ensures.value (walk_start only C)
 
 pub is_shared-requires : goal.is_shared-requires
-is_shared-requires c = 
+is_shared-requires c =
     let s = c in
     let a = s.args in
     let d = view a.img.now in
@@ -36,7 +35,7 @@ is_shared-requires c =
       j_in_bounds = omega arith;
       i_value = s.requires.i_value;
       link_value = λ e. s.requires.chained.tags (j - 1) below (and_left (is_occupied (d (entry_at (j - 1)))) _ e)
-              ∙ ap (λ p. p % 256) (shares-place a.key d n a.i (j - 1) e ∙ sym s.requires.place_value);
+          ∙ ap (λ p. p % 256) (shares-place a.key d n a.i (j - 1) e ∙ sym s.requires.place_value);
     }
 
 pub returns-then-is_shared : goal.returns-then-is_shared
@@ -44,7 +43,7 @@ unfolding is_repeated
 returns-then-is_shared c = sym (walk-found c.loop-j.invariant c.loop-j-test.true (sym c.is_shared.ensures ∙ c.if-is_shared.true))
 
 pub loop-j-smaller : goal.loop-j-smaller
-loop-j-smaller c = 
+loop-j-smaller c =
     let s = c in
     let a = s.args in
     let n = length a.chains.now / 2 in
@@ -53,7 +52,7 @@ loop-j-smaller c =
     walk-falls only C c.loop-j.invariant c.loop-j-test.true
 
 pub loop-j-preserved : goal.loop-j-preserved
-loop-j-preserved c = 
+loop-j-preserved c =
     let s = c in
     let a = s.args in
     let n = length a.chains.now / 2 in

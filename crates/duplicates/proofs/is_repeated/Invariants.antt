@@ -1,17 +1,11 @@
 -- `duplicates::is_repeated` meets its contract. The loop's invariant: an occupied entry below i has the key exactly if one below
 -- j has it, and j is 0 or entry j - 1 stands in the bucket.
-use Prim.Native.Nat.{◌-◌, ◌/◌, ◌%◌, ◌<◌}
-use mathlib.Core.Path.{sym, ap, ◌∙◌}
-use native.Mathlib.Omega.{arith}
+use Prim.Native.Nat.{◌/◌}
 use lib.ListN.{length}
 use Rattle.model.specs.Disk.{view}
-use Rattle.duplicates.specs.Keys.{shares, is_repeated}
+use Rattle.duplicates.specs.Keys.{shares}
 use Rattle.duplicates.specs.Chains.{member}
-use Rattle.duplicates.proofs.Chains.{Walk, walk_start, walk-found, walk-falls, walk-next, walk_end}
-use Rattle.duplicates.proofs.Keys.{shares-place, shares-member}
-use Rattle.model.specs.Geometry.{entry_at}
-use Rattle.model.specs.Entry.{is_occupied}
-use Rattle.laws.proofs.Booleans.{and_left}
+use Rattle.duplicates.proofs.Chains.{Walk}
 use Rattle.duplicates.proofs.is_repeated.Given as goal
 
 abbrev pub invariant-loop-j : goal.invariant-loop-j

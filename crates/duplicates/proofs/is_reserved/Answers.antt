@@ -4,6 +4,6 @@ use Rattle.duplicates.specs.declared.Key.TheVariants.{Id}
 use Rattle.duplicates.proofs.is_reserved.Goals as goal
 
 pub returns-in-Id : goal.returns-in-Id
-returns-in-Id c = 
+returns-in-Id c =
     let is : c.args.key ≡ Id = c.in-Id.is in
     rw is c.is_reserved_id.ensures

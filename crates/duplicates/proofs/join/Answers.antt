@@ -6,7 +6,7 @@ use Rattle.duplicates.specs.Chains.{last_in}
 use Rattle.duplicates.proofs.join.Goals as goal
 
 pub returns : goal.returns
-returns c = 
+returns c =
     let t2 = c.put_top-2 in
     let t1 = c.put_top in
     let k = c.put_link in

@@ -8,12 +8,12 @@ pub overflow_mul-result-3 : goal.overflow_mul-result-3
 overflow_mul-result-3 c = omega (arith, c.type_inv.chains (2 * c.args.b + 1))
 
 pub overflow_add-result-2 : goal.overflow_add-result-2
-overflow_add-result-2 c = 
+overflow_add-result-2 c =
     let b = c.args.b in
     omega (arith, c.type_inv.chains (2 * b), c.type_inv.chains (2 * b + 1))
 
 pub returns : goal.returns
-returns c = 
+returns c =
     let b = c.args.b in record {
       value = refl;
       upper_bound = omega (arith, c.type_inv.chains (2 * b), c.type_inv.chains (2 * b + 1));

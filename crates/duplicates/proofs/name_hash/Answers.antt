@@ -1,6 +1,6 @@
 -- `duplicates::name_hash` meets its contract. The loop's invariant: `sum` is that of the first i words.
 use borrow.Author.Rules.{rules}
-use Prim.Native.Nat.{◌-◌, ◌*◌, ◌/◌, ◌≤◌}
+use Prim.Native.Nat.{◌/◌}
 use mathlib.Core.Path.{◌≡◌, refl, ◌∙◌}
 use borrow.Author.Tests.{lt-ltb, le-ltb}
 use native.Mathlib.Omega.{arith}
@@ -18,13 +18,13 @@ unfolding words_sum
 loop-i-init c = (search rules, refl, search rules)
 
 pub loop-i-preserved : goal.loop-i-preserved
-loop-i-preserved c = 
+loop-i-preserved c =
     let l = c.loop-i in
     (search rules, rw (words_more, ← l.invariant.1, ← c.part-sum.ensures.value), omega (arith, l.invariant.2, c.part-sum.ensures.upper_bound))
 
 pub returns : goal.returns
 unfolding name_hash
-returns c = 
+returns c =
     let l = c.loop-i in
     let n = length c.args.name.now in
     let e : l.i ≡ n / 8 = omega arith in

@@ -1,12 +1,7 @@
 -- `duplicates::name_hash` meets its contract. The loop's invariant: `sum` is that of the first i words.
-use borrow.Author.Rules.{rules}
-use Prim.Native.Nat.{◌-◌, ◌*◌, ◌/◌, ◌≤◌}
-use mathlib.Core.Path.{◌≡◌, refl, ◌∙◌}
-use borrow.Author.Tests.{lt-ltb, le-ltb}
-use native.Mathlib.Omega.{arith}
-use lib.ListN.{length}
-use Rattle.duplicates.specs.Keys.{words_sum, name_hash}
-use Rattle.duplicates.proofs.Keys.{words_more}
+use Prim.Native.Nat.{◌-◌, ◌*◌, ◌≤◌}
+use mathlib.Core.Path.{◌≡◌}
+use Rattle.duplicates.specs.Keys.{words_sum}
 use Rattle.duplicates.proofs.name_hash.Given as goal
 
 abbrev pub invariant-loop-i : goal.invariant-loop-i

@@ -9,13 +9,13 @@ product : (a b : ℕ) → (a % 4294967296) * (b % 4294967296) ≤ 4294967295 * 4
 product a b = mul-le-mul {n₁ = a % 4294967296} {m₁ = b % 4294967296} {n₂ = 4294967295} {m₂ = 4294967295} (omega arith) (omega arith)
 
 pub overflow_mul-result : goal.overflow_mul-result
-overflow_mul-result c = 
+overflow_mul-result c =
     let k = c.args.k in
     omega (arith, product (c.half.result + (k + 1) * 2654435769) (c.half-2.result + (k + 1) * 2246822519))
 
 pub returns : goal.returns
 unfolding part_at
-returns c = 
+returns c =
     let k = c.args.k in
     let most = product (c.half.result + (k + 1) * 2654435769) (c.half-2.result + (k + 1) * 2246822519) in record {
       value = rw (← c.half.ensures.value, ← c.half-2.ensures.value);

@@ -10,6 +10,6 @@ overflow_mul-result c = omega (arith, mul-le-mul {n₁ = c.key_hash.result} {m�
 
 pub returns : goal.returns
 returns c = record {
-      value = rw (← c.key_hash.ensures);
-      result_bound = place-below c.key_hash.result _ (search rules) (search rules);
-    }
+  value = rw (← c.key_hash.ensures);
+  result_bound = place-below c.key_hash.result _ (search rules) (search rules);
+}

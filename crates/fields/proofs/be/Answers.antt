@@ -1,6 +1,6 @@
 -- `fields::be` meets its contract. The loop's invariant: v is the number of the first i bytes, and below 256 ^ i.
 use mathlib.Core.Path.{◌≡◌, refl, ap, sym, ◌∙◌}
-use Prim.Native.Nat.{ℕ, ◌+◌, ◌-◌, ◌*◌, ◌^◌, ◌≤◌, ◌<◌}
+use Prim.Native.Nat.{ℕ, ◌+◌, ◌*◌, ◌<◌}
 use native.Mathlib.Omega.{arith}
 use lib.ListN.{get_or}
 use Rattle.model.specs.Bytes.{be_at}
@@ -25,14 +25,14 @@ overflow_add-v-in-loop-i c = omega (
 )
 
 pub loop-i-preserved : goal.loop-i-preserved
-loop-i-preserved c = 
+loop-i-preserved c =
     let l = c.loop-i in
     let a = c.args in
     let b : get_or a.s.now (a.at + l.i) 0 < 256 = omega (arith, c.type_inv.s (a.at + l.i)) in
     (omega arith, ap (λ (k : ℕ). k * 256 + get_or a.s.now (a.at + l.i) 0) l.invariant.1 ∙ sym (be_at-more a.s.now a.at l.i), pow_more l.i l.v _ l.invariant.2 b)
 
 pub returns : goal.returns
-returns c = 
+returns c =
     let e : c.loop-i.i ≡ c.args.width = omega arith in record {
       value = rw (← e) c.loop-i.invariant.1;
       upper_bound = rw (← e) c.loop-i.invariant.2;

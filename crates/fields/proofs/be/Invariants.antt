@@ -1,10 +1,7 @@
 -- `fields::be` meets its contract. The loop's invariant: v is the number of the first i bytes, and below 256 ^ i.
-use mathlib.Core.Path.{◌≡◌, refl, ap, sym, ◌∙◌}
-use Prim.Native.Nat.{ℕ, ◌+◌, ◌-◌, ◌*◌, ◌^◌, ◌≤◌, ◌<◌}
-use native.Mathlib.Omega.{arith}
-use lib.ListN.{get_or}
+use mathlib.Core.Path.{◌≡◌}
+use Prim.Native.Nat.{◌-◌, ◌^◌, ◌≤◌, ◌<◌}
 use Rattle.model.specs.Bytes.{be_at}
-use Rattle.laws.proofs.Bytes.{be_at-more, pow_more, pow-seven}
 use Rattle.fields.proofs.be.Given as goal
 
 abbrev pub invariant-loop-i : goal.invariant-loop-i

@@ -1,9 +1,8 @@
 -- `fields::copy_bytes` meets its contract. The loop's invariant: the first i bytes are copied.
 use mathlib.Core.Path.{◌≡◌, refl, sym}
-use Prim.Native.Nat.{◌-◌, ◌≤◌}
 use native.Mathlib.Omega.{arith}
-use lib.ListN.{length, length-set}
-use Rattle.model.specs.Bytes.{bytes_from, put}
+use lib.ListN.{length-set}
+use Rattle.model.specs.Bytes.{bytes_from}
 use Rattle.laws.proofs.Bytes.{bytes_from-more, put-snoc, put-nil, length-bytes_from}
 use Rattle.fields.proofs.copy_bytes.Goals as goal
 
@@ -18,6 +17,6 @@ pub shape_of-dst : goal.shape_of-dst
 shape_of-dst c = c.loop-i.invariant.2
 
 pub returns : goal.returns
-returns c = 
+returns c =
     let e : c.loop-i.i ≡ c.args.n = omega arith in
     rw (← e) c.loop-i.invariant.1

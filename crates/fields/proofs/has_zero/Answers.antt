@@ -1,8 +1,7 @@
 -- `fields::has_zero` meets its contract. The loop's invariant: the least byte is 0 exactly if one of the bytes passed is.
-use Prim.Native.Nat.{ℕ, ◌-◌, ◌≤◌, min}
+use Prim.Native.Nat.{ℕ, min}
 use mathlib.Core.Path.{◌≡◌, refl, sym, ap, ◌∙◌}
 use mathlib.Core.Bool.{Bool, true, false, ◌||◌}
-use mathlib.Core.List.{List}
 use native.Mathlib.Omega.{arith}
 use lib.Dec.{eqb}
 use lib.ListN.{length, get_or}
@@ -30,7 +29,7 @@ unfolding any_below
 loop-i-init c = (omega arith, refl)
 
 pub loop-i-preserved : goal.loop-i-preserved
-loop-i-preserved c = 
+loop-i-preserved c =
     let l = c.loop-i in
     let a = c.args in
     let x = get_or a.bytes.now l.i 0 in (
@@ -40,7 +39,7 @@ loop-i-preserved c =
 
 pub returns : goal.returns
 unfolding has_zero
-returns c = 
+returns c =
     let a = c.args in
     let e : c.loop-i.i ≡ length a.bytes.now = omega arith in
     rw e at c.loop-i.invariant.1

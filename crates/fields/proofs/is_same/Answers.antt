@@ -1,11 +1,10 @@
 -- `fields::is_same` meets its contract. The loop's invariant: the greatest mark is 0 exactly if all bytes passed are equal.
-use Prim.Native.Nat.{ℕ, ◌-◌, ◌≤◌}
+use Prim.Native.Nat.{ℕ}
 use mathlib.Core.Path.{◌≡◌, refl, sym, ap, ap₂, ◌∙◌}
 use mathlib.Core.Bool.{Bool, true, ◌&&◌}
-use mathlib.Core.List.{List}
 use native.Mathlib.Omega.{arith}
 use lib.Dec.{eqb}
-use lib.ListN.{length, get_or}
+use lib.ListN.{length}
 use borrow.Author.Tests.{eq-eqb}
 use Rattle.model.specs.Search.{all_below, equal_bytes}
 use Rattle.laws.proofs.Booleans.{max-zero}
@@ -18,7 +17,7 @@ unfolding all_below
 loop-i-init c = (omega arith, refl)
 
 pub loop-i-preserved : goal.loop-i-preserved
-loop-i-preserved c = 
+loop-i-preserved c =
     let l = c.loop-i in
     let a = c.args in
     let u = c.unlike in
@@ -30,7 +29,7 @@ loop-i-preserved c =
 
 pub returns-then-a-b : goal.returns-then-a-b
 unfolding equal_bytes
-returns-then-a-b c = 
+returns-then-a-b c =
     let a = c.args in
     let e : c.loop-i.i ≡ length a.b.now = omega arith in
     let h : eqb (length a.a.now) (length a.b.now) ≡ true = eq-eqb _ _ c.if-a-b.true in

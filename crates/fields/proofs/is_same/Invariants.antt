@@ -1,15 +1,11 @@
 -- `fields::is_same` meets its contract. The loop's invariant: the greatest mark is 0 exactly if all bytes passed are equal.
 use Prim.Native.Nat.{ℕ, ◌-◌, ◌≤◌}
-use mathlib.Core.Path.{◌≡◌, refl, sym, ap, ap₂, ◌∙◌}
-use mathlib.Core.Bool.{Bool, true, ◌&&◌}
+use mathlib.Core.Path.{◌≡◌}
+use mathlib.Core.Bool.{Bool}
 use mathlib.Core.List.{List}
-use native.Mathlib.Omega.{arith}
 use lib.Dec.{eqb}
 use lib.ListN.{length, get_or}
-use borrow.Author.Tests.{eq-eqb}
-use Rattle.model.specs.Search.{all_below, equal_bytes}
-use Rattle.laws.proofs.Booleans.{max-zero}
-use Rattle.laws.proofs.Search.{all_below-more, same_length}
+use Rattle.model.specs.Search.{all_below}
 use Rattle.fields.proofs.is_same.Given as goal
 
 abbrev pub equal_at : List ℕ → List ℕ → ℕ → Bool

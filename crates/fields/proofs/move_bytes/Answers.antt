@@ -6,7 +6,7 @@ use Rattle.laws.proofs.Bytes.{length-bytes_from, bytes_from-put-same}
 use Rattle.fields.proofs.move_bytes.Goals as goal
 
 pub returns : goal.returns
-returns c = 
+returns c =
     let s = c.args in
     let vs = bytes_from s.src.now s.from s.n in
     let e = ap (λ a. bytes_from a 0 s.n) c.copy_bytes.ensures

@@ -1,8 +1,8 @@
 -- `fields::put_be` meets its contract. The loop's invariant: x stored in the first i bytes gives what the whole store gives.
 use mathlib.Core.Path.{◌≡◌, refl, sym, ◌∙◌}
-use Prim.Native.Nat.{◌+◌, ◌-◌, ◌≤◌, ◌/◌, ◌%◌}
+use Prim.Native.Nat.{◌+◌, ◌-◌, ◌/◌, ◌%◌}
 use native.Mathlib.Omega.{arith}
-use lib.ListN.{length, set, length-set}
+use lib.ListN.{set, length-set}
 use Rattle.model.specs.Bytes.{be_bytes, put}
 use Rattle.laws.proofs.Bytes.{be_bytes-more, put_back, put-nil, length-be_bytes}
 use Rattle.fields.proofs.put_be.Goals as goal
@@ -11,7 +11,7 @@ pub loop-i-init : goal.loop-i-init
 loop-i-init c = (omega arith, refl, refl)
 
 pub loop-i-preserved : goal.loop-i-preserved
-loop-i-preserved c = 
+loop-i-preserved c =
     let l = c.loop-i in
     let a = c.args in
     let more : put (set l.b (a.at + (l.i - 1)) (l.x % 256)) a.at (be_bytes (l.i - 1) (l.x / 256)) ≡ put l.b a.at
@@ -23,6 +23,6 @@ shape_of-b c = c.loop-i.invariant.2
 
 pub returns : goal.returns
 unfolding be_bytes
-returns c = 
+returns c =
     let e : c.loop-i.i ≡ 0 = omega arith in
     sym (put-nil _ c.args.at) ∙ rw e at c.loop-i.invariant.1

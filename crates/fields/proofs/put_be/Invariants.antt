@@ -1,10 +1,8 @@
 -- `fields::put_be` meets its contract. The loop's invariant: x stored in the first i bytes gives what the whole store gives.
-use mathlib.Core.Path.{◌≡◌, refl, sym, ◌∙◌}
-use Prim.Native.Nat.{◌+◌, ◌-◌, ◌≤◌, ◌/◌, ◌%◌}
-use native.Mathlib.Omega.{arith}
-use lib.ListN.{length, set, length-set}
+use mathlib.Core.Path.{◌≡◌}
+use Prim.Native.Nat.{◌≤◌}
+use lib.ListN.{length}
 use Rattle.model.specs.Bytes.{be_bytes, put}
-use Rattle.laws.proofs.Bytes.{be_bytes-more, put_back, put-nil, length-be_bytes}
 use Rattle.fields.proofs.put_be.Given as goal
 
 abbrev pub invariant-loop-i : goal.invariant-loop-i

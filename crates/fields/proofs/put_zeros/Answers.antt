@@ -1,10 +1,8 @@
 -- `fields::put_zeros` meets its contract. The loop's invariant: the first i bytes are 0.
 use mathlib.Core.Path.{◌≡◌, refl, sym}
-use mathlib.Core.List.{[]}
-use Prim.Native.Nat.{◌-◌, ◌≤◌}
 use native.Mathlib.Omega.{arith}
-use lib.ListN.{length, length-set}
-use Rattle.model.specs.Bytes.{bytes_from, put}
+use lib.ListN.{length-set}
+use Rattle.model.specs.Bytes.{bytes_from}
 use Rattle.laws.proofs.Bytes.{bytes_from-more, put-snoc, put-nil, length-bytes_from}
 use Rattle.fields.proofs.put_zeros.Goals as goal
 
@@ -19,6 +17,6 @@ pub shape_of-b : goal.shape_of-b
 shape_of-b c = c.loop-i.invariant.2
 
 pub returns : goal.returns
-returns c = 
+returns c =
     let e : c.loop-i.i ≡ c.args.n = omega arith in
     rw (← e) c.loop-i.invariant.1

@@ -1,11 +1,9 @@
 -- `fields::put_zeros` meets its contract. The loop's invariant: the first i bytes are 0.
-use mathlib.Core.Path.{◌≡◌, refl, sym}
+use mathlib.Core.Path.{◌≡◌}
 use mathlib.Core.List.{[]}
 use Prim.Native.Nat.{◌-◌, ◌≤◌}
-use native.Mathlib.Omega.{arith}
-use lib.ListN.{length, length-set}
+use lib.ListN.{length}
 use Rattle.model.specs.Bytes.{bytes_from, put}
-use Rattle.laws.proofs.Bytes.{bytes_from-more, put-snoc, put-nil, length-bytes_from}
 use Rattle.fields.proofs.put_zeros.Given as goal
 
 abbrev pub invariant-loop-i : goal.invariant-loop-i

@@ -8,7 +8,7 @@ use Rattle.fields.proofs.sector_part.Goals as goal
 
 pub returns : goal.returns
 unfolding view
-returns c = 
+returns c =
     let img = c.args.img.now in
     let k = c.args.k.0 in
     let w : (512 * k + 512) - 512 * k ≡ 512 = omega arith in

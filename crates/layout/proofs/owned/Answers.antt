@@ -1,5 +1,5 @@
 -- `layout::owned` meets its contract. 512 bytes copied into an array of 512 are the whole array.
-use Rattle.std.proofs.Common.{◌∙◌, rules}
+use Rattle.std.proofs.Common.{◌∙◌}
 use Rattle.laws.proofs.Bytes.{length-bytes_from, bytes_from-all, put_all}
 use Rattle.layout.proofs.owned.Goals as goal
 

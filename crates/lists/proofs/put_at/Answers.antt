@@ -5,6 +5,6 @@ use Rattle.laws.proofs.WriteList.{record-put}
 use Rattle.lists.proofs.put_at.Goals as goal
 
 pub returns : goal.returns
-returns c = 
+returns c =
     let a = c.args in
     rw (record-put, bytes_from-all (bytes_from a.src.now a.from 512) 512 (length-bytes_from a.src.now a.from 512)) (cc)

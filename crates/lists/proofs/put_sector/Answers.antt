@@ -6,7 +6,7 @@ use borrow.Author.Rules.{rules}
 use Rattle.lists.proofs.put_sector.Goals as goal
 
 pub returns : goal.returns
-returns c = 
+returns c =
     let s = c.args.s in
     let e : length s ≡ 512 = search rules in
     rw (bytes_from-all s 512 e) at c.put_from.ensures

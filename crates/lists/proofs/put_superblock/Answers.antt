@@ -10,7 +10,7 @@ use Rattle.lists.proofs.put_superblock.Goals as goal
 
 pub returns : goal.returns
 unfolding view with_journal_length
-returns c = 
+returns c =
     let copy = c in
     let a = copy.args in
     let patched = rw copy.put_from-j.ensures.holds at c.put_journal_length.ensures in

@@ -1,13 +1,10 @@
 -- `table::all_free` meets its contract. The loop's invariant: whether all entries passed are free.
 use Prim.Native.Nat.{◌+◌, ◌-◌, ◌≤◌}
-use mathlib.Core.Path.{◌≡◌, refl, sym, ap₂, ◌∙◌}
-use mathlib.Core.Bool.{Bool, ◌&&◌}
-use native.Mathlib.Omega.{arith}
+use mathlib.Core.Path.{◌≡◌}
 use lib.Dec.{eqb}
 use Rattle.model.specs.Search.{all_below}
 use Rattle.model.specs.Disk.{view}
 use Rattle.model.specs.Table.{table_file, free_file}
-use Rattle.laws.proofs.Search.{all_below-more}
 use Rattle.table.proofs.all_free.Given as goal
 
 abbrev pub invariant-loop-k : goal.invariant-loop-k

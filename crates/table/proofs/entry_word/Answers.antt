@@ -4,7 +4,7 @@ use Rattle.table.proofs.Laws.{file-at, offset_at}
 use Rattle.table.proofs.entry_word.Goals as goal
 
 pub returns : goal.returns
-returns c = 
+returns c =
     let a = c.args in
     let at = c.table_entry_at-at.ensures in
     let f = rw (at, file-at a.img.now a.g a.e.0) at c.pair.ensures in

@@ -1,14 +1,10 @@
 -- `table::extent_of` meets its contract. The loop's invariant: the search has passed the extents below e.
 use Prim.Native.Nat.{ℕ, ◌-◌}
-use mathlib.Core.Path.{sym, ap, ◌∙◌}
 use mathlib.Core.Bool.{Bool}
 use mathlib.Core.List.{List}
-use native.Mathlib.Omega.{arith}
-use Rattle.model.specs.Search.{index_of}
 use Rattle.model.specs.Disk.{view}
 use Rattle.model.specs.Catalogue.{catalogue_of, is_part}
-use Rattle.laws.proofs.Seeking.{Seeking, seek-start, seek-over}
-use Rattle.table.proofs.Laws.{extent-of-is, nowhere-from}
+use Rattle.laws.proofs.Seeking.{Seeking}
 use Rattle.table.proofs.extent_of.Given as goal
 
 abbrev pub hit : List ℕ → ℕ → ℕ → ℕ → Bool

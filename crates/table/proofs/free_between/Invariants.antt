@@ -1,15 +1,13 @@
 -- `table::free_between` meets its contract. The loop's invariant: the search from e on gives what the search from the start gives.
 use Prim.Native.Nat.{ℕ, ◌-◌, ◌≤◌}
-use mathlib.Core.Path.{◌≡◌, refl, sym, ◌∙◌}
+use mathlib.Core.Path.{◌≡◌}
 use mathlib.Core.Bool.{Bool}
 use mathlib.Core.List.{List}
-use native.Mathlib.Omega.{arith}
 use lib.Dec.{eqb}
 use Rattle.model.specs.declared.Geometry.{Geometry}
 use Rattle.model.specs.Search.{scan}
 use Rattle.model.specs.Disk.{view}
 use Rattle.model.specs.Table.{table_file, free_file}
-use Rattle.laws.proofs.Search.{scan-here, scan-next, scan-end}
 use Rattle.table.proofs.free_between.Given as goal
 
 abbrev pub hit : List ℕ → Geometry → ℕ → Bool

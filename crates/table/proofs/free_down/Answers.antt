@@ -1,10 +1,8 @@
 -- `table::free_down` meets its contract. The loop's invariant: no extent from e on is free.
-use Prim.Native.Nat.{ℕ, ◌-◌, ◌≤◌}
-use mathlib.Core.Path.{◌≡◌, refl, sym, ◌∙◌}
-use mathlib.Core.List.{List}
+use Prim.Native.Nat.{◌-◌}
+use mathlib.Core.Path.{refl, sym, ◌∙◌}
 use native.Mathlib.Omega.{arith}
 use Rattle.model.specs.Disk.{view}
-use Rattle.model.specs.Catalogue.{Catalogue, catalogue_of, free_below}
 use Rattle.table.proofs.Laws.{free_on}
 use Rattle.table.proofs.Stages.{pass-one, highest-none}
 use Rattle.table.proofs.free_down.Goals as goal
@@ -14,7 +12,7 @@ pub loop-e-init : goal.loop-e-init
 loop-e-init c = (omega arith, refl)
 
 pub returns-then-is_free : goal.returns-then-is_free
-returns-then-is_free c = 
+returns-then-is_free c =
     let b = c in
     let s = b in
     let a = s.args in
@@ -24,7 +22,7 @@ returns-then-is_free c =
     }
 
 pub loop-e-preserved : goal.loop-e-preserved
-loop-e-preserved c = 
+loop-e-preserved c =
     let b = c in
     let s = b in
     let a = s.args in
@@ -32,7 +30,7 @@ loop-e-preserved c =
     (omega arith, pass-one (said a.img.now) a.from b.loop-e.e (omega arith) b.loop-e.invariant.1 taken)
 
 pub returns : goal.returns
-returns c = 
+returns c =
     let b = c in
     let a = b.args in record {
       highest = highest-none (said a.img.now) a.from b.loop-e.e b.loop-e.invariant.1 (λ l. omega arith);

@@ -1,12 +1,9 @@
 -- `table::free_down` meets its contract. The loop's invariant: no extent from e on is free.
-use Prim.Native.Nat.{ℕ, ◌-◌, ◌≤◌}
-use mathlib.Core.Path.{◌≡◌, refl, sym, ◌∙◌}
+use Prim.Native.Nat.{ℕ, ◌≤◌}
+use mathlib.Core.Path.{◌≡◌}
 use mathlib.Core.List.{List}
-use native.Mathlib.Omega.{arith}
 use Rattle.model.specs.Disk.{view}
 use Rattle.model.specs.Catalogue.{Catalogue, catalogue_of, free_below}
-use Rattle.table.proofs.Laws.{free_on}
-use Rattle.table.proofs.Stages.{pass-one, highest-none}
 use Rattle.table.proofs.free_down.Given as goal
 
 abbrev pub said : List ℕ → Catalogue

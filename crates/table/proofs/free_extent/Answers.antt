@@ -1,20 +1,15 @@
 -- `table::free_extent` meets its contract. The loop's invariant: the search has passed the extents below e.
-use Prim.Native.Nat.{ℕ, ◌+◌, ◌-◌}
+use Prim.Native.Nat.{◌+◌, ◌-◌}
 use mathlib.Core.Path.{◌≡◌, sym, ◌∙◌}
-use mathlib.Core.Bool.{Bool}
-use mathlib.Core.List.{List}
 use native.Mathlib.Omega.{arith}
-use lib.Dec.{eqb}
-use Rattle.model.specs.declared.Geometry.{Geometry}
 use Rattle.model.specs.Disk.{view}
-use Rattle.model.specs.Table.{table_file, free_file}
-use Rattle.laws.proofs.Seeking.{Seeking, seek-start, seek_found, seek-over}
+use Rattle.laws.proofs.Seeking.{seek-start, seek_found, seek-over}
 use Rattle.table.proofs.Laws.{free-extent-is, nowhere-from}
 use Rattle.table.proofs.free_extent.Goals as goal
 use Rattle.table.proofs.free_extent.Invariants.{hit}
 
 pub returns-in-At : goal.returns-in-At
-returns-in-At c = 
+returns-in-At c =
     let s = c in
     let a = s.args in
     let few = c.least-few.result in
@@ -24,7 +19,7 @@ returns-in-At c =
     (sym c.in-At.is ∙ rw z at c.free_between-low.ensures))
 
 pub loop-e-init : goal.loop-e-init
-loop-e-init c = 
+loop-e-init c =
     let a = c.args in
     let few = c.least-few.result in
     let z : few - 0 ≡ few = omega arith in
@@ -34,7 +29,7 @@ loop-e-init c =
     (sym c.in_default.is ∙ rw z at c.free_between-low.ensures))
 
 pub returns-then-holds_free : goal.returns-then-holds_free
-returns-then-holds_free c = 
+returns-then-holds_free c =
     let b = c in
     let s = b in
     let a = s.args in
@@ -42,12 +37,12 @@ returns-then-holds_free c =
     (c.free_between.ensures ∙ b.loop-e.invariant.rest)
 
 pub loop-e-preserved : goal.loop-e-preserved
-loop-e-preserved c = 
+loop-e-preserved c =
     let b = c in
     seek-over b.loop-e.invariant 128 (omega arith) (nowhere-from _ b.loop-e.e 128 (sym c.holds_free.ensures ∙ c.if-holds_free.false))
 
 pub returns : goal.returns
-returns c = 
+returns c =
     let b = c in
     let s = b in
     let a = s.args in

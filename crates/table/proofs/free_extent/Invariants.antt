@@ -1,15 +1,12 @@
 -- `table::free_extent` meets its contract. The loop's invariant: the search has passed the extents below e.
-use Prim.Native.Nat.{ℕ, ◌+◌, ◌-◌}
-use mathlib.Core.Path.{◌≡◌, sym, ◌∙◌}
+use Prim.Native.Nat.{ℕ, ◌-◌}
 use mathlib.Core.Bool.{Bool}
 use mathlib.Core.List.{List}
-use native.Mathlib.Omega.{arith}
 use lib.Dec.{eqb}
 use Rattle.model.specs.declared.Geometry.{Geometry}
 use Rattle.model.specs.Disk.{view}
 use Rattle.model.specs.Table.{table_file, free_file}
-use Rattle.laws.proofs.Seeking.{Seeking, seek-start, seek_found, seek-over}
-use Rattle.table.proofs.Laws.{free-extent-is, nowhere-from}
+use Rattle.laws.proofs.Seeking.{Seeking}
 use Rattle.table.proofs.free_extent.Given as goal
 
 abbrev pub hit : List ℕ → Geometry → ℕ → Bool

@@ -1,12 +1,9 @@
 -- `table::free_marked` meets its contract. The loop's invariant: the entries passed are freed where they are marked.
 use Prim.Native.Nat.{◌-◌, ◌≤◌}
-use mathlib.Core.Path.{◌≡◌, refl}
-use native.Mathlib.Omega.{arith}
+use mathlib.Core.Path.{◌≡◌}
 use lib.ListN.{length}
 use Rattle.model.specs.Table.{freed_in}
-use Rattle.laws.proofs.Freeing.{freed-more}
 use Rattle.table.specs.Owned.{is_marked}
-use borrow.Author.Rules.{rules}
 use Rattle.table.proofs.free_marked.Given as goal
 
 abbrev pub invariant-loop-k : goal.invariant-loop-k

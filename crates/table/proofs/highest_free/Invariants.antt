@@ -1,17 +1,9 @@
 -- `table::highest_free` meets its contract. The loop's invariant: no extent from e on is free.
-use Prim.Native.Nat.{ℕ, ◌+◌, ◌-◌, ◌≤◌}
-use mathlib.Core.Path.{◌≡◌, refl, sym, ◌∙◌}
-use mathlib.Core.Bool.{Bool}
+use Prim.Native.Nat.{ℕ, ◌≤◌}
+use mathlib.Core.Path.{◌≡◌}
 use mathlib.Core.List.{List}
-use native.Mathlib.Omega.{arith}
-use lib.Dec.{eqb}
-use Rattle.model.specs.Search.{any_below}
 use Rattle.model.specs.Disk.{view}
-use Rattle.model.specs.Table.{table_file, free_file}
-use Rattle.model.specs.Catalogue.{Catalogue, catalogue_of, is_free, free_below}
-use Rattle.laws.proofs.Search.{any_below-ext}
-use Rattle.table.proofs.Laws.{free_on}
-use Rattle.table.proofs.Stages.{pass-over, highest-after}
+use Rattle.model.specs.Catalogue.{Catalogue, catalogue_of, free_below}
 use Rattle.table.proofs.highest_free.Given as goal
 
 abbrev pub said : List ℕ → Catalogue

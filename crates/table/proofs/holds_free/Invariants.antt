@@ -1,13 +1,10 @@
 -- `table::holds_free` meets its contract. The loop's invariant: whether one of the entries passed is free.
 use Prim.Native.Nat.{◌+◌, ◌-◌, ◌≤◌}
-use mathlib.Core.Path.{◌≡◌, refl, sym, ap₂, ◌∙◌}
-use mathlib.Core.Bool.{Bool, ◌||◌}
-use native.Mathlib.Omega.{arith}
+use mathlib.Core.Path.{◌≡◌}
 use lib.Dec.{eqb}
 use Rattle.model.specs.Search.{any_below}
 use Rattle.model.specs.Disk.{view}
 use Rattle.model.specs.Table.{table_file, free_file}
-use Rattle.laws.proofs.Search.{any_below-more}
 use Rattle.table.proofs.holds_free.Given as goal
 
 abbrev pub invariant-loop-k : goal.invariant-loop-k

@@ -1,12 +1,9 @@
 -- `table::holds_from` meets its contract. The loop's invariant: none of the entries passed is one.
 use Prim.Native.Nat.{ℕ, ◌+◌, ◌-◌, ◌*◌, ◌≤◌}
-use mathlib.Core.Path.{◌≡◌, refl, sym, ◌∙◌}
+use mathlib.Core.Path.{◌≡◌}
 use mathlib.Core.Bool.{Bool, false}
 use mathlib.Core.List.{List}
-use native.Mathlib.Omega.{arith}
 use Rattle.model.specs.Search.{any_below}
-use Rattle.model.specs.Table.{holds_any}
-use Rattle.laws.proofs.Search.{any_below-more, any_below-true}
 use Rattle.table.specs.Owned.{owned_in}
 use Rattle.table.proofs.holds_from.Given as goal
 

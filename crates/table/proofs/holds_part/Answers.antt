@@ -1,12 +1,8 @@
 -- `table::holds_part` meets its contract. The loop's invariant: whether one of the entries passed is.
-use Prim.Native.Nat.{ℕ, ◌+◌, ◌-◌, ◌≤◌}
 use mathlib.Core.Path.{◌≡◌, refl, sym, ap₂, ◌∙◌}
 use mathlib.Core.Bool.{Bool, ◌||◌}
-use mathlib.Core.List.{List}
 use native.Mathlib.Omega.{arith}
 use Rattle.model.specs.Search.{any_below}
-use Rattle.model.specs.Disk.{view}
-use Rattle.model.specs.Catalogue.{catalogue_of, is_part}
 use Rattle.laws.proofs.Search.{any_below-more}
 use Rattle.table.proofs.holds_part.Goals as goal
 use Rattle.table.proofs.holds_part.Invariants.{hit}
@@ -16,7 +12,7 @@ unfolding any_below
 loop-k-init c = (omega arith, refl)
 
 pub loop-k-preserved : goal.loop-k-preserved
-loop-k-preserved c = 
+loop-k-preserved c =
     let l = c.loop-k in
     let a = c.args in (
       omega arith,
@@ -24,7 +20,7 @@ loop-k-preserved c =
     )
 
 pub returns : goal.returns
-returns c = 
+returns c =
     let l = c.loop-k in
     let e : l.k ≡ 128 = omega arith in
     rw e at l.invariant.1

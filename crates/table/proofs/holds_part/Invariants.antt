@@ -1,13 +1,11 @@
 -- `table::holds_part` meets its contract. The loop's invariant: whether one of the entries passed is.
 use Prim.Native.Nat.{ℕ, ◌+◌, ◌-◌, ◌≤◌}
-use mathlib.Core.Path.{◌≡◌, refl, sym, ap₂, ◌∙◌}
-use mathlib.Core.Bool.{Bool, ◌||◌}
+use mathlib.Core.Path.{◌≡◌}
+use mathlib.Core.Bool.{Bool}
 use mathlib.Core.List.{List}
-use native.Mathlib.Omega.{arith}
 use Rattle.model.specs.Search.{any_below}
 use Rattle.model.specs.Disk.{view}
 use Rattle.model.specs.Catalogue.{catalogue_of, is_part}
-use Rattle.laws.proofs.Search.{any_below-more}
 use Rattle.table.proofs.holds_part.Given as goal
 
 abbrev pub hit : List ℕ → ℕ → ℕ → ℕ → ℕ → Bool

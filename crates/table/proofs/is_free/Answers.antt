@@ -8,7 +8,7 @@ use Rattle.table.proofs.Laws.{word-free}
 use Rattle.table.proofs.is_free.Goals as goal
 
 pub returns : goal.returns
-returns c = 
+returns c =
     let a = c.args in
     let w = c.entry_word.ensures in
     ap (λ (n : ℕ). eqb (n % 65536) 65535) w.value

@@ -10,7 +10,7 @@ use Rattle.table.proofs.Laws.{part-on, word-is}
 use Rattle.table.proofs.is_part.Goals as goal
 
 pub returns-then-o-lt65536 : goal.returns-then-o-lt65536
-returns-then-o-lt65536 c = 
+returns-then-o-lt65536 c =
     let s = c in
     let a = s.args in
     let d = view a.img.now in
@@ -19,7 +19,7 @@ returns-then-o-lt65536 c =
     (word-is (table_file a.g d a.e.0) (table_offset a.g d a.e.0) a.i.0 a.o w.e_bound.0 w.e_bound.1 (omega arith) c.if-o-lt65536.true)
 
 pub returns : goal.returns
-returns c = 
+returns c =
     let s = c in
     let a = s.args in
     let d = view a.img.now in

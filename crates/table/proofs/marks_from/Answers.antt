@@ -1,11 +1,10 @@
 -- `table::marks_from` meets its contract. The loop's invariant: the entries passed are marked.
-use Prim.Native.Nat.{ℕ, ◌+◌, ◌-◌, ◌*◌, ◌≤◌}
+use Prim.Native.Nat.{ℕ, ◌+◌, ◌*◌}
 use mathlib.Core.Path.{◌≡◌, ap, ◌∙◌}
 use mathlib.Core.Bool.{Bool, cond}
 use native.Mathlib.Omega.{arith}
-use lib.ListN.{length}
 use Rattle.laws.proofs.Bytes.{set_next}
-use Rattle.table.specs.Owned.{owned_in, Marks}
+use Rattle.table.specs.Owned.{owned_in}
 use borrow.Author.Rules.{rules}
 use Rattle.table.proofs.marks_from.Goals as goal
 
@@ -13,7 +12,7 @@ pub loop-k-init : goal.loop-k-init
 loop-k-init c = (omega arith, (λ k l. absurd (omega arith)), search rules)
 
 pub loop-k-preserved : goal.loop-k-preserved
-loop-k-preserved c = 
+loop-k-preserved c =
     let l = c.loop-k in
     let a = c.args in
     let h : ℕ → Bool = owned_in a.img.now a.i.0 a.o in
@@ -22,6 +21,6 @@ loop-k-preserved c =
     (omega arith, set_next (λ k. cond (h (128 * a.t + k)) 1 0) l.marks l.k c.bit.result (omega arith) v l.invariant.1, search rules)
 
 pub returns : goal.returns
-returns c = 
+returns c =
     let e : c.loop-k.k ≡ 128 = omega arith in
     rw e at c.loop-k.invariant.1

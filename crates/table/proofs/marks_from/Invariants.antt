@@ -1,12 +1,8 @@
 -- `table::marks_from` meets its contract. The loop's invariant: the entries passed are marked.
-use Prim.Native.Nat.{ℕ, ◌+◌, ◌-◌, ◌*◌, ◌≤◌}
-use mathlib.Core.Path.{◌≡◌, ap, ◌∙◌}
-use mathlib.Core.Bool.{Bool, cond}
-use native.Mathlib.Omega.{arith}
+use Prim.Native.Nat.{◌+◌, ◌-◌, ◌*◌, ◌≤◌}
+use mathlib.Core.Path.{◌≡◌}
 use lib.ListN.{length}
-use Rattle.laws.proofs.Bytes.{set_next}
 use Rattle.table.specs.Owned.{owned_in, Marks}
-use borrow.Author.Rules.{rules}
 use Rattle.table.proofs.marks_from.Given as goal
 
 abbrev pub invariant-loop-k : goal.invariant-loop-k

@@ -6,7 +6,7 @@ use Rattle.table.proofs.Laws.{beyond-on, beyond-past}
 use Rattle.table.proofs.owned_from.Goals as goal
 
 pub returns-then-table_file-i : goal.returns-then-table_file-i
-returns-then-table_file-i c = 
+returns-then-table_file-i c =
     let s = c in
     let a = s.args in
     rw (
@@ -17,7 +17,7 @@ returns-then-table_file-i c =
     )
 
 pub returns-then-e-g : goal.returns-then-e-g
-returns-then-e-g c = 
+returns-then-e-g c =
     let s = c in
     let a = s.args in
     rw (
@@ -27,7 +27,7 @@ returns-then-e-g c =
     )
 
 pub returns : goal.returns
-returns c = 
+returns c =
     let s = c in
     let a = s.args in
     sym (beyond-past (view a.img.now) a.g s.requires.opened.is a.i.0 a.o a.e.0 c.if-e-g.false)

@@ -21,12 +21,12 @@ pub overflow_mul-result : goal.overflow_mul-result
 overflow_mul-result c = omega (arith, c.type_inv.s (c.args.at + 1))
 
 pub overflow_add-result-2 : goal.overflow_add-result-2
-overflow_add-result-2 c = 
+overflow_add-result-2 c =
     let a = c.args in
     omega (arith, c.type_inv.s a.at, c.type_inv.s (a.at + 1))
 
 pub returns : goal.returns
-returns c = 
+returns c =
     let a = c.args in
     let x : get_or a.s.now a.at 0 < 256 = omega (arith, c.type_inv.s a.at) in
     let y : get_or a.s.now (a.at + 1) 0 < 256 = omega (arith, c.type_inv.s (a.at + 1)) in

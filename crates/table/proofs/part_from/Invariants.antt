@@ -1,13 +1,11 @@
 -- `table::part_from` meets its contract. The loop's invariant: the search from e on gives what the search from the start gives.
 use Prim.Native.Nat.{ℕ, ◌-◌, ◌≤◌}
-use mathlib.Core.Path.{◌≡◌, refl, sym, ap, ◌∙◌}
+use mathlib.Core.Path.{◌≡◌}
 use mathlib.Core.Bool.{Bool}
 use mathlib.Core.List.{List}
-use native.Mathlib.Omega.{arith}
-use Rattle.model.specs.Search.{scan, index_of}
+use Rattle.model.specs.Search.{scan}
 use Rattle.model.specs.Disk.{view}
 use Rattle.model.specs.Catalogue.{catalogue_of, is_part}
-use Rattle.laws.proofs.Search.{scan-here, scan-next, scan-end}
 use Rattle.table.proofs.part_from.Given as goal
 
 abbrev pub hit : List ℕ → ℕ → ℕ → ℕ → Bool

@@ -1,13 +1,9 @@
 -- `table::sectors_from` meets its contract. The loop's invariant: how many of the sectors passed hold one.
-use Prim.Native.Nat.{ℕ, ◌-◌, ◌≤◌}
 use mathlib.Core.Path.{◌≡◌, refl}
-use mathlib.Core.Bool.{Bool}
-use mathlib.Core.List.{List}
 use native.Mathlib.Omega.{arith}
 use Rattle.model.specs.Search.{count_below}
-use Rattle.model.specs.Table.{holds_any, sectors_holding}
+use Rattle.model.specs.Table.{sectors_holding}
 use Rattle.laws.proofs.Search.{count_below-more}
-use Rattle.table.specs.Owned.{owned_in}
 use Rattle.table.proofs.sectors_from.Goals as goal
 use Rattle.table.proofs.sectors_from.Invariants.{hit}
 
@@ -16,7 +12,7 @@ unfolding count_below
 loop-t-init c = (omega arith, omega arith, refl)
 
 pub loop-t-preserved : goal.loop-t-preserved
-loop-t-preserved c = 
+loop-t-preserved c =
     let l = c.loop-t in
     let a = c.args in (
       omega arith,
@@ -26,7 +22,7 @@ loop-t-preserved c =
 
 pub returns : goal.returns
 unfolding sectors_holding
-returns c = 
+returns c =
     let l = c.loop-t in
     let e : l.t ≡ c.table_sectors-n.result = omega arith in record {
       value = rw (← c.table_sectors-n.ensures) (rw e at l.invariant.2);

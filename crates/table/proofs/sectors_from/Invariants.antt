@@ -1,12 +1,10 @@
 -- `table::sectors_from` meets its contract. The loop's invariant: how many of the sectors passed hold one.
 use Prim.Native.Nat.{ℕ, ◌-◌, ◌≤◌}
-use mathlib.Core.Path.{◌≡◌, refl}
+use mathlib.Core.Path.{◌≡◌}
 use mathlib.Core.Bool.{Bool}
 use mathlib.Core.List.{List}
-use native.Mathlib.Omega.{arith}
 use Rattle.model.specs.Search.{count_below}
-use Rattle.model.specs.Table.{holds_any, sectors_holding}
-use Rattle.laws.proofs.Search.{count_below-more}
+use Rattle.model.specs.Table.{holds_any}
 use Rattle.table.specs.Owned.{owned_in}
 use Rattle.table.proofs.sectors_from.Given as goal
 

@@ -1,21 +1,17 @@
 -- `table::staging` meets its contract. The loop's invariant: the free extents from e on stand in the last places of the reserve's, from place
 -- left on.
-use Prim.Native.Nat.{ℕ, ◌≤◌, ◌<◌}
-use mathlib.Core.Path.{◌≡◌}
+use Prim.Native.Nat.{◌≤◌, ◌<◌}
 use mathlib.Core.Bool.{false≢true}
-use mathlib.Core.List.{List}
 use native.Mathlib.Omega.{arith}
-use lib.ListN.{length}
 use Rattle.model.specs.Disk.{view}
-use Rattle.model.specs.Catalogue.{Catalogue, catalogue_of}
 use Rattle.table.specs.Highest.{Highest}
 use Rattle.table.proofs.Laws.{geometry-of}
-use Rattle.table.proofs.Stages.{Searching, reserve-five, search-start, search-more, search-failed, search-done, search-found}
+use Rattle.table.proofs.Stages.{reserve-five, search-start, search-more, search-failed, search-done, search-found}
 use Rattle.table.proofs.staging.Goals as goal
 use Rattle.table.proofs.staging.Invariants.{said}
 
 pub loop-left-init : goal.loop-left-init
-loop-left-init c = 
+loop-left-init c =
     let s = c in
     let a = s.args in
     let start = search-start a.g (said a.img.now) s.requires.opened.bounded in
@@ -23,7 +19,7 @@ loop-left-init c =
     (most, rw s.requires.stages_value, rw (c.reserve_extents-left.ensures, s.requires.stages_value) start)
 
 pub returns-then-next-eq0 : goal.returns-then-next-eq0
-returns-then-next-eq0 c = 
+returns-then-next-eq0 c =
     let b = c in
     let s = b in
     let a = s.args in
@@ -34,7 +30,7 @@ returns-then-next-eq0 c =
     }
 
 pub loop-left-preserved : goal.loop-left-preserved
-loop-left-preserved c = 
+loop-left-preserved c =
     let b = c in
     let s = b in
     let a = s.args in
@@ -43,7 +39,7 @@ loop-left-preserved c =
     (omega arith, more.five, more)
 
 pub returns : goal.returns
-returns c = 
+returns c =
     let b = c in
     let s = b in
     let a = s.args in

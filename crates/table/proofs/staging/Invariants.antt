@@ -1,16 +1,12 @@
 -- `table::staging` meets its contract. The loop's invariant: the free extents from e on stand in the last places of the reserve's, from place
 -- left on.
-use Prim.Native.Nat.{ℕ, ◌≤◌, ◌<◌}
+use Prim.Native.Nat.{ℕ, ◌≤◌}
 use mathlib.Core.Path.{◌≡◌}
-use mathlib.Core.Bool.{false≢true}
 use mathlib.Core.List.{List}
-use native.Mathlib.Omega.{arith}
 use lib.ListN.{length}
 use Rattle.model.specs.Disk.{view}
 use Rattle.model.specs.Catalogue.{Catalogue, catalogue_of}
-use Rattle.table.specs.Highest.{Highest}
-use Rattle.table.proofs.Laws.{geometry-of}
-use Rattle.table.proofs.Stages.{Searching, reserve-five, search-start, search-more, search-failed, search-done, search-found}
+use Rattle.table.proofs.Stages.{Searching}
 use Rattle.table.proofs.staging.Given as goal
 
 abbrev pub said : List ℕ → Catalogue

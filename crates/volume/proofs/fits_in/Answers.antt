@@ -11,7 +11,7 @@ volume_sectors-requires c = bounds _ (sym c.in_bounds.ensures ∙ c.if-in_bounds
 
 pub returns-then-in_bounds : goal.returns-then-in_bounds
 unfolding fits_image
-returns-then-in_bounds c = 
+returns-then-in_bounds c =
     let n = c.args.sectors in
     let q : 512 * n / 512 ≡ n = omega arith in
     rw (← c.geometry_in-g.ensures, ← c.in_bounds.ensures, c.if-in_bounds.true, ← c.volume_sectors.ensures, q)

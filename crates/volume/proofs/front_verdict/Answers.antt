@@ -6,7 +6,7 @@ use Rattle.laws.proofs.Refusals.{front-holds}
 use Rattle.volume.proofs.front_verdict.Goals as goal
 
 pub sectors_verdict-requires : goal.sectors_verdict-requires
-sectors_verdict-requires c = 
+sectors_verdict-requires c =
     let f = front-holds _ _ (sym c.is_front.ensures ∙ c.if-is_front.true) in
     (omega (arith, f.1), omega (arith, c.most.ensures))
 

@@ -16,7 +16,7 @@ unfolding is_whole
 sectors-of len h = omega (arith, eqb-true (len % 512) 0 (and_right (ltb 0 len) (eqb (len % 512) 0) h))
 
 pub sectors_verdict-requires : goal.sectors_verdict-requires
-sectors_verdict-requires c = 
+sectors_verdict-requires c =
     let h = whole-true _ (sym c.is_whole.ensures ∙ c.if-is_whole.true) in
     (h, omega (arith, h))
 

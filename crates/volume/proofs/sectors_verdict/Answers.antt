@@ -21,7 +21,7 @@ fits_in-requires c = c.requires.0
 
 pub returns-then-fits_in : goal.returns-then-fits_in
 unfolding image_verdict verdict_of
-returns-then-fits_in c = 
+returns-then-fits_in c =
     let s = c in
     rw (
       whole s.args.sectors s.requires.1,
@@ -33,7 +33,7 @@ returns-then-fits_in c =
 
 pub returns-then-is_volume : goal.returns-then-is_volume
 unfolding image_verdict verdict_of
-returns-then-is_volume c = 
+returns-then-is_volume c =
     let s = c in
     rw (
       whole s.args.sectors s.requires.1,
@@ -45,6 +45,6 @@ returns-then-is_volume c =
 
 pub returns : goal.returns
 unfolding image_verdict verdict_of
-returns c = 
+returns c =
     let s = c in
     rw (whole s.args.sectors s.requires.1, ← c.is_volume.ensures, c.if-is_volume.false) c.refusal-2.ensures

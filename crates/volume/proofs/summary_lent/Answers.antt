@@ -7,7 +7,7 @@ use Rattle.laws.proofs.Refusals.{lent-readable, readable-length}
 use Rattle.volume.proofs.summary_lent.Goals as goal
 
 pub summary_on-requires : goal.summary_on-requires
-summary_on-requires c = 
+summary_on-requires c =
     let a = c.args in
     readable-length a.front.now (lent-readable a.front.now a.count (ap (λ (v : Verdict). v.number) (sym c.front_verdict-v.ensures) ∙ c.if-v-eq0.true))
 

@@ -1,5 +1,4 @@
 -- `layout::edition::longest_name` meets its contract. The length is the layout's.
-use Rattle.std.proofs.Common.{rules}
 use Rattle.layout.proofs.edition.longest_name.Goals as goal
 
 pub returns : goal.returns

@@ -6,8 +6,8 @@ use Rattle.layout.proofs.edition.of.Goals as goal
 pub returns-then-edition-eq2 : goal.returns-then-edition-eq2
 unfolding layout_of
 returns-then-edition-eq2 c = rw (eq-eqb _ _ c.if-edition-eq2.true) record {
-      result_value = refl;
-      in_sector = record {
+  result_value = refl;
+  in_sector = record {
     access_time = (omega arith, omega arith);
     change_time = (omega arith, omega arith);
     name_length = (omega arith, omega arith);
@@ -15,13 +15,13 @@ returns-then-edition-eq2 c = rw (eq-eqb _ _ c.if-edition-eq2.true) record {
     root_access_time = (omega arith, omega arith);
     root_change_time = (omega arith, omega arith);
   };
-    }
+}
 
 pub returns : goal.returns
 unfolding layout_of
 returns c = rw (ne_eqb _ _ c.if-edition-eq2.false) record {
-      result_value = refl;
-      in_sector = record {
+  result_value = refl;
+  in_sector = record {
     access_time = (omega arith, omega arith);
     change_time = (omega arith, omega arith);
     name_length = (omega arith, omega arith);
@@ -29,4 +29,4 @@ returns c = rw (ne_eqb _ _ c.if-edition-eq2.false) record {
     root_access_time = (omega arith, omega arith);
     root_change_time = (omega arith, omega arith);
   };
-    }
+}

@@ -1,6 +1,6 @@
 -- `layout::entry::accessed` meets its contract. The store is that of the definition.
 use Rattle.model.specs.Entry.{accessed_entry_sector}
-use Rattle.std.proofs.Common.{◌∙◌, rules}
+use Rattle.std.proofs.Common.{◌∙◌}
 use Rattle.layout.proofs.entry.accessed.Goals as goal
 
 pub returns : goal.returns

@@ -1,12 +1,11 @@
 -- `layout::entry::fields_in` meets its contract. Each number is a field of the sector, the name's length too.
 use Rattle.model.specs.Entry.{fields_of, entry_in}
 use Rattle.laws.proofs.Entry.{length-name_in}
-use Rattle.std.proofs.Common.{rules}
 use Rattle.layout.proofs.entry.fields_in.Goals as goal
 
 pub returns : goal.returns
 unfolding fields_of entry_in
-returns c = 
+returns c =
     let l = c in
     let m = l in
     let e = m in

@@ -1,6 +1,5 @@
 -- `layout::entry::is_occupied` meets its contract. The mark is compared.
 use Rattle.model.specs.Entry.{is_occupied}
-use Rattle.std.proofs.Common.{rules}
 use Rattle.layout.proofs.entry.is_occupied.Goals as goal
 
 pub returns : goal.returns

@@ -6,14 +6,14 @@ use Rattle.laws.proofs.Bytes.{bytes_from-eq}
 use Rattle.layout.proofs.entry.name.Goals as goal
 
 pub overflow_add-result : goal.overflow_add-result
-overflow_add-result c = 
+overflow_add-result c =
     let h : c.name_length-n.result ≤ c.of-e.result.longest_name =
     rw (c.name_length-n.ensures, ap (λ (l : EditionLayout). l.longest_name) c.of-e.ensures.result_value) c.requires.edition_bound in
     search rules
 
 pub returns : goal.returns
 unfolding name_in
-returns c = 
+returns c =
     let d = c in
     let s = d.args.s.now in
     let n = d.name_length-n.result in

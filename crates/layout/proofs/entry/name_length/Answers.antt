@@ -1,5 +1,4 @@
 -- `layout::entry::name_length` meets its contract. The field is the edition's.
-use Rattle.std.proofs.Common.{rules}
 use Rattle.layout.proofs.entry.name_length.Goals as goal
 
 pub returns : goal.returns

@@ -7,13 +7,13 @@ use Rattle.layout.specs.Unnamed.{unnamed_sector}
 use Rattle.layout.proofs.entry.renamed.Goals as goal
 
 pub copy_bytes-requires : goal.copy_bytes-requires
-copy_bytes-requires c = 
+copy_bytes-requires c =
     let h = rw (← c.of-e.ensures.result_value) at c.requires.name_len_bound in
     search rules
 
 pub returns : goal.returns
 unfolding renamed_entry_sector unnamed_sector
-returns c = 
+returns c =
     let n = c.args.name.now in
     let e : bytes_from n 0 (length n) ≡ n = bytes_from-all n (length n) refl in
     c.copy_bytes.ensures ∙ rw (

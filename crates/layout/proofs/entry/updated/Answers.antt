@@ -1,11 +1,11 @@
 -- `layout::entry::updated` meets its contract. The stores are those of the definition.
 use Rattle.model.specs.Entry.{updated_entry_sector}
-use Rattle.std.proofs.Common.{◌∙◌, rules}
+use Rattle.std.proofs.Common.{◌∙◌}
 use Rattle.layout.proofs.entry.updated.Goals as goal
 
 pub returns : goal.returns
 unfolding updated_entry_sector
-returns c = 
+returns c =
     c.set_to-3.ensures ∙ rw (
       c.set_to-2.ensures,
       c.set_to.ensures,

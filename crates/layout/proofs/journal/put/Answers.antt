@@ -1,6 +1,5 @@
 -- `layout::journal::put` meets its contract. The two stores are one store of both numbers.
 use Rattle.laws.proofs.Bytes.{put-append, length-be_bytes}
-use Rattle.std.proofs.Common.{rules}
 use Rattle.layout.proofs.journal.put.Goals as goal
 
 pub returns : goal.returns

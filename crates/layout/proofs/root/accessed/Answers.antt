@@ -1,6 +1,6 @@
 -- `layout::root::accessed` meets its contract. The store is that of the definition.
 use Rattle.model.specs.Root.{accessed_root_sector}
-use Rattle.std.proofs.Common.{◌∙◌, rules}
+use Rattle.std.proofs.Common.{◌∙◌}
 use Rattle.layout.proofs.root.accessed.Goals as goal
 
 pub returns : goal.returns

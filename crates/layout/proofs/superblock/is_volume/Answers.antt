@@ -3,7 +3,7 @@ use Rattle.laws.proofs.Bytes.{bytes_from-part}
 use Rattle.model.specs.Search.{equal_bytes}
 use Rattle.model.specs.Bytes.{bytes_from}
 use Rattle.model.specs.Superblock.{is_volume, magic}
-use Rattle.std.proofs.Common.{◌≡◌, sym, arith, rules}
+use Rattle.std.proofs.Common.{◌≡◌, sym, arith}
 use Rattle.layout.proofs.superblock.is_volume.Goals as goal
 
 pub returns-then-starts_with : goal.returns-then-starts_with

@@ -1,6 +1,5 @@
 -- `layout::superblock::journal_length` meets its contract.
 use Rattle.model.specs.Superblock.{journal_length}
-use Rattle.std.proofs.Common.{rules}
 use Rattle.layout.proofs.superblock.journal_length.Goals as goal
 
 pub returns : goal.returns

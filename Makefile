@@ -4,8 +4,8 @@
 # make soak [MINUTES=60]   fresh random cases for the proved library and the second program: runs of calls, cuts, damage, edges, lent
 #             forms; prints the sums, and at the first difference a line that replays it (REPLAY=KIND:SEED). SEED=S CASES=N makes the
 #             same cases again, THREADS=T takes so many cores instead of all
-# make mutants   the must-fail edits that the gate leaves out (crates/*/must-fail/more), and every wrong definition of
-#             host/definition-edits, with the statement that it makes false
+# make mutants   every must-fail edit, also those tried before, and every wrong definition of host/definition-edits, with the statement
+#             that it makes false
 # make vectors   the folder vectors/: small volumes of every kind as text, and what stands on each, for the tests of other readers
 # make install PREFIX=DIR [DESTDIR=DIR]   installs the command, its manual and completion, the header, the library and a pkg-config
 #             file; make uninstall removes them
@@ -30,7 +30,7 @@ soak:
 	    $(if $(CASES),--cases $(CASES),--minutes $(MINUTES)) $(if $(SEED),--seed $(SEED)) $(if $(THREADS),--threads $(THREADS)))
 
 mutants:
-	@tests/more-edits
+	@tests/edits
 	@cargo run --manifest-path host/Cargo.toml --offline --release --quiet -p definition-edits
 
 install:

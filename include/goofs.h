@@ -3,7 +3,7 @@
  * A slice passes as pointer then length; the pointer may be null where the length is 0. Slices of one call must not overlap.
  * No call keeps a pointer, takes memory or touches anything but the slices that it is lent. Every call ends with an answer, on
  * any bytes and any arguments. The stack that a call takes depends on the volume's files and extents alone, as its arrays have a few sizes;
- * measured in bytes, of the library as `rt lib` compiles it, on x86-64 (`bench stack`, bench/README.md):
+ * measured in bytes, of the library as a kit before rattle-kit-13f compiled it, on x86-64 (`bench stack`, bench/README.md):
  *
  *     files up to                          1,024    1,024    1,024    65,535
  *     extents up to                        1,024    4,096   65,535    65,535

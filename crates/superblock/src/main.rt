@@ -1,68 +1,88 @@
 // The small program: reads one sector from standard input and prints the geometry, the areas and the state that its superblock
 // gives, a line each; or one line, "refused " and the number. What follows the first sector is ignored.
+//
+// A read that fails ends the input, and a write that fails is passed over.
 #![tactic(auto)]
-use libc::{STDIN_FILENO, STDOUT_FILENO};
-use model::{Geometry, Located, State, Summary};
 
-fn print_number(label: &[u8], n: u64) {
-    io::write_all(STDOUT_FILENO, label);
-    io::print_decimal(STDOUT_FILENO, n);
-    io::write_all(STDOUT_FILENO, b"\n");
+ghost use Rattle.std.specs.Prelude.{◌≤◌, length};
+
+use model::{Geometry, Located, State, Summary};
+use std::io::Read;
+
+// Reads until `buf` is full, the input ends or a read fails, and returns how many bytes stand at the start of `buf`.
+fn read_full(input: &mut impl Read, buf: &mut [u8]) -> usize
+    ensures { result ≤ length buf.new }
+{
+    let mut done = 0;
+    while done < buf.len() {
+        match input.read(&mut buf[done..]) {
+            Ok(0) => break,
+            Ok(n) => done += n,
+            Err(_) => break,
+        }
+    }
+    done
+}
+
+fn print_number(rt: &impl Print, label: &[u8], n: u64) {
+    let _ = rt.write_all(label);
+    let _ = rt.print(n);
+    let _ = rt.write_all(b"\n");
 }
 
 // A refused area has no line: the program prints areas only of a geometry in bounds.
-fn print_area(label: &[u8], area: Located) {
+fn print_area(rt: &impl Print, label: &[u8], area: Located) {
     if area.number == 0 {
         let start = area.sector;
-        print_number(label, start.0);
+        print_number(rt, label, start.0);
     }
 }
 
-fn print_state(state: State) {
+fn print_state(rt: &impl Print, state: State) {
     match state {
         State::Clean => {
-            io::write_all(STDOUT_FILENO, b"state clean\n");
+            let _ = rt.write_all(b"state clean\n");
         }
-        State::Waiting(n) => print_number(b"state waiting ", n),
+        State::Waiting(n) => print_number(rt, b"state waiting ", n),
         State::Damaged => {
-            io::write_all(STDOUT_FILENO, b"state damaged\n");
+            let _ = rt.write_all(b"state damaged\n");
         }
         State::Unfinished => {
-            io::write_all(STDOUT_FILENO, b"state unfinished\n");
+            let _ = rt.write_all(b"state unfinished\n");
         }
     }
 }
 
-fn print_geometry(g: Geometry) {
-    print_number(b"files ", g.files);
-    print_number(b"extents ", g.extents);
-    print_number(b"extent-sectors ", g.extent_sectors as u64);
+fn print_geometry(rt: &impl Print, g: Geometry) {
+    print_number(rt, b"files ", g.files);
+    print_number(rt, b"extents ", g.extents);
+    print_number(rt, b"extent-sectors ", g.extent_sectors as u64);
     if g.in_bounds() {
-        print_number(b"table-sectors ", g.table_sectors());
+        print_number(rt, b"table-sectors ", g.table_sectors());
     }
 }
 
-fn print_areas(s: Summary) {
-    print_area(b"journal-at ", s.journal_at());
-    print_area(b"table-at ", s.table_at());
-    print_area(b"data-at ", s.data_at());
+fn print_areas(rt: &impl Print, s: Summary) {
+    print_area(rt, b"journal-at ", s.journal_at());
+    print_area(rt, b"table-at ", s.table_at());
+    print_area(rt, b"data-at ", s.data_at());
     let g = s.geometry;
     if g.in_bounds() {
-        print_number(b"reserve-extents ", g.reserve_extents());
+        print_number(rt, b"reserve-extents ", g.reserve_extents());
     }
 }
 
-fn main() {
+fn main(rt: HostRuntime) {
     let mut input = [0u8; 512];
-    let n = io::read_full(STDIN_FILENO, &mut input);
+    let n = read_full(&mut rt.stdin(), &mut input);
     let answer = volume::superblock_summary(&input[..n]);
     if answer.number == 0 {
         let s = answer.summary;
-        print_geometry(s.geometry);
-        print_areas(s);
+        print_geometry(&rt, s.geometry);
+        print_areas(&rt, s);
         let state = s.state;
-        print_state(state);
+        print_state(&rt, state);
         return;
     }
-    print_number(b"refused ", answer.number);
+    print_number(&rt, b"refused ", answer.number);
 }

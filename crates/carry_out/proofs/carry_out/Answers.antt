@@ -4,7 +4,7 @@ use Rattle.carry_out.proofs.Laws.{refused-1, cut_record, bad-record, carried}
 use Rattle.carry_out.proofs.carry_out.Goals as goal
 
 pub returns-then-has_bad : goal.returns-then-has_bad
-returns-then-has_bad c = 
+returns-then-has_bad c =
     let a = c.args in
     let r = bad-record a.img.now a.list.now (sym c.is_whole.ensures ∙ c.if-is_whole.true)
     c.if-list-eq0.true (sym c.has_bad.ensures ∙ c.if-has_bad.true) in record {
@@ -16,7 +16,7 @@ pub put_records-requires : goal.put_records-requires
 put_records-requires c = sym c.has_bad.ensures ∙ c.if-has_bad.false
 
 pub returns-then-list-eq0 : goal.returns-then-list-eq0
-returns-then-list-eq0 c = 
+returns-then-list-eq0 c =
     let a = c.args in
     let r = carried a.img.now a.list.now
     (sym c.is_whole.ensures ∙ c.if-is_whole.true)
@@ -27,7 +27,7 @@ returns-then-list-eq0 c =
     }
 
 pub returns-then-is_whole : goal.returns-then-is_whole
-returns-then-is_whole c = 
+returns-then-is_whole c =
     let a = c.args in
     let r = cut_record a.img.now a.list.now (sym c.is_whole.ensures ∙ c.if-is_whole.true) c.if-list-eq0.false in record {
       value = c.answered-then-is_whole.ensures ∙ r.0;
@@ -35,7 +35,7 @@ returns-then-is_whole c =
     }
 
 pub returns : goal.returns
-returns c = 
+returns c =
     let a = c.args in
     let r = refused-1 a.img.now a.list.now (sym c.is_whole.ensures ∙ c.if-is_whole.false) in record {
       value = c.answered-2.ensures ∙ r.0;

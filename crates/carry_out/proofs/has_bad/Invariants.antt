@@ -1,14 +1,9 @@
 -- `carry_out::has_bad` meets its contract. The loop's invariant: none of the records passed is bad.
-use Rattle.model.specs.WriteList.{record_size}
-use borrow.Author.Rules.{rules}
-use Prim.Native.Nat.{◌-◌, ◌/◌, ◌≤◌}
-use mathlib.Core.Path.{◌≡◌, refl, sym, ◌∙◌}
+use Prim.Native.Nat.{◌-◌, ◌≤◌}
+use mathlib.Core.Path.{◌≡◌}
 use mathlib.Core.Bool.{false}
-use native.Mathlib.Omega.{arith}
-use lib.ListN.{length}
 use Rattle.model.specs.Search.{any_below}
 use Rattle.model.specs.CarryOut.{bad_record}
-use Rattle.laws.proofs.Search.{any_below-more, any_below-true}
 use Rattle.carry_out.proofs.has_bad.Given as goal
 
 abbrev pub invariant-loop-k : goal.invariant-loop-k

@@ -1,13 +1,13 @@
 -- `carry_out::put_records` meets its contract. The loop's invariant: the records passed are written.
 use Rattle.model.specs.WriteList.{record_size}
 use borrow.Author.Rules.{rules}
-use Prim.Native.Nat.{◌-◌, ◌/◌, ◌≤◌}
+use Prim.Native.Nat.{◌/◌}
 use mathlib.Core.Path.{◌≡◌, refl}
 use native.Mathlib.Omega.{arith}
 use lib.ListN.{length}
 use Rattle.model.specs.Search.{tabulate}
 use Rattle.model.specs.WriteList.{stored}
-use Rattle.model.specs.CarryOut.{record_in, records_in, bad_record}
+use Rattle.model.specs.CarryOut.{records_in, bad_record}
 use Rattle.laws.proofs.Search.{none-at}
 use Rattle.carry_out.proofs.Laws.{stored_more}
 use Rattle.carry_out.proofs.put_records.Goals as goal
@@ -17,7 +17,7 @@ unfolding tabulate stored
 loop-k-init c = (search rules, refl, refl)
 
 pub put_record-requires : goal.put_record-requires
-put_record-requires c = 
+put_record-requires c =
     let a = c.args in
     let l = c.loop-k in record {
       record_size_in_bounds = search rules;
@@ -26,13 +26,13 @@ put_record-requires c =
     }
 
 pub loop-k-preserved : goal.loop-k-preserved
-loop-k-preserved c = 
+loop-k-preserved c =
     let l = c.loop-k in
     (search rules, rw (stored_more, ← l.invariant.1) c.put_record.ensures, search rules)
 
 pub returns : goal.returns
 unfolding records_in
-returns c = 
+returns c =
     let l = c.loop-k in
     let e : l.k ≡ length c.args.list.now / record_size = omega arith in
     rw (← e) l.invariant.1

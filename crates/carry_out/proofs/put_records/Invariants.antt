@@ -1,15 +1,10 @@
 -- `carry_out::put_records` meets its contract. The loop's invariant: the records passed are written.
-use Rattle.model.specs.WriteList.{record_size}
-use borrow.Author.Rules.{rules}
-use Prim.Native.Nat.{◌-◌, ◌/◌, ◌≤◌}
-use mathlib.Core.Path.{◌≡◌, refl}
-use native.Mathlib.Omega.{arith}
+use Prim.Native.Nat.{◌-◌, ◌≤◌}
+use mathlib.Core.Path.{◌≡◌}
 use lib.ListN.{length}
 use Rattle.model.specs.Search.{tabulate}
 use Rattle.model.specs.WriteList.{stored}
-use Rattle.model.specs.CarryOut.{record_in, records_in, bad_record}
-use Rattle.laws.proofs.Search.{none-at}
-use Rattle.carry_out.proofs.Laws.{stored_more}
+use Rattle.model.specs.CarryOut.{record_in}
 use Rattle.carry_out.proofs.put_records.Given as goal
 
 abbrev pub invariant-loop-k : goal.invariant-loop-k

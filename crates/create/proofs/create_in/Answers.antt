@@ -16,12 +16,12 @@ own_verdict-v-requires c = accepted-opened _ _ c.geometry_in-g.ensures (omega ar
 
 pub staging-requires : goal.staging-requires
 staging-requires c = record {
-      opened = accepted-opened _ _ c.geometry_in-g.ensures (omega arith) c.requires;
-      stages_value = refl;
-    }
+  opened = accepted-opened _ _ c.geometry_in-g.ensures (omega arith) c.requires;
+  stages_value = refl;
+}
 
 pub put_create-requires : goal.put_create-requires
-put_create-requires c = 
+put_create-requires c =
     let v = c in
     let o = v.geometry_in-g in
     let s = v in
@@ -34,7 +34,7 @@ put_create-requires c =
     }
 
 pub returns-then-list-ge-LIST_SIZE : goal.returns-then-list-ge-LIST_SIZE
-returns-then-list-ge-LIST_SIZE c = 
+returns-then-list-ge-LIST_SIZE c =
     let v = c in
     let s = v in
     let a = s.args in
@@ -45,7 +45,7 @@ returns-then-list-ge-LIST_SIZE c =
     (omega (arith, c.if-list-ge-LIST_SIZE.true)) c.put_create.ensures))
 
 pub returns-then-staging : goal.returns-then-staging
-returns-then-staging c = 
+returns-then-staging c =
     let v = c in
     let s = v in
     let a = s.args in
@@ -55,7 +55,7 @@ returns-then-staging c =
     (c.staging.ensures.img_value ∙ ap not c.if-staging.true) (omega arith)))
 
 pub returns-then-v-eq0 : goal.returns-then-v-eq0
-returns-then-v-eq0 c = 
+returns-then-v-eq0 c =
     let v = c in
     let s = v in
     let a = s.args in
@@ -64,7 +64,7 @@ returns-then-v-eq0 c =
     c.if-v-eq0.true (c.staging.ensures.img_value ∙ ap not c.if-staging.false)))
 
 pub returns : goal.returns
-returns c = 
+returns c =
     let v = c in
     let s = v in
     let a = s.args in

@@ -9,7 +9,7 @@ pub returns-then-has_id : goal.returns-then-has_id
 returns-then-has_id c = rw (← c.file_named-p.ensures, ← c.is_at.ensures, c.if-is_at.false, ← c.has_id.ensures, c.if-has_id.true)
 
 pub returns : goal.returns
-returns c = 
+returns c =
     let d = c in
     rw (
       ← d.file_named-p.ensures,

@@ -4,12 +4,12 @@ use Rattle.create.proofs.Laws.{own-by, short-good}
 use Rattle.create.proofs.own_verdict.Goals as goal
 
 pub returns-then-bad_argument : goal.returns-then-bad_argument
-returns-then-bad_argument c = 
+returns-then-bad_argument c =
     let s = c in
     rw (own-by s.args.img.now s.args.g s.requires.is _ _ _, ← c.bad_argument.ensures, c.if-bad_argument.true) c.refusal.ensures
 
 pub is_taken-requires : goal.is_taken-requires
-is_taken-requires c = 
+is_taken-requires c =
     let s = c in
     let a = s.args in record {
       opened = s.requires;
@@ -17,7 +17,7 @@ is_taken-requires c =
     }
 
 pub returns-then-is_taken : goal.returns-then-is_taken
-returns-then-is_taken c = 
+returns-then-is_taken c =
     let d = c in
     let s = d in
     rw (
@@ -30,7 +30,7 @@ returns-then-is_taken c =
     c.refusal-then-is_taken.ensures
 
 pub returns-then-is_at : goal.returns-then-is_at
-returns-then-is_at c = 
+returns-then-is_at c =
     let d = c in
     let s = d in
     rw (
@@ -46,7 +46,7 @@ returns-then-is_at c =
     c.refusal-then-is_at.ensures
 
 pub returns : goal.returns
-returns c = 
+returns c =
     let d = c in
     let s = d in
     rw (

@@ -7,21 +7,21 @@ use Rattle.create.proofs.Laws.{free-below}
 use Rattle.create.proofs.put_create.Goals as goal
 
 pub sector-t-requires : goal.sector-t-requires
-sector-t-requires c = 
+sector-t-requires c =
     let s = c in
     let h : c.index_of-i.result ≤ s.args.g.files = rw (c.index_of-i.ensures, c.free_entry.ensures, s.requires.opened.is) (free-below _) in
     omega arith
 
 pub put_pair-requires : goal.put_pair-requires
 put_pair-requires c = let s = c in record {
-      stages_of = s.requires.stages_of;
-      record_size_in_bounds = s.requires.record_size_in_bounds;
-      opened = s.requires.opened;
-    }
+  stages_of = s.requires.stages_of;
+  record_size_in_bounds = s.requires.record_size_in_bounds;
+  opened = s.requires.opened;
+}
 
 pub returns : goal.returns
 unfolding create_plan
-returns c = 
+returns c =
     let s = c in
     let n = s in
     let a = n in

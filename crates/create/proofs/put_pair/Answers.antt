@@ -12,31 +12,31 @@ use Rattle.create.proofs.put_pair.Goals as goal
 
 pub put_copy-k-requires : goal.put_copy-k-requires
 put_copy-k-requires c = record {
-      stages = c.requires.stages_of.inside;
-      record_size_in_bounds = search rules;
-      bounded = search rules;
-      j_bound = search rules;
-    }
+  stages = c.requires.stages_of.inside;
+  record_size_in_bounds = search rules;
+  bounded = search rules;
+  j_bound = search rules;
+}
 
 pub put_copy-n-requires : goal.put_copy-n-requires
 put_copy-n-requires c = record {
-      stages = c.requires.stages_of.inside;
-      record_size_in_bounds = search rules;
-      bounded = search rules;
-      j_bound = search rules;
-    }
+  stages = c.requires.stages_of.inside;
+  record_size_in_bounds = search rules;
+  bounded = search rules;
+  j_bound = search rules;
+}
 
 pub put_commit-requires : goal.put_commit-requires
 put_commit-requires c = record {
-      stages = c.requires.stages_of.inside;
-      record_size_in_bounds = search rules;
-      in_bounds = search rules;
-      bounded = search rules;
-      n_bound = search rules;
-    }
+  stages = c.requires.stages_of.inside;
+  record_size_in_bounds = search rules;
+  in_bounds = search rules;
+  bounded = search rules;
+  n_bound = search rules;
+}
 
 pub returns : goal.returns
-returns c = 
+returns c =
     let c3 = c in
     let c2 = c3 in
     let c1 = c2 in

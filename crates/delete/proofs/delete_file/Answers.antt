@@ -12,12 +12,12 @@ use Rattle.delete.proofs.delete_file.Goals as goal
 
 pub staging-requires : goal.staging-requires
 staging-requires c = record {
-      opened = c.requires.opened;
-      stages_value = refl;
-    }
+  opened = c.requires.opened;
+  stages_value = refl;
+}
 
 pub put_delete-requires : goal.put_delete-requires
-put_delete-requires c = 
+put_delete-requires c =
     let t = c in
     let s = t in
     let there = t.staging.ensures.stages_of c.if-staging.true in record {
@@ -28,7 +28,7 @@ put_delete-requires c =
     }
 
 pub returns-then-needed-list : goal.returns-then-needed-list
-returns-then-needed-list c = 
+returns-then-needed-list c =
     let n = c in
     let t = n in
     let s = t in
@@ -42,7 +42,7 @@ returns-then-needed-list c =
     (omega (arith, c.if-needed-list.true)) c.put_delete.ensures)
 
 pub returns-then-staging : goal.returns-then-staging
-returns-then-staging c = 
+returns-then-staging c =
     let t = c in
     let s = t in
     let a = s.args in
@@ -54,7 +54,7 @@ returns-then-staging c =
     (omega (arith, c.if-needed-list.false, n.ensures.value, delete-needs d a.g s.requires.opened.is a.i.0 a.time)))
 
 pub returns : goal.returns
-returns c = 
+returns c =
     let s = c in
     let a = s.args in
     let d = view a.img.now in

@@ -14,7 +14,7 @@ pub geometry_in-g-requires : goal.geometry_in-g-requires
 geometry_in-g-requires c = accepted-length _ c.requires
 
 pub returns-then-bad_name_or_time : goal.returns-then-bad_name_or_time
-returns-then-bad_name_or_time c = 
+returns-then-bad_name_or_time c =
     let f = c in
     let s = f in
     let a = s.args in
@@ -23,7 +23,7 @@ returns-then-bad_name_or_time c =
     (rw f.geometry_in-g.ensures at (sym f.bad_name_or_time.ensures ∙ c.if-bad_name_or_time.true))))
 
 pub file_named-requires : goal.file_named-requires
-file_named-requires c = 
+file_named-requires c =
     let f = c in
     let s = f in
     let e = f.geometry_in-g.result.edition in record {
@@ -32,7 +32,7 @@ file_named-requires c =
     }
 
 pub delete_file-requires : goal.delete_file-requires
-delete_file-requires c = 
+delete_file-requires c =
     let f = c in
     let s = f in
     let a = s.args in
@@ -45,7 +45,7 @@ delete_file-requires c =
     }
 
 pub returns-in-At : goal.returns-in-At
-returns-in-At c = 
+returns-in-At c =
     let k = c in
     let f = k in
     let s = f in
@@ -54,7 +54,7 @@ returns-in-At c =
     let found = sym f.file_named.ensures ∙ k.in-At.is in value_and_list (delete-found a.img.now a.list.now a.name.now a.time s.requires.verdict k.in-At.i good found k.delete_file.ensures)
 
 pub returns : goal.returns
-returns c = 
+returns c =
     let f = c in
     let s = f in
     let a = s.args in

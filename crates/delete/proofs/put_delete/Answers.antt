@@ -14,22 +14,22 @@ use Rattle.delete.proofs.put_delete.Goals as goal
 
 pub put_copy-k-requires : goal.put_copy-k-requires
 put_copy-k-requires c = record {
-      stages = c.requires.stages_of.inside;
-      record_size_in_bounds = search rules;
-      bounded = search rules;
-      j_bound = search rules;
-    }
+  stages = c.requires.stages_of.inside;
+  record_size_in_bounds = search rules;
+  bounded = search rules;
+  j_bound = search rules;
+}
 
 pub put_copy-j-requires : goal.put_copy-j-requires
 put_copy-j-requires c = record {
-      stages = c.requires.stages_of.inside;
-      record_size_in_bounds = search rules;
-      bounded = search rules;
-      j_bound = search rules;
-    }
+  stages = c.requires.stages_of.inside;
+  record_size_in_bounds = search rules;
+  bounded = search rules;
+  j_bound = search rules;
+}
 
 pub put_freed-n-requires : goal.put_freed-n-requires
-put_freed-n-requires c = 
+put_freed-n-requires c =
     let q = c in
     let p = q in
     let s = p in
@@ -43,7 +43,7 @@ put_freed-n-requires c =
     }
 
 pub put_commit-requires : goal.put_commit-requires
-put_commit-requires c = 
+put_commit-requires c =
     let f = c in
     let q = f in
     let p = q in
@@ -60,7 +60,7 @@ put_commit-requires c =
 
 pub returns : goal.returns
 unfolding zero_sector
-returns c = 
+returns c =
     let m = c in
     let f = m in
     let q = f in

@@ -5,6 +5,6 @@ use Rattle.goofs.proofs.goofs_carry_out.Goals as goal
 
 pub returns : goal.returns
 returns c = record {
-      value = ap (λ (a : CarriedOut). a.number) c.carry_out-a.ensures.value;
-      img_after = c.carry_out-a.ensures.img_after;
-    }
+  value = ap (λ (a : CarriedOut). a.number) c.carry_out-a.ensures.value;
+  img_after = c.carry_out-a.ensures.img_after;
+}

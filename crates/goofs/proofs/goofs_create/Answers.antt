@@ -5,6 +5,6 @@ use Rattle.goofs.proofs.goofs_create.Goals as goal
 
 pub returns : goal.returns
 returns c = record {
-      value = c.change_result.ensures ∙ ap change_numbers c.create-a.ensures.value;
-      list_after = c.create-a.ensures.list_after;
-    }
+  value = c.change_result.ensures ∙ ap change_numbers c.create-a.ensures.value;
+  list_after = c.create-a.ensures.list_after;
+}

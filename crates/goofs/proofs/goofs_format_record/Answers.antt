@@ -5,6 +5,6 @@ use Rattle.goofs.proofs.goofs_format_record.Goals as goal
 
 pub returns : goal.returns
 returns c = record {
-      value = ap format_numbers c.format_record-a.ensures.value;
-      out_after = c.format_record-a.ensures.out_after;
-    }
+  value = ap format_numbers c.format_record-a.ensures.value;
+  out_after = c.format_record-a.ensures.out_after;
+}

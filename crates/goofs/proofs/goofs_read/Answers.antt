@@ -5,7 +5,7 @@ use Rattle.goofs.proofs.goofs_read.Goals as goal
 
 pub returns : goal.returns
 returns c = let q = c.read-a.ensures in record {
-      value = c.read_result.ensures ∙ ap read_numbers q.value;
-      out_after = q.out_after;
-      list_after = q.list_after;
-    }
+  value = c.read_result.ensures ∙ ap read_numbers q.value;
+  out_after = q.out_after;
+  list_after = q.list_after;
+}

@@ -5,6 +5,6 @@ use Rattle.goofs.proofs.goofs_recover.Goals as goal
 
 pub returns : goal.returns
 returns c = record {
-      value = ap recover_numbers c.recover-a.ensures.value;
-      list_after = c.recover-a.ensures.list_after;
-    }
+  value = ap recover_numbers c.recover-a.ensures.value;
+  list_after = c.recover-a.ensures.list_after;
+}

@@ -5,6 +5,6 @@ use Rattle.goofs.proofs.goofs_recover_slice.Goals as goal
 
 pub returns : goal.returns
 returns c = record {
-      value = ap slice_numbers c.recover_slice-a.ensures.value;
-      list_after = c.recover_slice-a.ensures.list_after;
-    }
+  value = ap slice_numbers c.recover_slice-a.ensures.value;
+  list_after = c.recover_slice-a.ensures.list_after;
+}

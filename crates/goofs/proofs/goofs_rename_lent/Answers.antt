@@ -5,6 +5,6 @@ use Rattle.goofs.proofs.goofs_rename_lent.Goals as goal
 
 pub returns : goal.returns
 returns c = record {
-      value = c.change_result.ensures ∙ ap change_numbers c.rename_lent-a.ensures.value;
-      list_after = c.rename_lent-a.ensures.list_after;
-    }
+  value = c.change_result.ensures ∙ ap change_numbers c.rename_lent-a.ensures.value;
+  list_after = c.rename_lent-a.ensures.list_after;
+}

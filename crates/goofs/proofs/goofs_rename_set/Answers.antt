@@ -5,6 +5,6 @@ use Rattle.goofs.proofs.goofs_rename_set.Goals as goal
 
 pub returns : goal.returns
 returns c = record {
-      value = c.change_result.ensures ∙ ap change_numbers c.rename_set-a.ensures.value;
-      list_after = c.rename_set-a.ensures.list_after;
-    }
+  value = c.change_result.ensures ∙ ap change_numbers c.rename_set-a.ensures.value;
+  list_after = c.rename_set-a.ensures.list_after;
+}

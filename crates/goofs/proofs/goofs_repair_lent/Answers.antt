@@ -5,6 +5,6 @@ use Rattle.goofs.proofs.goofs_repair_lent.Goals as goal
 
 pub returns : goal.returns
 returns c = record {
-      value = c.repair_result.ensures ∙ ap repair_numbers c.repair_lent-a.ensures.value;
-      list_after = c.repair_lent-a.ensures.list_after;
-    }
+  value = c.repair_result.ensures ∙ ap repair_numbers c.repair_lent-a.ensures.value;
+  list_after = c.repair_lent-a.ensures.list_after;
+}

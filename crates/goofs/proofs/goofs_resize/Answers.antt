@@ -5,6 +5,6 @@ use Rattle.goofs.proofs.goofs_resize.Goals as goal
 
 pub returns : goal.returns
 returns c = record {
-      value = c.change_result.ensures ∙ ap change_numbers c.resize-a.ensures.value;
-      list_after = c.resize-a.ensures.list_after;
-    }
+  value = c.change_result.ensures ∙ ap change_numbers c.resize-a.ensures.value;
+  list_after = c.resize-a.ensures.list_after;
+}

@@ -5,6 +5,6 @@ use Rattle.goofs.proofs.goofs_write.Goals as goal
 
 pub returns : goal.returns
 returns c = record {
-      value = c.change_result.ensures ∙ ap change_numbers c.write-a.ensures.value;
-      list_after = c.write-a.ensures.list_after;
-    }
+  value = c.change_result.ensures ∙ ap change_numbers c.write-a.ensures.value;
+  list_after = c.write-a.ensures.list_after;
+}

@@ -5,7 +5,7 @@ use Rattle.commit.proofs.Laws.{added_then}
 use Rattle.rename.proofs.put_entries.Goals as goal
 
 pub put_renamed-n-requires : goal.put_renamed-n-requires
-put_renamed-n-requires c = 
+put_renamed-n-requires c =
     let s = c in record {
       stages = s.requires.stages;
       opened = s.requires.opened;
@@ -14,7 +14,7 @@ put_renamed-n-requires c =
     }
 
 pub put_freed_entry-requires : goal.put_freed_entry-requires
-put_freed_entry-requires c = 
+put_freed_entry-requires c =
     let s = c in record {
       stages = s.requires.stages;
       bounded = s.requires.opened.bounded;
@@ -23,7 +23,7 @@ put_freed_entry-requires c =
     }
 
 pub returns-then-i-j : goal.returns-then-i-j
-returns-then-i-j c = 
+returns-then-i-j c =
     let q = c in
     let p = q in record {
       added = rw (lt-ltb _ _ p.if-i-j.true) (added_then p.put_renamed-n.ensures.added q.put_freed_entry.ensures.added);
@@ -31,7 +31,7 @@ returns-then-i-j c =
     }
 
 pub put_freed_entry-n-requires : goal.put_freed_entry-n-requires
-put_freed_entry-n-requires c = 
+put_freed_entry-n-requires c =
     let s = c in record {
       stages = s.requires.stages;
       bounded = s.requires.opened.bounded;
@@ -40,7 +40,7 @@ put_freed_entry-n-requires c =
     }
 
 pub put_renamed-requires : goal.put_renamed-requires
-put_renamed-requires c = 
+put_renamed-requires c =
     let s = c in record {
       stages = s.requires.stages;
       opened = s.requires.opened;
@@ -49,7 +49,7 @@ put_renamed-requires c =
     }
 
 pub returns : goal.returns
-returns c = 
+returns c =
     let q = c in
     let p = q in record {
       added = rw (le-ltb _ _ p.if-i-j.false) (added_then p.put_freed_entry-n.ensures.added q.put_renamed.ensures.added);

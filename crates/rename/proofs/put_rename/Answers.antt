@@ -11,14 +11,14 @@ use Rattle.rename.proofs.put_rename.Goals as goal
 
 pub put_copy-k-requires : goal.put_copy-k-requires
 put_copy-k-requires c = record {
-      stages = c.requires.stages_of.inside;
-      record_size_in_bounds = search rules;
-      bounded = search rules;
-      j_bound = search rules;
-    }
+  stages = c.requires.stages_of.inside;
+  record_size_in_bounds = search rules;
+  bounded = search rules;
+  j_bound = search rules;
+}
 
 pub put_renaming-n-requires : goal.put_renaming-n-requires
-put_renaming-n-requires c = 
+put_renaming-n-requires c =
     let first = c.put_copy-k.ensures.emitted.next in
     let s = c in record {
       stages = s.requires.stages_of.inside;
@@ -29,7 +29,7 @@ put_renaming-n-requires c =
     }
 
 pub put_commit-requires : goal.put_commit-requires
-put_commit-requires c = 
+put_commit-requires c =
     let f = c in
     let p = f in
     let s = p in
@@ -43,7 +43,7 @@ put_commit-requires c =
     }
 
 pub returns : goal.returns
-returns c = 
+returns c =
     let m = c in
     let f = m in
     let p = f in

@@ -9,15 +9,15 @@ use Rattle.rename.proofs.put_renamed.Goals as goal
 
 pub put_copy-requires : goal.put_copy-requires
 put_copy-requires c = record {
-      stages = c.requires.stages;
-      record_size_in_bounds = search rules;
-      bounded = search rules;
-      j_bound = search rules;
-    }
+  stages = c.requires.stages;
+  record_size_in_bounds = search rules;
+  bounded = search rules;
+  j_bound = search rules;
+}
 
 pub returns : goal.returns
 unfolding renamed_record
-returns c = 
+returns c =
     let q = c in
     let s = c in
     let room = s.requires.record_size_in_bounds.2 in

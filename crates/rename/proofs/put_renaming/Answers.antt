@@ -7,7 +7,7 @@ use Rattle.rename.specs.Renaming.{renaming_count}
 use Rattle.rename.proofs.put_renaming.Goals as goal
 
 pub put_replacing-requires : goal.put_replacing-requires
-put_replacing-requires c = 
+put_replacing-requires c =
     let s = c in
     let at = c.in-At.is in
     let low = ap (λ (x : Lowest). index_of x) at in
@@ -20,7 +20,7 @@ put_replacing-requires c =
     }
 
 pub put_renamed-requires : goal.put_renamed-requires
-put_renamed-requires c = 
+put_renamed-requires c =
     let s = c in
     let n = ap (λ (x : Lowest). renaming_count s.args.img.now s.args.g x) c.in-Nowhere.is in record {
       stages = s.requires.stages;
@@ -30,7 +30,7 @@ put_renamed-requires c =
     }
 
 pub returns-in-At : goal.returns-in-At
-returns-in-At c = 
+returns-in-At c =
     let q = c.put_replacing.ensures in
     rw c.in-At.is record {
       added = q.added;
@@ -38,7 +38,7 @@ returns-in-At c =
     }
 
 pub returns-in-Nowhere : goal.returns-in-Nowhere
-returns-in-Nowhere c = 
+returns-in-Nowhere c =
     let q = c in
     rw c.in-Nowhere.is record {
       added = q.put_renamed.ensures.added;

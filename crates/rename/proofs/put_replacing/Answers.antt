@@ -5,7 +5,7 @@ use Rattle.rename.proofs.Laws.{replacing-is}
 use Rattle.rename.proofs.put_replacing.Goals as goal
 
 pub put_entries-n-requires : goal.put_entries-n-requires
-put_entries-n-requires c = 
+put_entries-n-requires c =
     let s = c in record {
       stages = s.requires.stages;
       opened = s.requires.opened;
@@ -14,7 +14,7 @@ put_entries-n-requires c =
     }
 
 pub put_freed-requires : goal.put_freed-requires
-put_freed-requires c = 
+put_freed-requires c =
     let n = c.put_entries-n.ensures.value in
     let s = c in record {
       stages = s.requires.stages;
@@ -25,7 +25,7 @@ put_freed-requires c =
     }
 
 pub returns : goal.returns
-returns c = 
+returns c =
     let f = c in
     let p = f in
     let s = p in

@@ -10,12 +10,12 @@ use Rattle.rename.proofs.rename_count.Goals as goal
 
 pub sectors_from-requires : goal.sectors_from-requires
 sectors_from-requires c = let low = ap (λ (x : Lowest). index_of x) c.in-At.is in record {
-      opened = c.requires.opened;
-      i_lt_free_file = omega (arith, c.requires.place_bound);
-    }
+  opened = c.requires.opened;
+  i_lt_free_file = omega (arith, c.requires.place_bound);
+}
 
 pub returns-in-At : goal.returns-in-At
-returns-in-At c = 
+returns-in-At c =
     let a = c.args in
     let e = ap (λ (x : Lowest). renaming_count a.img.now a.g x) c.in-At.is in
     let n = c.sectors_from.ensures in
@@ -25,7 +25,7 @@ returns-in-At c =
     }
 
 pub returns-in-Nowhere : goal.returns-in-Nowhere
-returns-in-Nowhere c = 
+returns-in-Nowhere c =
     let s = c in
     let e = ap (λ (x : Lowest). renaming_count s.args.img.now s.args.g x) c.in-Nowhere.is in record {
       value = rw e c.records_for-in-Nowhere.ensures;

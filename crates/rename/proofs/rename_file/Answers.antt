@@ -10,23 +10,22 @@ use Rattle.commit.proofs.Decided.{fitted-full, fitted_short, fitted-done}
 use Rattle.rename.specs.Renaming.{plan_for}
 use Rattle.rename.proofs.Laws.{rename-needs}
 use Rattle.rename.proofs.Decisions.{place-below}
-use borrow.Author.Rules.{rules}
 use Rattle.rename.proofs.rename_file.Goals as goal
 
 pub staging-requires : goal.staging-requires
 staging-requires c = record {
-      opened = c.requires.opened;
-      stages_value = refl;
-    }
+  opened = c.requires.opened;
+  stages_value = refl;
+}
 
 pub rename_count-needed-requires : goal.rename_count-needed-requires
 rename_count-needed-requires c = let s = c in record {
-      opened = s.requires.opened;
-      place_bound = place-below _ s.args.name.now s.requires.opened c.file_named-place.ensures;
-    }
+  opened = s.requires.opened;
+  place_bound = place-below _ s.args.name.now s.requires.opened c.file_named-place.ensures;
+}
 
 pub put_rename-requires : goal.put_rename-requires
-put_rename-requires c = 
+put_rename-requires c =
     let s = c in
     let place = place-below _ s.args.name.now s.requires.opened c.file_named-place.ensures in
     let stages = c.staging.ensures.stages_of c.if-staging.true in record {
@@ -37,7 +36,7 @@ put_rename-requires c =
     }
 
 pub returns-then-needed-list : goal.returns-then-needed-list
-returns-then-needed-list c = 
+returns-then-needed-list c =
     let k = c in
     let t = k in
     let s = t in
@@ -52,7 +51,7 @@ returns-then-needed-list c =
     (omega (arith, n, rules)) (omega (arith, c.if-needed-list.true)) c.put_rename.ensures)
 
 pub returns-then-staging : goal.returns-then-staging
-returns-then-staging c = 
+returns-then-staging c =
     let t = c in
     let s = t in
     let a = s.args in
@@ -66,7 +65,7 @@ returns-then-staging c =
     (omega (arith, n, rules, c.if-needed-list.false)))
 
 pub returns : goal.returns
-returns c = 
+returns c =
     let s = c in
     let a = s.args in
     let d = view a.img.now in

@@ -19,7 +19,7 @@ pub geometry_in-g-requires : goal.geometry_in-g-requires
 geometry_in-g-requires c = accepted-length _ c.requires
 
 pub returns-then-bad_argument : goal.returns-then-bad_argument
-returns-then-bad_argument c = 
+returns-then-bad_argument c =
     let b = c in
     let s = b in
     let a = s.args in
@@ -28,7 +28,7 @@ returns-then-bad_argument c =
     (rw b.geometry_in-g.ensures at (sym b.bad_argument.ensures ∙ c.if-bad_argument.true))))
 
 pub file_named-requires : goal.file_named-requires
-file_named-requires c = 
+file_named-requires c =
     let b = c in
     let s = b in
     let e = b.geometry_in-g.result.edition in
@@ -38,7 +38,7 @@ file_named-requires c =
     }
 
 pub returns-then-is_same : goal.returns-then-is_same
-returns-then-is_same c = 
+returns-then-is_same c =
     let f = c in
     let s = f in
     let a = s.args in
@@ -49,7 +49,7 @@ returns-then-is_same c =
     (sym c.is_same.ensures ∙ c.if-is_same.true)))
 
 pub rename_file-requires : goal.rename_file-requires
-rename_file-requires c = 
+rename_file-requires c =
     let f = c in
     let g = f.geometry_in-g in
     let s = f in
@@ -65,7 +65,7 @@ rename_file-requires c =
     }
 
 pub returns-in-At : goal.returns-in-At
-returns-in-At c = 
+returns-in-At c =
     let f = c in
     let s = f in
     let a = s.args in
@@ -74,7 +74,7 @@ returns-in-At c =
     (sym c.is_same.ensures ∙ c.if-is_same.false) c.rename_file.ensures)
 
 pub returns : goal.returns
-returns c = 
+returns c =
     let f = c in
     let s = f in
     let a = s.args in

@@ -6,7 +6,7 @@ use Rattle.laws.proofs.Refusals.{lent-readable, readable-length}
 use Rattle.soundness.proofs.clean_verdict_lent.Goals as goal
 
 pub state_on-requires : goal.state_on-requires
-state_on-requires c = 
+state_on-requires c =
     let a = c.args in
     let h = ap (λ (v : Verdict). v.number) (sym c.front_verdict-v.ensures) ∙ c.if-v-eq0.true in
     readable-length a.front.now (lent-readable a.front.now a.count h)

@@ -6,24 +6,24 @@ use Rattle.soundness.proofs.Laws.{at-21, at-22, at-23, at-24, from-25}
 use Rattle.soundness.proofs.directory_fault.Goals as goal
 
 pub returns-in-At : goal.returns-in-At
-returns-in-At c = 
+returns-in-At c =
     let s = c in
     at-21 (view s.args.img.now) s.args.g Sound c.in-At.i (sym c.fault21.ensures ∙ c.in-At.is)
 
 pub returns-in-At-fault22 : goal.returns-in-At-fault22
-returns-in-At-fault22 c = 
+returns-in-At-fault22 c =
     let s = c in
     at-22 (view s.args.img.now) s.args.g Sound (sym c.fault21.ensures ∙ c.in_default.is)
     c.in-At-fault22.i (sym c.fault22.ensures ∙ c.in-At-fault22.is)
 
 pub fault23-requires : goal.fault23-requires
 fault23-requires c = record {
-      opened = c.requires;
-      files_value = sym c.fault22.ensures ∙ c.in_default-fault22.is;
-    }
+  opened = c.requires;
+  files_value = sym c.fault22.ensures ∙ c.in_default-fault22.is;
+}
 
 pub returns-in-At-fault23 : goal.returns-in-At-fault23
-returns-in-At-fault23 c = 
+returns-in-At-fault23 c =
     let s = c in
     at-23 (view s.args.img.now) s.args.g Sound
     (sym c.fault21.ensures ∙ c.in_default.is)
@@ -31,7 +31,7 @@ returns-in-At-fault23 c =
     (sym c.fault23.ensures ∙ c.in-At-fault23.is)
 
 pub returns-in-At-fault24 : goal.returns-in-At-fault24
-returns-in-At-fault24 c = 
+returns-in-At-fault24 c =
     let s = c in
     at-24 (view s.args.img.now) s.args.g Sound
     (sym c.fault21.ensures
@@ -41,7 +41,7 @@ returns-in-At-fault24 c =
     (sym c.fault24.ensures ∙ c.in-At-fault24.is)
 
 pub returns : goal.returns
-returns c = 
+returns c =
     let s = c in
     from-25 (view s.args.img.now) s.args.g Sound
     (sym c.fault21.ensures

@@ -6,14 +6,14 @@ use Rattle.soundness.proofs.Laws.{in_order, directory-found, directory-none}
 use Rattle.soundness.proofs.first_fault.Goals as goal
 
 pub returns-in-Faulty : goal.returns-in-Faulty
-returns-in-Faulty c = 
+returns-in-Faulty c =
     let s = c in
     let d = view s.args.img.now in
     rw (in_order d s.args.g s.requires.is)
     (directory-found d s.args.g (table_fault s.args.g d) _ _ (sym c.directory_fault.ensures ∙ c.in-Faulty.is))
 
 pub returns : goal.returns
-returns c = 
+returns c =
     let s = c in
     let d = view s.args.img.now in
     rw (in_order d s.args.g s.requires.is)

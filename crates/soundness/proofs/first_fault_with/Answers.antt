@@ -7,14 +7,14 @@ use Rattle.soundness.proofs.Laws.{in_order, at-21, at-22, at-23, at-24, from-25}
 use Rattle.soundness.proofs.first_fault_with.Goals as goal
 
 pub returns-in-At : goal.returns-in-At
-returns-in-At c = 
+returns-in-At c =
     let s = c in
     rw (in_order (view s.args.img.now) s.args.g s.requires.opened.is)
     (at-21 (view s.args.img.now) s.args.g (table_fault s.args.g (view s.args.img.now)) c.in-At.i (sym c.fault21.ensures
     ∙ c.in-At.is))
 
 pub returns-in-At-fault22 : goal.returns-in-At-fault22
-returns-in-At-fault22 c = 
+returns-in-At-fault22 c =
     let s = c in
     rw (in_order (view s.args.img.now) s.args.g s.requires.opened.is)
     (at-22 (view s.args.img.now) s.args.g (table_fault s.args.g (view s.args.img.now)) (sym c.fault21.ensures
@@ -23,14 +23,14 @@ returns-in-At-fault22 c =
 
 pub fault23_with-requires : goal.fault23_with-requires
 fault23_with-requires c = let s = c in record {
-      opened = s.requires.opened;
-      files_value = sym c.fault22.ensures
-        ∙ c.in_default-fault22.is;
-      files_in_bounds = omega (arith, s.requires.g_in_bounds);
-    }
+  opened = s.requires.opened;
+  files_value = sym c.fault22.ensures
+      ∙ c.in_default-fault22.is;
+  files_in_bounds = omega (arith, s.requires.g_in_bounds);
+}
 
 pub returns-in-At-fault23_with : goal.returns-in-At-fault23_with
-returns-in-At-fault23_with c = 
+returns-in-At-fault23_with c =
     let s = c in
     rw (in_order (view s.args.img.now) s.args.g s.requires.opened.is)
     (at-23 (view s.args.img.now) s.args.g (table_fault s.args.g (view s.args.img.now))
@@ -41,14 +41,14 @@ returns-in-At-fault23_with c =
     (sym c.fault23_with.ensures ∙ c.in-At-fault23_with.is))
 
 pub fault24_with-requires : goal.fault24_with-requires
-fault24_with-requires c = 
+fault24_with-requires c =
     let s = c in record {
       opened = s.requires.opened;
       files_in_bounds = omega (arith, s.requires.g_in_bounds, c.fault23_with.auto.scratch);
     }
 
 pub returns-in-At-fault24_with : goal.returns-in-At-fault24_with
-returns-in-At-fault24_with c = 
+returns-in-At-fault24_with c =
     let s = c in
     rw (in_order (view s.args.img.now) s.args.g s.requires.opened.is)
     (at-24 (view s.args.img.now) s.args.g (table_fault s.args.g (view s.args.img.now))
@@ -61,7 +61,7 @@ returns-in-At-fault24_with c =
     (sym c.fault24_with.ensures ∙ c.in-At-fault24_with.is))
 
 pub faults_by-requires : goal.faults_by-requires
-faults_by-requires c = 
+faults_by-requires c =
     let s = c in
     let kept = c.fault23_with.auto.scratch in record {
       opened = s.requires.opened;
@@ -69,7 +69,7 @@ faults_by-requires c =
     }
 
 pub returns : goal.returns
-returns c = 
+returns c =
     let b = c in
     let s = b in
     rw (in_order (view s.args.img.now) s.args.g s.requires.opened.is)

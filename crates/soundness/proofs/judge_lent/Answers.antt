@@ -7,7 +7,7 @@ use Rattle.laws.proofs.Refusals.{lent-readable}
 use Rattle.soundness.proofs.judge_lent.Goals as goal
 
 pub sound_verdict-requires : goal.sound_verdict-requires
-sound_verdict-requires c = 
+sound_verdict-requires c =
     let a = c.args in
     lent-readable a.front.now a.count (ap (λ (v : Verdict). v.number) (sym c.front_verdict-v.ensures) ∙ c.if-v-eq0.true)
 

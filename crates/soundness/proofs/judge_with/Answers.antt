@@ -11,7 +11,7 @@ sound_verdict_with-requires c = readable _ (ap (λ (v : Verdict). v.number) (sym
 
 pub returns-then-v-eq0 : goal.returns-then-v-eq0
 unfolding judged_with
-returns-then-v-eq0 c = 
+returns-then-v-eq0 c =
     let k = c.sound_verdict_with in record {
       value = rw (← c.image_verdict-v.ensures, eq-eqb _ _ c.if-v-eq0.true) k.ensures.value;
       scratch_after = k.ensures.scratch_after;
@@ -20,6 +20,6 @@ returns-then-v-eq0 c =
 pub returns : goal.returns
 unfolding judged_with
 returns c = record {
-      value = rw (← c.image_verdict-v.ensures, ne_eqb _ _ c.if-v-eq0.false);
-      scratch_after = record { size = refl; untouched = λ e. refl };
-    }
+  value = rw (← c.image_verdict-v.ensures, ne_eqb _ _ c.if-v-eq0.false);
+  scratch_after = record { size = refl; untouched = λ e. refl };
+}

@@ -7,13 +7,13 @@ use Rattle.laws.proofs.Refusals.{lent-readable}
 use Rattle.soundness.proofs.judge_with_lent.Goals as goal
 
 pub sound_verdict_with-requires : goal.sound_verdict_with-requires
-sound_verdict_with-requires c = 
+sound_verdict_with-requires c =
     let a = c.args in
     lent-readable a.front.now a.count (ap (λ (v : Verdict). v.number) (sym c.front_verdict-v.ensures) ∙ c.if-v-eq0.true)
 
 pub returns-then-v-eq0 : goal.returns-then-v-eq0
 unfolding judged_with
-returns-then-v-eq0 c = 
+returns-then-v-eq0 c =
     let k = c.sound_verdict_with in record {
       value = rw (← c.front_verdict-v.ensures, eq-eqb _ _ c.if-v-eq0.true) k.ensures.value;
       scratch_after = k.ensures.scratch_after;
@@ -22,6 +22,6 @@ returns-then-v-eq0 c =
 pub returns : goal.returns
 unfolding judged_with
 returns c = record {
-      value = rw (← c.front_verdict-v.ensures, ne_eqb _ _ c.if-v-eq0.false);
-      scratch_after = record { size = refl; untouched = λ e. refl };
-    }
+  value = rw (← c.front_verdict-v.ensures, ne_eqb _ _ c.if-v-eq0.false);
+  scratch_after = record { size = refl; untouched = λ e. refl };
+}

@@ -18,14 +18,14 @@ pub geometry_in-g-requires : goal.geometry_in-g-requires
 geometry_in-g-requires c = readable-length _ c.requires
 
 pub scratch_numbers-requires : goal.scratch_numbers-requires
-scratch_numbers-requires c = 
+scratch_numbers-requires c =
     let s = c in
     let o : Opened s.args.img.now c.geometry_in-g.result = opened _ _ c.geometry_in-g.ensures (omega arith) s.requires in
     (o.bounded.files-high, o.bounded.extents-high)
 
 pub returns-then-scratch-scratch_numbers : goal.returns-then-scratch-scratch_numbers
 unfolding sound_verdict_with
-returns-then-scratch-scratch_numbers c = 
+returns-then-scratch-scratch_numbers c =
     let s = c in
     let g = c.geometry_in-g in
     let l : length s.args.scratch.now < scratch_numbers g.result = omega (arith, c.scratch_numbers.ensures) in record {
@@ -41,14 +41,14 @@ returns-then-scratch-scratch_numbers c =
 
 pub first_fault_with-requires : goal.first_fault_with-requires
 first_fault_with-requires c = record {
-      opened = opened _ _ c.geometry_in-g.ensures (omega arith)
+  opened = opened _ _ c.geometry_in-g.ensures (omega arith)
       c.requires;
-      g_in_bounds = omega (arith, c.scratch_numbers.ensures);
-    }
+  g_in_bounds = omega (arith, c.scratch_numbers.ensures);
+}
 
 pub returns-then-n-eq0 : goal.returns-then-n-eq0
 unfolding sound_verdict_with
-returns-then-n-eq0 c = 
+returns-then-n-eq0 c =
     let s = c in
     let g = c.geometry_in-g in
     let f = c.first_fault_with in
@@ -70,6 +70,6 @@ returns-then-n-eq0 c =
 pub returns : goal.returns
 unfolding sound_verdict_with
 returns c = record {
-      value = rw (← c.state_on.ensures, ← c.state_number-n.ensures, ne_eqb _ _ c.if-n-eq0.false) c.refusal-2.ensures;
-      scratch_after = record { size = refl; untouched = λ e. refl };
-    }
+  value = rw (← c.state_on.ensures, ← c.state_number-n.ensures, ne_eqb _ _ c.if-n-eq0.false) c.refusal-2.ensures;
+  scratch_after = record { size = refl; untouched = λ e. refl };
+}

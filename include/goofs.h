@@ -3,22 +3,22 @@
  * A slice passes as pointer then length; the pointer may be null where the length is 0. Slices of one call must not overlap.
  * No call keeps a pointer, takes memory or touches anything but the slices that it is lent. Every call ends with an answer, on
  * any bytes and any arguments. The stack that a call takes depends on the volume's files and extents alone, as its arrays have a few sizes;
- * measured in bytes, of the library as a kit before rattle-kit-13f compiled it, on x86-64 (`bench stack`, bench/README.md):
+ * measured in bytes, of the library as rattle-kit-13f compiles it, on x86-64 (`bench stack`, bench/README.md):
  *
  *     files up to                          1,024    1,024    1,024    65,535
  *     extents up to                        1,024    4,096   65,535    65,535
  *
- *     check                                6,784    6,784   68,320   263,080
- *     find, list, read, create, write      7,024    7,024   68,560   263,320
- *     resize, delete, rename              12,552   12,552   68,464   263,224
- *     rename_set                           8,808    8,808   68,464   263,224
- *     repair                              15,912   51,880  338,728   338,728
- *     recover                                888      888      888       888
- *     the same of another writer's journal 5,400    5,400    5,400   133,768
- *     recover_slice                          904      904      904       904
- *     check_with                             456      456      456       456
- *     format_record                          632      632      632       632
- *     summary, carry_out, longest_list       168      168      168       168
+ *     check                                6,648    6,648   68,168   262,752
+ *     find, list, read, create, write      6,920    6,920   68,440   263,024
+ *     resize, delete, rename              12,728   12,728   68,328   262,912
+ *     rename_set                           8,728    8,728   68,328   262,912
+ *     repair                              15,848   51,784  338,600   338,600
+ *     recover                              1,368    1,368    1,368     1,368
+ *     the same of another writer's journal 5,784    5,784    5,784   134,040
+ *     recover_slice                        1,368    1,368    1,368     1,368
+ *     check_with                             416      416      416       416
+ *     format_record                        1,160    1,160    1,160     1,160
+ *     summary, carry_out, longest_list       136      136      136       136
  *
  * Another writer's journal is one whose targets don't rise; no change of these calls leaves one. A form on lent sectors, with its
  * steps, took at most 416 bytes more than its call.

@@ -1,5 +1,5 @@
 # make demo   a card formatted, a calibration set saved, the power cut at each point of a save, and what the box would load
-# make test   proves every crate from nothing, tries the must-fail edits, runs the programs and the tests of the host side
+# make test   proves every crate, tries the must-fail edits, runs the programs and the tests of the host side
 # make bench  each call beside plain Rust in one run
 # make soak [MINUTES=60]   fresh random cases for the proved library and the second program: runs of calls, cuts, damage, edges, lent
 #             forms; prints the sums, and at the first difference a line that replays it (REPLAY=KIND:SEED). SEED=S CASES=N makes the

@@ -5,12 +5,12 @@ usage: python3 tools/snake_names.py        at the top, once, after port.py
 
 Each name of specs/ and proofs/ that is in lower camel case, as tableSectors, becomes table_sectors, also as a part of a lemma's name
 between hyphens. It is turned in proof files, in the sources (where no other name has that form), in must-fail edits and in the edits of
-definitions. Names that would fall together with another name of the same scope are in APART.
+definitions. Where a name falls together with another one, the check says so, and one of them is renamed by hand (docs/PORT.md).
 """
 import os
 import re
 
-# What a name becomes where its plain form stands for something else already.
+# A name of the library, in names of lemmas, and what it is called today.
 APART = {"getD": "get_or"}
 FOLDERS = ("crates", "host/definition-edits/edits")
 ENDS = (".rt", ".antt", ".edit", ".edits")

@@ -12,7 +12,8 @@ use Rattle.cases.specs.Exchanges.{Exchanges}
 
 pub exchanges : Exchanges
 unfolding bytes_from put tabulate scan any_below all_below count_below equal_bytes sectors_holding holds_any doubled geometry_for catalogue first_ledger written_records freed_records
-    ledger_from holder_of position_among slot_named free_slot unheld_extent unheld_extents is_frozen file_of after_write written new_entry updated_entry updated_root accessed_root renamed_entry after_rename
+    ledger_from holder_of position_among slot_named free_slot unheld_extent unheld_extents is_frozen file_of after_write written new_entry updated_entry updated_root accessed_root
+    renamed_entry after_rename
     names_of pairs_of sum_of after_renames names_slot frees_in renamed_targets rename_refusals refused_at step lowest unfit_time unfit_name unfit_new_name
 exchanges = record {
   slots-differ = refl;

@@ -2,7 +2,8 @@
 use mathlib.Core.Path.{refl}
 use Rattle.model.specs.Search.{scan, any_below, all_below, count_below, equal_bytes, tabulate, concatenated}
 use Rattle.model.specs.Table.{holds_any}
-use Rattle.model.specs.Ledger.{position_among, holder_of, catalogue, slot_named, unheld_extents, is_frozen, file_of, lowest, unfit_time, unfit_name, unfit_new_name, updated_root, renamed_entry, after_rename}
+use Rattle.model.specs.Ledger.{position_among, holder_of, catalogue, slot_named, unheld_extents, is_frozen, file_of}
+use Rattle.model.specs.Ledger.{lowest, unfit_time, unfit_name, unfit_new_name, updated_root, renamed_entry, after_rename}
 use Rattle.model.specs.Ledger.{names_of, pairs_of, sum_of, after_renames, names_slot, frees_in, renamed_targets, rename_refusals, refused_at, step}
 use Rattle.cases.specs.RenameSets.{RenameSets}
 

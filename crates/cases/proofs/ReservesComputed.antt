@@ -32,7 +32,8 @@ unfolding be_at be_bytes bytes_from put ones_sector zero_sector scan any_below a
     is_volume geometry_in journal_length state_of root_in new_root_sector name_in entry_in is_occupied fields_of has_zero bad_name bad_new_name new_entry_sector updated_entry_sector
     table_file table_offset taken_in catalogue_of file_named free_entry free_extent free_below lacks_reserve staging_extents entry_of extent_of holds_any sectors_holding
     fault21 fault22 fault23 fault24 fault25 exact fault26 first_fault verdict_of is_whole fits_image image_verdict sound_verdict judged
-    barrier stage_in stages_in staging copies journal_of group_a groups_of groups_for plan_conditions decided check_answer name_conditions list_conditions list_planned list_decision listed_of list_answer
+    barrier stage_in stages_in staging copies journal_of group_a groups_of groups_for plan_conditions decided check_answer name_conditions list_conditions list_planned list_decision
+    listed_of list_answer
     size_named read_conditions read_planned read_decision read_of read_answer create_conditions create_plan create_decision create_answer
     freed_sector freed_sectors delete_plan delete_conditions delete_decision delete_answer shrink_plan resize_planned resize_conditions resize_decision resize_answer
     grows no_room file_sector_at data_sector write_plan write_planned write_conditions write_decision write_answer

@@ -166,7 +166,8 @@ pub same-run : (s : List ℕ) (from : ℕ) (b : List ℕ) → equal_bytes (bytes
 unfolding equal_bytes
 same-run s from b =
     rw (eq-eqb _ _ (length-bytes_from s from (length b)))
-    (all_below-ext (λ k. eqb (get_or (bytes_from s from (length b)) k 0) (get_or b k 0)) (λ k. eqb (get_or s (from + k) 0) (get_or b k 0)) (length b) (λ k l. rw (get_or-bytes_from s from (length b) k l)))
+    (all_below-ext (λ k. eqb (get_or (bytes_from s from (length b)) k 0) (get_or b k 0)) (λ k. eqb (get_or s (from + k) 0) (get_or b k 0)) (length b)
+    (λ k l. rw (get_or-bytes_from s from (length b) k l)))
 
 pub same_length : (a b : List ℕ) → (length a ≡ length b → ⊥) → equal_bytes a b ≡ false
 unfolding equal_bytes

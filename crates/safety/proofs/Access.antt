@@ -24,7 +24,8 @@ use Rattle.model.specs.Refusals.{Conditions, verdict_of, and_then, given, is_don
 use Rattle.model.specs.WriteList.{Plan, one_target, sector_write, groups_for, list_length, record_size, Decision, plan_conditions, decided, answer_of}
 use Rattle.model.specs.Listing.{list_conditions, list_plan, list_planned, list_decision, not_listed, listed_of, copied_of, list_answer, list_copies}
 use Rattle.model.specs.Read.{read_count, size_named, read_conditions, read_plan, read_planned, read_decision, not_read, read_of, read_answer}
-use Rattle.model.specs.Ledger.{Ledger, File, file_or, catalogue, with_slot, with_file, list, read, listed, entry_fields, accessed_entry, accessed_file, accessed_root, is_frozen, access_records, step, answer}
+use Rattle.model.specs.Ledger.{Ledger, File, file_or, catalogue, with_slot, with_file, list, read, listed}
+use Rattle.model.specs.Ledger.{entry_fields, accessed_entry, accessed_file, accessed_root, is_frozen, access_records, step, answer}
 use Rattle.model.specs.Run.{volume_answer, on_volume}
 use Rattle.laws.proofs.Disk.{length-view}
 use Rattle.safety.proofs.OwnWords.{free-if, named-is, entry-is, file-is, time-is, frozen-is, answers}
@@ -152,7 +153,8 @@ module _ (L : Ledger) (img : List ℕ) (rep : Rep L img) (k time room space : �
   unfolding list_answer listed_of
   answer-is =
       ap (λ (x : Decision). listed_of x (view img) k) decision-here
-      ∙ ap (λ (x : Catalogue). given v (record { verdict = v; fields = fields_of (entry_of x k); length = list_length (groups_for (view img) (cond (is_done v) (plan (catalogue L)) none)) }) not_listed)
+      ∙ ap (λ (x : Catalogue). given v (record { verdict = v; fields = fields_of (entry_of x k); length = list_length (groups_for (view img) (cond (is_done v) (plan (catalogue L)) none)) })
+      not_listed)
       (cat-is L img rep)
       ∙ given_is L img rep (list k time room space) conditions plan space (access_records L) judges
       (λ n. record { verdict = v; fields = fields_of (entry_of (catalogue L) k); length = n }) not_listed

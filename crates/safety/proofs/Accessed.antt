@@ -16,7 +16,8 @@ use Rattle.model.specs.Catalogue.{Catalogue, catalogue_of, lacks_reserve}
 use Rattle.model.specs.Refusals.{done}
 use Rattle.model.specs.WriteList.{Plan, stored, groups_for, closed, record_size, record_count}
 use Rattle.model.specs.Cut.{Cut, landed, start_mark}
-use Rattle.model.specs.Ledger.{Ledger, File, file_or, entry_of_file, catalogue, file_of, Call, summary, check, find, list, read, create, delete, resize, write, rename, rename_set, Answer, listed, gave}
+use Rattle.model.specs.Ledger.{Ledger, File, file_or, entry_of_file, catalogue, file_of, Call, summary, check, find, list}
+use Rattle.model.specs.Ledger.{read, create, delete, resize, write, rename, rename_set, Answer, listed, gave}
 use Rattle.model.specs.Ledger.{number_of, entry_fields, accessed_entry, accessed_root, accessed_file, with_file, is_frozen, access_records, step, answer}
 use Rattle.model.specs.Ledger.{Feed, whole, cut_marked, cut_unmarked, call_of, fed, ledger_from}
 use Rattle.model.specs.Run.{volume_answer, volume_plan, Fits, steady, calls}

@@ -32,7 +32,8 @@ use Rattle.model.specs.Create.{create_conditions, create_plan, create_decision}
 use Rattle.model.specs.Freeing.{freed_sector, freed_sectors}
 use Rattle.model.specs.Delete.{delete_plan, delete_conditions, delete_decision}
 use Rattle.model.specs.Rename.{rename_conditions, renamed_record, replacing_records, renaming_records, rename_plan, rename_planned, rename_decision}
-use Rattle.model.specs.RenameSet.{bad_set, name_of, targets_of, placed_at, rename_targets, disk_before, renames_conditions, is_touched, set_targets, set_planned, rename_set_conditions, rename_set_decision}
+use Rattle.model.specs.RenameSet.{bad_set, name_of, targets_of, placed_at, rename_targets, disk_before}
+use Rattle.model.specs.RenameSet.{renames_conditions, is_touched, set_targets, set_planned, rename_set_conditions, rename_set_decision}
 use Rattle.model.specs.Ledger.{Call, summary, check, find, list, read, create, delete, rename, rename_set, summarized, checked, found, listed, changed}
 use Rattle.model.specs.Run.{Outcome, reads, decides, on_volume, volume_plan}
 use Rattle.laws.proofs.Search.{Hit, scan-hit, any_below-ext, concatenated-ext}

@@ -32,7 +32,8 @@ use Rattle.model.specs.WriteList.{Record, Group, sector_write, barrier_number, b
 use Rattle.model.specs.WriteList.{superblock_group, closed, list_length, own_verdict}
 use Rattle.model.specs.CarryOut.{record_in}
 use Rattle.model.specs.Recovery.{is_data, is_metadata, good_entry, replayed_sector, replayed, replay_groups, recovery_groups, recovery_verdict, recovery_listed, recovery_answer, recovery_list}
-use Rattle.model.specs.Lent.{is_front, is_asked, recovery_idle, recovery_asking, recovery_lent, entries_waiting, target_place, takes_source, source_taken, source_not_taken, recovery_step, recovery_step_list}
+use Rattle.model.specs.Lent.{is_front, is_asked, recovery_idle, recovery_asking, recovery_lent, entries_waiting}
+use Rattle.model.specs.Lent.{target_place, takes_source, source_taken, source_not_taken, recovery_step, recovery_step_list}
 use Rattle.laws.proofs.Booleans.{and_left}
 use Rattle.laws.proofs.Bytes.{length-be_bytes, length-bytes_from, length-put, bytes_from-all, put_in}
 use Rattle.laws.proofs.Search.{any_below-no, count_below-ext, concatenated-front, concatenated-ext, first-ext, first-none, none-at}

@@ -559,7 +559,8 @@ module _ (img : List ℕ) where
   slices-fit budget room = (
     go (is_done (slice_verdict len d budget room)) refl,
     λ h. either-not (image_verdict len d) _ (image-not-14 len d)
-        (own-not-14 (slice_conditions d budget) room (list_length (slice_groups d budget)) (not-given 14 (omega arith) (slice_conditions d budget) refl) (λ e. omega (arith, slice-short d budget e, h))),
+        (own-not-14 (slice_conditions d budget) room (list_length (slice_groups d budget)) (not-given 14 (omega arith) (slice_conditions d budget) refl)
+        (λ e. omega (arith, slice-short d budget e, h))),
   )
     where
       go : (b : Bool) → is_done (and_then (image_verdict len d) (own_verdict (slice_conditions d budget) room (list_length (slice_groups d budget)))) ≡ b

@@ -24,7 +24,8 @@ use Rattle.model.specs.WriteList.{stage_in, stages_in, staging}
 use Rattle.model.specs.Format.{Format}
 use Rattle.model.specs.Opened.{Bounded}
 use Rattle.model.specs.Ledger.{Ledger, File, file_or, holder_of, owner_from, catalogue, unheld_extent, unheld_extents, is_frozen, needs_more, no_room_for, slot_named, file_of, first_ledger, with_slot}
-use Rattle.model.specs.Ledger.{slots_without, written, after_write, shrunk, zero_bytes, after_rename, Call, summary, check, find, list, read, create, delete, resize, write, rename, number_of, step, answer}
+use Rattle.model.specs.Ledger.{slots_without, written, after_write, shrunk, zero_bytes, after_rename, Call, summary, check, find}
+use Rattle.model.specs.Ledger.{list, read, create, delete, resize, write, rename, number_of, step, answer}
 use Rattle.model.specs.Ledger.{rename_set, names_of, pairs_of, after_renames, Feed, whole, cut_marked, cut_unmarked, fed, ledger_from}
 use Rattle.model.proofs.Areas.{reserve-small}
 use Rattle.laws.proofs.Search.{length-tabulate, tabulate-ext}
@@ -221,7 +222,10 @@ module _ (c : Catalogue) (bounded : Bounded c.geometry) (last : (e : ℕ) → us
   -- behind the first N - K, each of them once
   up_to : (d : ℕ) → (length (free_below c (u + d)) ≡ length (free_below c u) + d)
       × ((j : ℕ) → j < d → get_or (free_below c (u + d)) (length (free_below c u) + j) 0 ≡ u + j)
-  up_to zero = (ap (λ n. length (free_below c n)) (let e : u + 0 ≡ u = omega arith in e) ∙ (let e : length (free_below c u) ≡ length (free_below c u) + 0 = omega arith in e), λ j l. absurd (omega arith))
+  up_to zero = (
+    ap (λ n. length (free_below c n)) (let e : u + 0 ≡ u = omega arith in e) ∙ (let e : length (free_below c u) ≡ length (free_below c u) + 0 = omega arith in e),
+    λ j l. absurd (omega arith),
+  )
   up_to (suc d) =
       let r = up_to d in
       let x = u + d in

@@ -129,7 +129,8 @@ module _ (L : Ledger) (img : List â„•) (rep : Rep L img) (names lengths : List â
 
   -- more distinct targets than the reserve has sectors, on either side
   abbrev too_many : Bool
-  too_many = ltb (reserve_extents (geometry_in (view img superblock_at)) * extent_sectors (geometry_in (view img superblock_at))) (length (set_targets (view img) names lengths time (length lengths / 2)))
+  too_many = ltb (reserve_extents (geometry_in (view img superblock_at)) * extent_sectors (geometry_in (view img superblock_at)))
+      (length (set_targets (view img) names lengths time (length lengths / 2)))
 
   abbrev more : Bool
   more = ltb (reserve_extents L.geometry * L.geometry.extent_sectors) (renamed_targets L (pairs_of (names_of names lengths)) time)

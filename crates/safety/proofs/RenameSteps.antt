@@ -242,7 +242,8 @@ module _ (d : Disk) (names lengths : List ℕ) (time : ℕ) where
         bare-both : (b : Bool) → equal_bytes (old_of k) (new_of k) ≡ b → (not b || any_from (touches root_at) (suc k) m) ≡ false → (t : ℕ) → frees_in L (renames_from k (suc m)) time t ≡ false
         unfolding pairs_from frees_in
         bare-both true e h t =
-            ap (λ (b : Bool). (not b && is_at (slot_named L (new_of k)) && holds_any (owns_from (catalogue L) (index_of (slot_named L (new_of k))) 0) t) || frees_in L1 (renames_from (suc k) m) time t) e
+            ap (λ (b : Bool). (not b && is_at (slot_named L (new_of k)) && holds_any (owns_from (catalogue L) (index_of (slot_named L (new_of k))) 0) t) || frees_in L1
+            (renames_from (suc k) m) time t) e
             ∙ rest.bare h t
         bare-both false e h t = absurd (true≢false h)
 

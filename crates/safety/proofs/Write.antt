@@ -20,7 +20,8 @@ use Rattle.model.specs.WriteList.{Plan, sector_write, groups_for, list_length, r
 use Rattle.model.specs.Read.{longest_transfer, size_named}
 use Rattle.model.specs.Write.{touched_sectors, held_extents, grows, no_room, size_after, data_sector, write_plan, write_planned, write_conditions, write_decision}
 use Rattle.model.specs.Cut.{data_by}
-use Rattle.model.specs.Ledger.{Ledger, File, file_or, entry_of_file, catalogue, write, with_file, partly_written, file_of, needs_more, spanned_sectors, written_records, written, after_write, step, answer}
+use Rattle.model.specs.Ledger.{Ledger, File, file_or, entry_of_file, catalogue, write, with_file, partly_written}
+use Rattle.model.specs.Ledger.{file_of, needs_more, spanned_sectors, written_records, written, after_write, step, answer}
 use Rattle.model.specs.Run.{volume_answer, on_volume}
 use Rattle.laws.proofs.Search.{length-tabulate}
 use Rattle.safety.proofs.OwnWords.{named-is, few-is, file-is, entry_named, time-is, name-is, spanned-are}
@@ -61,7 +62,8 @@ module _ (L : Ledger) (img : List ℕ) (i offset : ℕ) (bytes : List ℕ) (time
   targets-length false = refl
 
   -- the length of its list
-  pub write-length : list_length (groups_for (view img) (write_planned (catalogue L) i (view img) offset bytes time)) ≡ written_records L (entry_of (catalogue L) i).size offset (length bytes) * record_size
+  pub write-length : list_length (groups_for (view img) (write_planned (catalogue L) i (view img) offset bytes time)) ≡ written_records L (entry_of (catalogue L) i).size offset
+      (length bytes) * record_size
   unfolding groups_for write_planned write_plan written_records grows catalogue
   write-length = go (eqb (length bytes) 0) refl
     where

@@ -22,7 +22,8 @@ use Rattle.model.specs.Write.{touched_sectors}
 use Rattle.model.specs.Resize.{zeros}
 use Rattle.model.specs.Repair.{repair_answer, repair_list}
 use Rattle.model.specs.Recovery.{recovery_answer, recovery_list}
-use Rattle.model.specs.Lent.{lent_length, read_lent, read_step, read_step_output, write_lent, resize_lent, write_step, write_step_list, recovery_lent, entries_waiting, recovery_step, recovery_step_list}
+use Rattle.model.specs.Lent.{lent_length, read_lent, read_step, read_step_output, write_lent, resize_lent}
+use Rattle.model.specs.Lent.{write_step, write_step_list, recovery_lent, entries_waiting, recovery_step, recovery_step_list}
 use Rattle.model.specs.Format.{Format}
 use Rattle.model.specs.Ledger.{Call, summary, check, find, list, read, create, delete, resize, write, rename, rename_set, Answer, gave, changed, Feed, whole, answers_to, ledger_after}
 use Rattle.model.specs.Run.{on_volume, volume_answer, volume_plan, Fits, Phase, steady, Run}

@@ -62,5 +62,6 @@ module _ (img : List ℕ) (g : Geometry) (o : Opened img g) {es : List ℕ} (sta
         let staged = staged-more {ts = []} (entry_at i) (staged-none {numbers = n₀} first) refl (let r : 0 < length n₀ = omega arith in r) entry number in
         rw (plan-more c i (view img) offset bytes time z after q)
         (committed-for (view img)
-        (record { data_sectors = sectors_out c i (view img) offset bytes time; targets = entry_out c i (view img) offset bytes time z ∷ table_out c i (view img) offset bytes time X ∷ [] }) o.is staging
+        (record { data_sectors = sectors_out c i (view img) offset bytes time; targets = entry_out c i (view img) offset bytes time z ∷ table_out c i (view img) offset bytes time X ∷ [] })
+        o.is staging
         (staged-more (table_sector_of c.geometry X) staged refl long copied2 (known ∙ ap (set n₁ 1) at2)) refl room behind)

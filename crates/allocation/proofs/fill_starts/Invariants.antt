@@ -7,7 +7,9 @@ use Rattle.allocation.specs.Marks.{start_of}
 use Rattle.allocation.proofs.fill_starts.Given as goal
 
 abbrev pub invariant-loop-i : goal.invariant-loop-i
-invariant-loop-i l = (l.i ≤ l.f) × (length l.starts ≡ length l.initial.starts) × (l.sum ≡ start_of l.g (view l.img) l.i) × (l.sum ≤ l.g.extents) × ((j : ℕ) → j < l.i → get_or l.starts j 0 ≡ start_of l.g (view l.img) j)
+invariant-loop-i l =
+    (l.i ≤ l.f) × (length l.starts ≡ length l.initial.starts) × (l.sum ≡ start_of l.g (view l.img) l.i) × (l.sum ≤ l.g.extents)
+    × ((j : ℕ) → j < l.i → get_or l.starts j 0 ≡ start_of l.g (view l.img) j)
 
 abbrev pub decreases-loop-i : goal.decreases-loop-i
 decreases-loop-i l = l.f - l.i

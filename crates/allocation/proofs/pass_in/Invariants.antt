@@ -16,7 +16,9 @@ abbrev pub hit : List ℕ → ℕ → Bool
 hit img = fault25 (catalogue_of (view img))
 
 abbrev pub invariant-loop-e : goal.invariant-loop-e
-invariant-loop-e l = (l.m ≤ l.f) × (length l.s ≡ length l.initial.s) × Marks l.g (view l.img) l.e l.m (drop l.at l.s) × (l.e ≤ l.to) × (scan (hit l.img) (l.to - l.e) l.e ≡ scan (hit l.img) (l.to - l.from) l.from)
+invariant-loop-e l =
+    (l.m ≤ l.f) × (length l.s ≡ length l.initial.s) × Marks l.g (view l.img) l.e l.m (drop l.at l.s) × (l.e ≤ l.to)
+    × (scan (hit l.img) (l.to - l.e) l.e ≡ scan (hit l.img) (l.to - l.from) l.from)
     × Starts l.g (view l.img) l.m l.s
 
 abbrev pub decreases-loop-e : goal.decreases-loop-e

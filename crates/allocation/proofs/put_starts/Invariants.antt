@@ -7,7 +7,8 @@ use Rattle.allocation.specs.Marks.{start_of}
 use Rattle.allocation.proofs.put_starts.Given as goal
 
 abbrev pub invariant-loop-i : goal.invariant-loop-i
-invariant-loop-i l = (l.i ≤ l.f) × (length l.s ≡ length l.initial.s) × (l.sum ≡ start_of l.g (view l.img) l.i) × (l.sum ≤ l.g.extents) × ((j : ℕ) → j < l.i → get_or l.s j 0 ≡ start_of l.g (view l.img) j)
+invariant-loop-i l =
+    (l.i ≤ l.f) × (length l.s ≡ length l.initial.s) × (l.sum ≡ start_of l.g (view l.img) l.i) × (l.sum ≤ l.g.extents) × ((j : ℕ) → j < l.i → get_or l.s j 0 ≡ start_of l.g (view l.img) j)
     × (drop (l.g.files + 1) l.s ≡ drop (l.g.files + 1) l.initial.s)
 
 abbrev pub decreases-loop-i : goal.decreases-loop-i

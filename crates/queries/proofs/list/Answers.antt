@@ -17,7 +17,9 @@ returns-then-v-eq0 c =
     let k = l in
     let j = k in
     let a = j.args in
-    let ok = ap (λ (v : Verdict). v.number) (sym j.judge-v.ensures) ∙ k.if-v-eq0.true in value_out_and_list (lists-same (length a.img.now) a.img.now a.out.now a.list.now a.index a.time _ (judged-own (length a.img.now) (view a.img.now) ok) (l.list_in.ensures.value, (l.list_in.ensures.out_after, l.list_in.ensures.list_after)))
+    let ok = ap (λ (v : Verdict). v.number) (sym j.judge-v.ensures) ∙ k.if-v-eq0.true in
+    value_out_and_list (lists-same (length a.img.now) a.img.now a.out.now a.list.now a.index a.time _ (judged-own (length a.img.now) (view a.img.now) ok)
+    (l.list_in.ensures.value, (l.list_in.ensures.out_after, l.list_in.ensures.list_after)))
 
 pub returns : goal.returns
 returns c =

@@ -19,7 +19,9 @@ returns-then-v-eq0 c =
     let j = k in
     let a = j.args in
     let len = lent_length (length a.front.now) a.count (view a.front.now) in
-    let ok = ap (λ (v : Verdict). v.number) (sym j.judge_lent-v.ensures) ∙ k.if-v-eq0.true in value_out_and_list (lists-same len a.front.now a.out.now a.list.now a.index a.time _ (judged-own len (view a.front.now) ok) (l.list_in.ensures.value, (l.list_in.ensures.out_after, l.list_in.ensures.list_after)))
+    let ok = ap (λ (v : Verdict). v.number) (sym j.judge_lent-v.ensures) ∙ k.if-v-eq0.true in
+    value_out_and_list (lists-same len a.front.now a.out.now a.list.now a.index a.time _ (judged-own len (view a.front.now) ok)
+    (l.list_in.ensures.value, (l.list_in.ensures.out_after, l.list_in.ensures.list_after)))
 
 pub returns : goal.returns
 returns c =

@@ -24,7 +24,8 @@ returns-then-v-eq0 c =
     let k = l in
     let j = k in
     let a = j.args in
-    let ok = ap (λ (v : Verdict). v.number) (sym j.judge-v.ensures) ∙ k.if-v-eq0.true in value_out_and_list (gives_same (length a.img.now) a.img.now a.out.now a.list.now a.name.now a.offset a.count a.time _
+    let ok = ap (λ (v : Verdict). v.number) (sym j.judge-v.ensures) ∙ k.if-v-eq0.true in
+    value_out_and_list (gives_same (length a.img.now) a.img.now a.out.now a.list.now a.name.now a.offset a.count a.time _
     (judged-own (length a.img.now) (view a.img.now) ok) (l.read_in.ensures.value, (l.read_in.ensures.out_after, l.read_in.ensures.list_after)))
 
 pub returns : goal.returns

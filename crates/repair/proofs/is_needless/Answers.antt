@@ -51,4 +51,5 @@ returns c =
     let s = c in
     let a = s.args in
     let f = c.table_file-f in
-    stray-outside (view a.img.now) a.g s.requires.opened.is (omega (arith, s.requires.opened.bounded.extent-low)) a.e.0 s.requires.e_lt_extents s.requires.free_file_value f.result f.ensures.value c.if-f-g.false
+    stray-outside (view a.img.now) a.g s.requires.opened.is (omega (arith, s.requires.opened.bounded.extent-low)) a.e.0 s.requires.e_lt_extents s.requires.free_file_value f.result
+    f.ensures.value c.if-f-g.false

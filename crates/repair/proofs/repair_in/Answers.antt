@@ -28,7 +28,8 @@ pub returns-then-m-eq0 : goal.returns-then-m-eq0
 returns-then-m-eq0 c =
     let s = c in
     let d = view s.args.img.now in
-    let clean = clean-both (volume_length d) d s.args.list.now s.requires.readable.verdict s.requires.img_value in value_and_list (repair-done (volume_length d) d s.args.list.now clean c.mend_with-m.ensures _ c.if-m-eq0.true c.remaining-verdict.ensures)
+    let clean = clean-both (volume_length d) d s.args.list.now s.requires.readable.verdict s.requires.img_value in
+    value_and_list (repair-done (volume_length d) d s.args.list.now clean c.mend_with-m.ensures _ c.if-m-eq0.true c.remaining-verdict.ensures)
 
 pub returns : goal.returns
 returns c =

@@ -24,7 +24,8 @@ returns-then-v-eq0 c =
     let a = c.args in
     let d = view a.front.now in
     let len = lent_length (length a.front.now) a.count d in
-    let clean = ap (λ (v : Verdict). v.number) (sym c.clean_verdict_lent-v.ensures) ∙ c.if-v-eq0.true in value_and_list (own-comes len d a.list.now (clean-image len d a.list.now clean) (c.repair_in.ensures.value, c.repair_in.ensures.list_after))
+    let clean = ap (λ (v : Verdict). v.number) (sym c.clean_verdict_lent-v.ensures) ∙ c.if-v-eq0.true in
+    value_and_list (own-comes len d a.list.now (clean-image len d a.list.now clean) (c.repair_in.ensures.value, c.repair_in.ensures.list_after))
 
 pub returns : goal.returns
 returns c =

@@ -15,7 +15,9 @@ abbrev pub sector_at : List ℕ → ℕ → ℕ → List ℕ → ℕ → ℕ →
 sector_at img start offset bytes s x = sector_write (start + (x - s)) (spliced offset bytes x (view img (start + (x - s))))
 
 abbrev pub invariant-loop-j : goal.invariant-loop-j
-invariant-loop-j l = (l.j ≤ l.n) × (l.at ≡ l.k + l.j) × Emitted l.initial.list l.k (tabulate (sector_at l.img l.start.0 l.offset (span_of l.bytes l.len) l.s) l.s l.j) l.list l.at × (length l.list ≡ length l.initial.list)
+invariant-loop-j l =
+    (l.j ≤ l.n) × (l.at ≡ l.k + l.j) × Emitted l.initial.list l.k (tabulate (sector_at l.img l.start.0 l.offset (span_of l.bytes l.len) l.s) l.s l.j) l.list l.at
+    × (length l.list ≡ length l.initial.list)
 
 abbrev pub decreases-loop-j : goal.decreases-loop-j
 decreases-loop-j l = l.n - l.j

@@ -35,7 +35,8 @@ loop-left-preserved c =
     let s = b in
     let a = s.args in
     let next = c.highest_free-next in
-    let more = search-more a.g (said a.img.now) s.requires.opened.bounded b.loop-left.invariant.2 next.result (omega arith) (omega (arith, c.if-next-eq0.false)) next.ensures.upper_bound next.ensures.highest in
+    let more = search-more a.g (said a.img.now) s.requires.opened.bounded b.loop-left.invariant.2 next.result (omega arith) (omega (arith, c.if-next-eq0.false)) next.ensures.upper_bound
+    next.ensures.highest in
     (omega arith, more.five, more)
 
 pub returns : goal.returns

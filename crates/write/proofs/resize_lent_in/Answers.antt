@@ -24,7 +24,8 @@ returns-then-size-b c =
     let b = c.begin_resize-b in
     let n = size_named (catalogue_of d) a.name.now in
     let ps = partly_covered (catalogue_of d) (index_of (file_named (catalogue_of d) a.name.now)) n (a.size - n) in
-    let m : 0 < b.result.answer.length → b.result.size ≡ n = λ l. (b.ensures.named l).1.says ∙ named-size (catalogue_of d) a.name.now _ (b.ensures.named l).0 in value_and_list (resize-lent (volume_length d) d a.name.now a.size a.time a.list.now (b.ensures.answer_value, b.ensures.list_after) c.settled.result
+    let m : 0 < b.result.answer.length → b.result.size ≡ n = λ l. (b.ensures.named l).1.says ∙ named-size (catalogue_of d) a.name.now _ (b.ensures.named l).0 in
+    value_and_list (resize-lent (volume_length d) d a.name.now a.size a.time a.list.now (b.ensures.answer_value, b.ensures.list_after) c.settled.result
     (c.settled.ensures ∙ asks_none b.result.answer (cond (ltb a.size n) [] ps)
     (λ l. ap (λ (t : Bool). cond t [] ps) (lt-ltb a.size n (omega (arith, m l, c.if-size-b.true))))))
 
@@ -44,7 +45,8 @@ returns c =
     let n = size_named (catalogue_of d) a.name.now in
     let parts : ℕ → ℕ → List Part = λ i x. partly_covered (catalogue_of d) i x (a.size - x) in
     let ps = parts (index_of (file_named (catalogue_of d) a.name.now)) n in
-    let m : 0 < b.result.answer.length → b.result.size ≡ n = λ l. (b.ensures.named l).1.says ∙ named-size (catalogue_of d) a.name.now _ (b.ensures.named l).0 in value_and_list (resize-lent (volume_length d) d a.name.now a.size a.time a.list.now (b.ensures.answer_value, b.ensures.list_after) c.asking.result
+    let m : 0 < b.result.answer.length → b.result.size ≡ n = λ l. (b.ensures.named l).1.says ∙ named-size (catalogue_of d) a.name.now _ (b.ensures.named l).0 in
+    value_and_list (resize-lent (volume_length d) d a.name.now a.size a.time a.list.now (b.ensures.answer_value, b.ensures.list_after) c.asking.result
     (c.asking.ensures ∙ asks-same b.result.answer (parts b.result.index.0 b.result.size) (cond (ltb a.size n) [] ps)
     (λ l. ap₂ parts (b.ensures.named l).0 (m l)
     ∙ ap (λ (t : Bool). cond t [] ps) (sym (le-ltb a.size n (omega (arith, m l, c.if-size-b.false)))))))

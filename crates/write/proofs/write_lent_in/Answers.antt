@@ -24,5 +24,6 @@ returns c =
     let a = c.args in
     let d = view a.img.now in
     let b = c.begin_write-b in
-    let parts : ℕ → List Part = λ i. partly_covered (catalogue_of d) i a.offset (length a.bytes.now) in value_and_list (write-lent (volume_length d) d a.name.now a.offset a.bytes.now a.time a.list.now (b.ensures.answer_value, b.ensures.list_after) c.asking.result
+    let parts : ℕ → List Part = λ i. partly_covered (catalogue_of d) i a.offset (length a.bytes.now) in
+    value_and_list (write-lent (volume_length d) d a.name.now a.offset a.bytes.now a.time a.list.now (b.ensures.answer_value, b.ensures.list_after) c.asking.result
     (c.asking.ensures ∙ asks-same b.result.answer (parts b.result.index.0) _ (λ l. ap parts (b.ensures.named l).0)))

@@ -8,20 +8,20 @@
  *     files up to                          1,024    1,024    1,024    65,535
  *     extents up to                        1,024    4,096   65,535    65,535
  *
- *     check                                6,648    6,648   68,168   262,752
- *     find, list, read, create, write      6,920    6,920   68,440   263,024
- *     resize, delete, rename              12,728   12,728   68,328   262,912
- *     rename_set                           8,728    8,728   68,328   262,912
- *     repair                              15,848   51,784  338,600   338,600
- *     recover                              1,368    1,368    1,368     1,368
- *     the same of another writer's journal 5,784    5,784    5,784   134,040
- *     recover_slice                        1,368    1,368    1,368     1,368
- *     check_with                             416      416      416       416
- *     format_record                        1,160    1,160    1,160     1,160
- *     summary, carry_out, longest_list       136      136      136       136
+ *     check                                6,624    6,624   68,064   262,744
+ *     find, list, read, create, write      6,864    6,864   68,304   262,984
+ *     resize, delete, rename              13,664   13,664   68,240   262,920
+ *     rename_set                           8,824    8,824   68,240   262,920
+ *     repair                              15,848   51,688  338,408   338,408
+ *     recover                              1,480    1,480    1,480     1,480
+ *     the same of another writer's journal 5,800    5,800    5,800   133,864
+ *     recover_slice                        1,416    1,416    1,416     1,416
+ *     check_with                             472      472      472       472
+ *     format_record                        1,176    1,176    1,176     1,176
+ *     summary, carry_out, longest_list       152      152      152       152
  *
  * Another writer's journal is one whose targets don't rise; no change of these calls leaves one. A form on lent sectors, with its
- * steps, took at most 416 bytes more than its call.
+ * steps, took at most 496 bytes more than its call.
  *
  * `code` is a number of `enum goofs_code`; the lowest whose condition holds is given (but see goofs_rename_set). With any code but 0 all
  * other result numbers are 0 (except fault and place with 7, and place with 8 and 9 of goofs_rename_set) and no byte of a buffer has

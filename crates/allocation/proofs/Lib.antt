@@ -4,3 +4,4 @@ pub mod Exact
 pub mod Marks
 pub mod Misplaced
 pub mod Verdict
+pub mod Passes

@@ -78,15 +78,6 @@ module _ (g : Geometry) (d : Disk) where
     within = omega (arith, S.at m (omega arith), S.fits);
   }
 
-  -- what is stored behind the starts leaves them
-  pub starts-kept : (m k v : ℕ) (starts : List ℕ) → Starts g d m starts → g.files < k → Starts g d m (set starts k v)
-  starts-kept m k v starts S l = record {
-    size = omega (arith, length-set starts k v, S.size);
-    files = S.files;
-    at = λ i h. get_or-set_other starts k i v 0 (λ e. omega (arith, S.files)) ∙ S.at i h;
-    fits = S.fits;
-  }
-
   -- an array of zeros has no mark
   pub no-marks : (m : ℕ) (starts seen : List ℕ) → Starts g d m starts → g.extents ≤ length seen → ((p : ℕ) → p < length seen → get_or seen p 0 ≡ 0)
       → (m < g.files → g.extents < start_of g d (m + 1)) → Marks g d 0 m seen

@@ -10,11 +10,10 @@ use lib.Dec.{eqb, ltb}
 use lib.ListN.{get_or}
 use borrow.Author.Tests.{lt-ltb, ne_eqb, eqb-true}
 use Rattle.model.specs.declared.Geometry.{Geometry}
-use Rattle.model.specs.declared.Lowest.{Lowest}
-use Rattle.model.specs.declared.Lowest.TheVariants.{At, Nowhere}
-use Rattle.model.specs.declared.Soundness.TheVariants.{Sound, Faulty}
+use Rattle.std.specs.Prelude.{Some, None}
+use Rattle.model.specs.Answers.{Sound, Faulty}
 use Rattle.model.specs.Bytes.{number_in}
-use Rattle.model.specs.Search.{first, any_below, count_below}
+use Rattle.model.specs.Search.{Lowest, first, any_below, count_below}
 use Rattle.model.specs.Geometry.{entry_at, extents_for}
 use Rattle.model.specs.Disk.{Disk}
 use Rattle.model.specs.Superblock.{geometry_in}
@@ -22,15 +21,15 @@ use Rattle.model.specs.Entry.{entry_field, is_occupied}
 use Rattle.model.specs.Table.{table_file, table_offset, free_file}
 use Rattle.model.specs.Catalogue.{catalogue_of}
 use Rattle.model.specs.Faults.{exact, fault25, fault26, or_else}
-use Rattle.laws.proofs.Search.{any_below-ext, any_below-no, first-ext, first-missed}
+use Rattle.laws.proofs.Search.{any_below-ext, any_below-no, first-ext, first-missed, first-none}
 use Rattle.laws.proofs.Catalogue.{fault26-is, exact-is}
 use Rattle.allocation.proofs.Misplaced.{fault25-on, needs-none}
-use Rattle.allocation.specs.Marks.{table_fault, bit, needed, start_of, owns, holds, is_extra, lacks, Starts, Marks}
+use Rattle.allocation.specs.Marks.{table_fault, bit, needed, start_of, owns, holds, is_extra, lacks, Starts, Marks, Misplaced, Reached}
 use Rattle.laws.proofs.Seeking.{first_found, first-there}
 use Rattle.laws.proofs.Count.{count_below-le}
 use Rattle.allocation.proofs.Sums.{by_value, sum_to-mono}
 use Rattle.allocation.proofs.Exact.{exactly, exact-unless, exactly-count, surplus}
-use Rattle.allocation.proofs.Marks.{start-next}
+use Rattle.allocation.proofs.Marks.{start-next, starts-down}
 
 unseen : (b : Bool) → eqb (bit b) 0 ≡ not b
 unseen true = refl
@@ -92,64 +91,75 @@ module _ (g : Geometry) (d : Disk) (is : g ≡ geometry_in (d 0)) (small : g.fil
             count_below-le (λ k. true && ltb (table_file g d k) (m + 1)) g.extents,
           ))
 
-  pub misplaced-at : (e : ℕ) → At e ≡ first (fault25 (catalogue_of d)) g.extents → Faulty 25 e ≡ table_fault g d
-  misplaced-at e h = ap (λ (p : Lowest). or_else 25 p (or_else 26 (first (fault26 (catalogue_of d)) g.files) Sound)) h
+  pub misplaced-at : (e : ℕ) → Misplaced g d 0 g.extents e → Faulty 25 e ≡ table_fault g d
+  misplaced-at e P =
+      let none : first (fault25 (catalogue_of d)) e ≡ None = first-none (fault25 (catalogue_of d)) e (λ j l. P.before j (omega arith) l) in
+      let found : Some e ≡ first (fault25 (catalogue_of d)) g.extents = sym (first-there (fault25 (catalogue_of d)) e g.extents P.e_lt_to none P.fault) in
+      ap (λ (p : Lowest). or_else 25 p (or_else 26 (first (fault26 (catalogue_of d)) g.files) Sound)) found
 
-  module _ (sound : first (fault25 (catalogue_of d)) g.extents ≡ Nowhere) where
+  module _ (f m : ℕ) (starts seen : List ℕ) (F : Starts g d f starts) (R : Reached g d 0 g.extents f m seen) where
+    sound : first (fault25 (catalogue_of d)) g.extents ≡ None
+    sound = first-none (fault25 (catalogue_of d)) g.extents (λ j l. R.placed j (omega arith) l)
+
+    S : Starts g d m starts
+    S = starts-down g d f m starts F R.lower
+
+    M : Marks g d g.extents m seen
+    M = R.marks
+
     -- what the search for fault 26 finds is the answer
     rest : {p : Lowest} → first (fault26 (catalogue_of d)) g.files ≡ p → or_else 26 p Sound ≡ table_fault g d
     rest h = rw (sound, h)
 
     -- an extent is an occupied file's
-    owned : (m e : ℕ) → m < g.files → e < g.extents → is_occupied (d (entry_at m)) ≡ false → owns g d m e ≡ false
-    owned m e l h free = go (owns g d m e) refl
+    owned : (i e : ℕ) → i < g.files → e < g.extents → is_occupied (d (entry_at i)) ≡ false → owns g d i e ≡ false
+    owned i e l h free = go (owns g d i e) refl
       where
-        go : (b : Bool) → owns g d m e ≡ b → b ≡ false
+        go : (b : Bool) → owns g d i e ≡ b → b ≡ false
         go false t = refl
         go true t =
-            let f : table_file g d e ≡ m = eqb-true (table_file g d e) m t in
-            let x : fault25 (catalogue_of d) e ≡ true = fault25-on d g is e h ∙ rw (f, ne_eqb m free_file (λ q. omega arith), lt-ltb m g.files l, free) in
-            absurd (true≢false (sym x ∙ first-missed (fault25 (catalogue_of d)) g.extents sound e h))
+            let q : table_file g d e ≡ i = eqb-true (table_file g d e) i t in
+            let x : fault25 (catalogue_of d) e ≡ true = fault25-on d g is e h ∙ rw (q, ne_eqb i free_file (λ z. omega arith), lt-ltb i g.files l, free) in
+            absurd (true≢false (sym x ∙ R.placed e (omega arith) h))
 
-    module _ (m : ℕ) (starts seen : List ℕ) (S : Starts g d m starts) (M : Marks g d g.extents m seen) where
-      -- where the marks end before the last file, that file is at fault unless a lower one is
-      at-fault : m < g.files → ((i : ℕ) → i < m → fault26 (catalogue_of d) i ≡ false) → fault26 (catalogue_of d) m ≡ true
-      at-fault l before = ⊎_elim (extra (is_occupied (d (entry_at m))) refl) (overfull m l before) (M.why l)
-        where
-          extra : (b : Bool) → is_occupied (d (entry_at m)) ≡ b → any_below (is_extra g d m) g.extents ≡ true → fault26 (catalogue_of d) m ≡ true
-          extra true s e = fault26-on m l ∙ rw (s, surplus (owns g d m) (table_offset g d) g.extents (needed g d m) e)
-          extra false s e = absurd (true≢false (sym e ∙ any_below-no (is_extra g d m) g.extents (λ j h. rw (owned m j l h s))))
+    -- where the marks end before the last file, that file is at fault unless a lower one is
+    at-fault : m < g.files → ((i : ℕ) → i < m → fault26 (catalogue_of d) i ≡ false) → fault26 (catalogue_of d) m ≡ true
+    at-fault l before = ⊎_elim (extra (is_occupied (d (entry_at m))) refl) (overfull m l before) (M.why l)
+      where
+        extra : (b : Bool) → is_occupied (d (entry_at m)) ≡ b → any_below (is_extra g d m) g.extents ≡ true → fault26 (catalogue_of d) m ≡ true
+        extra true s e = fault26-on m l ∙ rw (s, surplus (owns g d m) (table_offset g d) g.extents (needed g d m) e)
+        extra false s e = absurd (true≢false (sym e ∙ any_below-no (is_extra g d m) g.extents (λ j h. rw (owned m j l h s))))
 
-      lacks-is : (i : ℕ) → i < m → lacks starts seen i ≡ any_below (λ k. not (any_below (holds g d i k) g.extents)) (needed g d i)
-      lacks-is i l =
-          let n : start_of g d (i + 1) - start_of g d i ≡ needed g d i = omega (arith, start-next g d i) in
-          rw (S.at i (omega arith), S.at (i + 1) (omega arith), n)
-          (any_below-ext (λ k. eqb (get_or seen (start_of g d i + k) 0) 0) (λ k. not (any_below (holds g d i k) g.extents)) (needed g d i)
-          (λ k h. ap (λ (x : ℕ). eqb x 0) (M.seen_at i l k h) ∙ unseen (any_below (holds g d i k) g.extents)))
+    lacks-is : (i : ℕ) → i < m → lacks starts seen i ≡ any_below (λ k. not (any_below (holds g d i k) g.extents)) (needed g d i)
+    lacks-is i l =
+        let n : start_of g d (i + 1) - start_of g d i ≡ needed g d i = omega (arith, start-next g d i) in
+        rw (S.at i (omega arith), S.at (i + 1) (omega arith), n)
+        (any_below-ext (λ k. eqb (get_or seen (start_of g d i + k) 0) 0) (λ k. not (any_below (holds g d i k) g.extents)) (needed g d i)
+        (λ k h. ap (λ (x : ℕ). eqb x 0) (M.seen_at i l k h) ∙ unseen (any_below (holds g d i k) g.extents)))
 
-      judged : (i : ℕ) → i < m → lacks starts seen i ≡ fault26 (catalogue_of d) i
-      unfolding any_below
-      judged i l = lacks-is i l ∙ sym (fault26-on i (omega (arith, S.files)) ∙ go (is_occupied (d (entry_at i))) refl)
-        where
-          go : (b : Bool) → is_occupied (d (entry_at i)) ≡ b → (b && not (right g d i (needed g d i))) ≡ any_below (λ k. not (any_below (holds g d i k) g.extents)) (needed g d i)
-          go true s =
-              ap not (exact-unless (owns g d i) (table_offset g d) g.extents (needed g d i) (M.none i l))
-              ∙ not-not (any_below (λ k. not (any_below (holds g d i k) g.extents)) (needed g d i))
-          go false s = rw (needs-none g d i s)
+    judged : (i : ℕ) → i < m → lacks starts seen i ≡ fault26 (catalogue_of d) i
+    unfolding any_below
+    judged i l = lacks-is i l ∙ sym (fault26-on i (omega (arith, S.files)) ∙ go (is_occupied (d (entry_at i))) refl)
+      where
+        go : (b : Bool) → is_occupied (d (entry_at i)) ≡ b → (b && not (right g d i (needed g d i))) ≡ any_below (λ k. not (any_below (holds g d i k) g.extents)) (needed g d i)
+        go true s =
+            ap not (exact-unless (owns g d i) (table_offset g d) g.extents (needed g d i) (M.none i l))
+            ∙ not-not (any_below (λ k. not (any_below (holds g d i k) g.extents)) (needed g d i))
+        go false s = rw (needs-none g d i s)
 
-      same_first : first (lacks starts seen) m ≡ first (fault26 (catalogue_of d)) m
-      same_first = first-ext (lacks starts seen) (fault26 (catalogue_of d)) m judged
+    same_first : first (lacks starts seen) m ≡ first (fault26 (catalogue_of d)) m
+    same_first = first-ext (lacks starts seen) (fault26 (catalogue_of d)) m judged
 
-      -- the three answers
-      pub lacking-at : (i : ℕ) → At i ≡ first (lacks starts seen) m → Faulty 26 i ≡ table_fault g d
-      lacking-at i e = rest (first_found (fault26 (catalogue_of d)) m g.files i S.files (sym same_first ∙ sym e))
+    -- the three answers
+    pub lacking-at : (i : ℕ) → Some i ≡ first (lacks starts seen) m → Faulty 26 i ≡ table_fault g d
+    lacking-at i e = rest (first_found (fault26 (catalogue_of d)) m g.files i S.files (sym same_first ∙ sym e))
 
-      module _ (e : Nowhere ≡ first (lacks starts seen) m) where
-        missed : first (fault26 (catalogue_of d)) m ≡ Nowhere
-        missed = sym same_first ∙ sym e
+    module _ (e : None ≡ first (lacks starts seen) m) where
+      missed : first (fault26 (catalogue_of d)) m ≡ None
+      missed = sym same_first ∙ sym e
 
-        pub stopped-at : m < g.files → Faulty 26 m ≡ table_fault g d
-        stopped-at l = rest (first-there (fault26 (catalogue_of d)) m g.files l missed (at-fault l (first-missed (fault26 (catalogue_of d)) m missed)))
+      pub stopped-at : m < g.files → Faulty 26 m ≡ table_fault g d
+      stopped-at l = rest (first-there (fault26 (catalogue_of d)) m g.files l missed (at-fault l (first-missed (fault26 (catalogue_of d)) m missed)))
 
-        pub nowhere : g.files ≤ m → Sound ≡ table_fault g d
-        nowhere h = let q : g.files ≡ m = omega (arith, S.files) in rest {p = Nowhere} (rw q missed)
+      pub nowhere : g.files ≤ m → Sound ≡ table_fault g d
+      nowhere h = let q : g.files ≡ m = omega (arith, S.files) in rest {p = None} (rw q missed)

@@ -1,13 +1,11 @@
--- The first fault of the allocation table, and what the arrays of fault 26's test hold: a byte stands for each extent that an occupied
+-- The first fault of the allocation table, and what the arrays of fault 26's test hold: a mark stands for each extent that an occupied
 -- file needs, file after file; it is 1 once a table entry with that file and offset was met.
-use Rattle.std.specs.Prelude.{ℕ, zero, suc, ◌+◌, ◌-◌, ◌≤◌, ◌<◌, ◌≡◌, ◌⊎◌, Bool, true, false, cond, ◌&&◌, ◌||◌, List, eqb, leb, length, get_or}
+use Rattle.std.specs.Prelude.{ℕ, zero, suc, ◌+◌, ◌-◌, ◌≤◌, ◌<◌, ◌≡◌, ◌⊎◌, Bool, true, false, cond, ◌&&◌, ◌||◌, List, eqb, leb, length, get_or, Result, Ok, Err}
+use Rattle.model.specs.declared.Extent.{Extent}
 use Rattle.model.specs.declared.Geometry.{Geometry}
-use Rattle.model.specs.declared.Lowest.{Lowest}
-use Rattle.model.specs.declared.Lowest.TheVariants.{Nowhere}
-use Rattle.model.specs.declared.Soundness.{Soundness}
-use Rattle.model.specs.declared.Soundness.TheVariants.{Sound}
+use Rattle.model.specs.Answers.{Soundness, Sound}
 use Rattle.model.specs.Bytes.{number_in}
-use Rattle.model.specs.Search.{scan, first, any_below}
+use Rattle.model.specs.Search.{first, any_below}
 use Rattle.model.specs.Geometry.{FileNumber, ExtentNumber, entry_at, extents_for}
 use Rattle.model.specs.Disk.{Disk}
 use Rattle.model.specs.Entry.{entry_field, is_occupied}
@@ -61,11 +59,23 @@ module _ (g : Geometry) (d : Disk) where
     pub none : (i : FileNumber) → i < m → any_below (is_extra i) k ≡ false
     pub why : m < g.files → (any_below (is_extra m) k ≡ true) ⊎ (g.extents < start_of (m + 1))
 
-  -- a pass over the extents from one to another: the first with fault 25 among them, or none, and the marks of all so far
-  pub record Passed (from to f : ℕ) (misplaced : Lowest) (reached : ℕ) (seen : List ℕ) : Type 0 where
-    pub found : misplaced ≡ scan (fault25 (catalogue_of d)) (to - from) from
-    pub marks : misplaced ≡ Nowhere → Marks to reached seen
-    pub lower : misplaced ≡ Nowhere → reached ≤ f
+  -- extent e is the first with fault 25 of those from one to another
+  pub record Misplaced (from to e : ExtentNumber) : Type 0 where
+    pub from_le_e : from ≤ e
+    pub e_lt_to : e < to
+    pub fault : fault25 (catalogue_of d) e ≡ true
+    pub before : (j : ExtentNumber) → from ≤ j → j < e → fault25 (catalogue_of d) j ≡ false
+
+  -- none of them has it, and the marks are those of all so far
+  pub record Reached (from to : ExtentNumber) (f m : FileNumber) (seen : List ℕ) : Type 0 where
+    pub placed : (j : ExtentNumber) → from ≤ j → j < to → fault25 (catalogue_of d) j ≡ false
+    pub marks : Marks to m seen
+    pub lower : m ≤ f
+
+  -- what a pass over them answers, where f was reached before
+  abbrev pub Passed : ExtentNumber → ExtentNumber → FileNumber → Result FileNumber Extent → List ℕ → Type 0
+  Passed from to f (Ok m) seen = Reached from to f m seen
+  Passed from to f (Err e) seen = Misplaced from to e.0
 
 -- the starts up to m rise, to n at most
 pub record Rising (starts : List ℕ) (m n : ℕ) : Type 0 where

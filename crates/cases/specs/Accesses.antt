@@ -2,8 +2,7 @@
 -- in the other tables; on a disk, a file "a" of 1 byte.
 use Rattle.std.specs.Prelude.{ℕ, ◌≡◌, List, [], ◌∷◌, ◌++◌, replicate}
 use Rattle.std.proofs.Math.Option.{some}
-use Rattle.model.specs.declared.BytesRead.{BytesRead}
-use Rattle.model.specs.declared.Listed.{Listed}
+use Rattle.model.specs.Answers.{BytesRead, Listed}
 use Rattle.model.specs.Bytes.{ones_sector}
 use Rattle.model.specs.Disk.{Disk}
 use Rattle.model.specs.Root.{accessed_root_sector}

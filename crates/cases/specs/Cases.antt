@@ -1,9 +1,8 @@
 -- "P1 to P10 form a single table with a single statement about the definitions (P6 to P9 about the list's order and the four table
 -- entries, not a whole image)." Sample: 1,313 sectors, F 255.
-use Rattle.std.specs.Prelude.{ℕ, ◌*◌, ◌≡◌, List, [], ◌∷◌, ◌++◌, length, replicate}
+use Rattle.std.specs.Prelude.{ℕ, ◌*◌, ◌≡◌, List, [], ◌∷◌, ◌++◌, length, replicate, Some, None}
 use Rattle.std.proofs.Math.Option.{Option, none, some}
 use Rattle.model.specs.declared.Geometry.{Geometry}
-use Rattle.model.specs.declared.Lowest.TheVariants.{At, Nowhere}
 use Rattle.model.specs.Search.{tabulate}
 use Rattle.model.specs.Geometry.{table_sectors, reserve_extents, journal_at, table_at, data_at, reserve_at}
 use Rattle.model.specs.Disk.{Disk}
@@ -133,10 +132,10 @@ pub record Cases : Type 0 where
   -- longest delete: 514 targets, 17 journal sectors, 1,051 records
   pub longest : record_count 0 514 ≡ 1051
   -- T-01: "a" full and "b", then "a" to "b": root, "a" renamed, "b" zeroed; "b" to "a": the same entries, and the table sector of "a"
-  pub rename-order : (d : Disk) → order (groups pair d (rename_plan (known pair) d 0 (At 1) (called 98) 0)) ≡ (674 ∷ 675 ∷ 676 ∷ 257 ∷ behind (1 ∷ 2 ∷ 3 ∷ []))
-  pub replace-order : (d : Disk) → order (groups pair d (rename_plan (known pair) d 1 (At 0) (called 97) 0))
+  pub rename-order : (d : Disk) → order (groups pair d (rename_plan (known pair) d 0 (Some 1) (called 98) 0)) ≡ (674 ∷ 675 ∷ 676 ∷ 257 ∷ behind (1 ∷ 2 ∷ 3 ∷ []))
+  pub replace-order : (d : Disk) → order (groups pair d (rename_plan (known pair) d 1 (Some 0) (called 97) 0))
       ≡ (674 ∷ 675 ∷ 676 ∷ 677 ∷ 257 ∷ behind (1 ∷ 2 ∷ 3 ∷ 289 ∷ []))
-  pub rename-new : (d : Disk) → order (groups pair d (rename_plan (known pair) d 1 Nowhere (called 99) 0)) ≡ (674 ∷ 675 ∷ 257 ∷ behind (1 ∷ 3 ∷ []))
+  pub rename-new : (d : Disk) → order (groups pair d (rename_plan (known pair) d 1 None (called 99) 0)) ≡ (674 ∷ 675 ∷ 257 ∷ behind (1 ∷ 3 ∷ []))
   pub rename-answer : answer (rename (called 98) (called 97) 0 7920) (after pair) ≡ changed (record { verdict = done; length = 15 * 528 })
   pub rename-itself : answer (rename (called 98) (called 98) 0 0) (after pair) ≡ changed (record { verdict = done; length = 0 })
   pub rename-refused : (number_of (answer (rename [] (called 97) 0 7920) (after pair)) ∷ number_of (answer (rename (called 97) [] 0 7920) (after pair))

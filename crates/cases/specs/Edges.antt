@@ -4,9 +4,7 @@ use Rattle.std.specs.Prelude.{ℕ, ◌+◌, ◌^◌, ◌≡◌, cond, ◌&&◌, 
 use Rattle.model.specs.declared.State.TheVariants.{Clean, Waiting, Damaged, Unfinished}
 use Rattle.model.specs.declared.Area.TheVariants.{Journal, Table, Data, Reserve}
 use Rattle.model.specs.declared.Summary.{Summary}
-use Rattle.model.specs.declared.Summarized.{Summarized}
-use Rattle.model.specs.declared.Verdict.{Verdict}
-use Rattle.model.specs.declared.Sliced.{Sliced}
+use Rattle.model.specs.Answers.{Summarized, Verdict, Sliced}
 use Rattle.model.specs.Bytes.{zero_sector, ones_sector}
 use Rattle.model.specs.Geometry.{table_sectors}
 use Rattle.model.specs.Disk.{Disk}

@@ -3,7 +3,7 @@
 use Rattle.std.specs.Prelude.{ℕ, ◌-◌, ◌^◌, ◌≡◌, cond, List, [], ◌∷◌, eqb, replicate}
 use Rattle.model.specs.declared.State.TheVariants.{Clean}
 use Rattle.model.specs.declared.Geometry.{Geometry}
-use Rattle.model.specs.declared.Verdict.{Verdict}
+use Rattle.model.specs.Answers.{Verdict}
 use Rattle.model.specs.Bytes.{bytes_from, zero_sector, ones_sector}
 use Rattle.model.specs.Disk.{Disk}
 use Rattle.model.specs.Superblock.{new_superblock}

@@ -1,7 +1,7 @@
 -- How long a list each call can give, by the geometry: on the sample, on the largest volume, and where a set of renames is held back by the reserve.
 use Rattle.std.specs.Prelude.{ℕ, ◌*◌, ◌≡◌, List, [], ◌∷◌, map}
 use Rattle.model.specs.declared.Geometry.{Geometry}
-use Rattle.model.specs.declared.Longest.{Longest}
+use Rattle.model.specs.Answers.{Longest}
 use Rattle.model.specs.Lengths.{longest_answer}
 
 abbrev pub sized : ℕ → ℕ → ℕ → Geometry

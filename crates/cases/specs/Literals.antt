@@ -2,7 +2,7 @@
 -- beside P1 to P10, so that a wrong field, width or order in a definition is seen without reading it.
 use Rattle.std.specs.Prelude.{ℕ, ◌+◌, ◌-◌, ◌≡◌, cond, List, [], ◌∷◌, ◌++◌, eqb, length, replicate}
 use Rattle.model.specs.declared.State.TheVariants.{Clean, Waiting, Damaged, Unfinished}
-use Rattle.model.specs.declared.Verdict.{Verdict}
+use Rattle.model.specs.Answers.{Verdict}
 use Rattle.model.specs.Bytes.{bytes_from, zero_sector, ones_sector}
 use Rattle.model.specs.Disk.{Disk}
 use Rattle.model.specs.Superblock.{new_superblock, state_of}

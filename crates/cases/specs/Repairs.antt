@@ -1,7 +1,7 @@
 -- Cases of a repair, about the definitions: F 255, N 10, S 128, so T 1 and K 1.
 use Rattle.std.specs.Prelude.{ℕ, ◌-◌, ◌^◌, ◌≡◌, Bool, true, false, cond, List, [], ◌∷◌, eqb, get_or}
 use Rattle.std.proofs.Math.Option.{Option, none, some}
-use Rattle.model.specs.declared.Soundness.TheVariants.{Sound, Faulty}
+use Rattle.model.specs.Answers.{Sound, Faulty}
 use Rattle.model.specs.Search.{tabulate}
 use Rattle.model.specs.Entry.{Entry}
 use Rattle.model.specs.Catalogue.{Owner, Catalogue}

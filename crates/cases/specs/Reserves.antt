@@ -2,8 +2,7 @@
 -- volumes that another writer may make: a file "a" in the first entry, "b" in the fourth, and their extents anywhere.
 use Rattle.std.specs.Prelude.{ℕ, ◌≡◌, true, false, cond, List, [], ◌∷◌, map, eqb, length, get_or, replicate}
 use Rattle.std.proofs.Math.Option.{Option, none, some}
-use Rattle.model.specs.declared.Changed.{Changed}
-use Rattle.model.specs.declared.Verdict.{Verdict}
+use Rattle.model.specs.Answers.{Changed, Verdict}
 use Rattle.model.specs.Search.{any_below}
 use Rattle.model.specs.Bytes.{ones_sector}
 use Rattle.model.specs.Disk.{Disk}

@@ -9,20 +9,25 @@ ghost use Rattle.model.specs.Delete.{delete_answer, delete_list};
 ghost use Rattle.model.specs.Resize.{resize_answer, resize_list};
 ghost use Rattle.model.specs.Write.{write_answer, write_list};
 ghost use Rattle.model.specs.Rename.{rename_answer, rename_list};
+ghost use Rattle.model.specs.Results.{changed_in};
 ghost use Rattle.model.specs.Lent.{write_lent, resize_lent, on_lent};
 ghost use Rattle.model.specs.RenameSet.{rename_set_answer, rename_set_list};
 
-use model::{Changed, Writing};
+use model::{Refusal, Writing};
 
-pub fn create(img: &[u8], name: &[u8], id: u64, mode: u32, time: u64, list: &mut [u8]) -> Changed
-    ensures value { result ≡ on_image create_answer img.now name.now id mode time (length list.old) }
+pub fn create(
+    img: &[u8],
+    name: &[u8],
+    id: u64,
+    mode: u32,
+    time: u64,
+    list: &mut [u8],
+) -> Result<u64, Refusal>
+    ensures value { changed_in result ≡ on_image create_answer img.now name.now id mode time (length list.old) }
     ensures list_after { list.new ≡ on_image create_list img.now name.now id mode time list.old }
 {
-    let v = soundness::judge(img);
-    if v.number == 0 {
-        return create::create_in(img, list, name, id, mode, time);
-    }
-    commit::refused(v)
+    soundness::judge(img)?;
+    create::create_in(img, list, name, id, mode, time)
 }
 
 pub fn create_lent(
@@ -33,48 +38,48 @@ pub fn create_lent(
     mode: u32,
     time: u64,
     list: &mut [u8],
-) -> Changed
-    ensures value { result ≡ on_lent create_answer front.now count name.now id mode time (length list.old) }
+) -> Result<u64, Refusal>
+    ensures value { changed_in result ≡ on_lent create_answer front.now count name.now id mode time (length list.old) }
     ensures list_after { list.new ≡ on_lent create_list front.now count name.now id mode time list.old }
 {
-    let v = soundness::judge_lent(front, count);
-    if v.number == 0 {
-        return create::create_in(front, list, name, id, mode, time);
-    }
-    commit::refused(v)
+    soundness::judge_lent(front, count)?;
+    create::create_in(front, list, name, id, mode, time)
 }
 
-pub fn delete(img: &[u8], name: &[u8], time: u64, list: &mut [u8]) -> Changed
-    ensures value { result ≡ on_image delete_answer img.now name.now time (length list.old) }
+pub fn delete(img: &[u8], name: &[u8], time: u64, list: &mut [u8]) -> Result<u64, Refusal>
+    ensures value { changed_in result ≡ on_image delete_answer img.now name.now time (length list.old) }
     ensures list_after { list.new ≡ on_image delete_list img.now name.now time list.old }
 {
-    let v = soundness::judge(img);
-    if v.number == 0 {
-        return delete::delete_in(img, name, time, list);
-    }
-    commit::refused(v)
+    soundness::judge(img)?;
+    delete::delete_in(img, name, time, list)
 }
 
-pub fn delete_lent(front: &[u8], count: u64, name: &[u8], time: u64, list: &mut [u8]) -> Changed
-    ensures value { result ≡ on_lent delete_answer front.now count name.now time (length list.old) }
+pub fn delete_lent(
+    front: &[u8],
+    count: u64,
+    name: &[u8],
+    time: u64,
+    list: &mut [u8],
+) -> Result<u64, Refusal>
+    ensures value { changed_in result ≡ on_lent delete_answer front.now count name.now time (length list.old) }
     ensures list_after { list.new ≡ on_lent delete_list front.now count name.now time list.old }
 {
-    let v = soundness::judge_lent(front, count);
-    if v.number == 0 {
-        return delete::delete_in(front, name, time, list);
-    }
-    commit::refused(v)
+    soundness::judge_lent(front, count)?;
+    delete::delete_in(front, name, time, list)
 }
 
-pub fn resize(img: &[u8], name: &[u8], size: u64, time: u64, list: &mut [u8]) -> Changed
-    ensures value { result ≡ on_image resize_answer img.now name.now size time (length list.old) }
+pub fn resize(
+    img: &[u8],
+    name: &[u8],
+    size: u64,
+    time: u64,
+    list: &mut [u8],
+) -> Result<u64, Refusal>
+    ensures value { changed_in result ≡ on_image resize_answer img.now name.now size time (length list.old) }
     ensures list_after { list.new ≡ on_image resize_list img.now name.now size time list.old }
 {
-    let v = soundness::judge(img);
-    if v.number == 0 {
-        return write::resize_in(img, name, size, time, list);
-    }
-    commit::refused(v)
+    soundness::judge(img)?;
+    write::resize_in(img, name, size, time, list)
 }
 
 pub fn resize_lent(
@@ -88,11 +93,10 @@ pub fn resize_lent(
     ensures value { result ≡ on_lent resize_lent front.now count name.now size time (length list.old) }
     ensures list_after { list.new ≡ on_lent resize_list front.now count name.now size time list.old }
 {
-    let v = soundness::judge_lent(front, count);
-    if v.number == 0 {
-        return write::resize_lent_in(front, name, size, time, list);
+    match soundness::judge_lent(front, count) {
+        Ok(()) => write::resize_lent_in(front, name, size, time, list),
+        Err(refusal) => write::refused_writing(refusal),
     }
-    write::refused_writing(v)
 }
 
 pub fn write(
@@ -102,15 +106,12 @@ pub fn write(
     bytes: &[u8],
     time: u64,
     list: &mut [u8],
-) -> Changed
-    ensures value { result ≡ on_image write_answer img.now name.now offset bytes.now time (length list.old) }
+) -> Result<u64, Refusal>
+    ensures value { changed_in result ≡ on_image write_answer img.now name.now offset bytes.now time (length list.old) }
     ensures list_after { list.new ≡ on_image write_list img.now name.now offset bytes.now time list.old }
 {
-    let v = soundness::judge(img);
-    if v.number == 0 {
-        return write::write_in(img, name, offset, bytes, time, list);
-    }
-    commit::refused(v)
+    soundness::judge(img)?;
+    write::write_in(img, name, offset, bytes, time, list)
 }
 
 pub fn write_lent(
@@ -125,22 +126,24 @@ pub fn write_lent(
     ensures value { result ≡ on_lent write_lent front.now count name.now offset bytes.now time (length list.old) }
     ensures list_after { list.new ≡ on_lent write_list front.now count name.now offset bytes.now time list.old }
 {
-    let v = soundness::judge_lent(front, count);
-    if v.number == 0 {
-        return write::write_lent_in(front, name, offset, bytes, time, list);
+    match soundness::judge_lent(front, count) {
+        Ok(()) => write::write_lent_in(front, name, offset, bytes, time, list),
+        Err(refusal) => write::refused_writing(refusal),
     }
-    write::refused_writing(v)
 }
 
-pub fn rename(img: &[u8], old: &[u8], new: &[u8], time: u64, list: &mut [u8]) -> Changed
-    ensures value { result ≡ on_image rename_answer img.now old.now new.now time (length list.old) }
+pub fn rename(
+    img: &[u8],
+    old: &[u8],
+    new: &[u8],
+    time: u64,
+    list: &mut [u8],
+) -> Result<u64, Refusal>
+    ensures value { changed_in result ≡ on_image rename_answer img.now old.now new.now time (length list.old) }
     ensures list_after { list.new ≡ on_image rename_list img.now old.now new.now time list.old }
 {
-    let v = soundness::judge(img);
-    if v.number == 0 {
-        return rename::rename_in(img, old, new, time, list);
-    }
-    commit::refused(v)
+    soundness::judge(img)?;
+    rename::rename_in(img, old, new, time, list)
 }
 
 pub fn rename_lent(
@@ -150,26 +153,26 @@ pub fn rename_lent(
     new: &[u8],
     time: u64,
     list: &mut [u8],
-) -> Changed
-    ensures value { result ≡ on_lent rename_answer front.now count old.now new.now time (length list.old) }
+) -> Result<u64, Refusal>
+    ensures value { changed_in result ≡ on_lent rename_answer front.now count old.now new.now time (length list.old) }
     ensures list_after { list.new ≡ on_lent rename_list front.now count old.now new.now time list.old }
 {
-    let v = soundness::judge_lent(front, count);
-    if v.number == 0 {
-        return rename::rename_in(front, old, new, time, list);
-    }
-    commit::refused(v)
+    soundness::judge_lent(front, count)?;
+    rename::rename_in(front, old, new, time, list)
 }
 
-pub fn rename_set(img: &[u8], names: &[u8], lengths: &[u64], time: u64, list: &mut [u8]) -> Changed
-    ensures value { result ≡ on_image rename_set_answer img.now names.now lengths.now time (length list.old) }
+pub fn rename_set(
+    img: &[u8],
+    names: &[u8],
+    lengths: &[u64],
+    time: u64,
+    list: &mut [u8],
+) -> Result<u64, Refusal>
+    ensures value { changed_in result ≡ on_image rename_set_answer img.now names.now lengths.now time (length list.old) }
     ensures list_after { list.new ≡ on_image rename_set_list img.now names.now lengths.now time list.old }
 {
-    let v = soundness::judge(img);
-    if v.number == 0 {
-        return rename_set::rename_set_in(img, names, lengths, time, list);
-    }
-    commit::refused(v)
+    soundness::judge(img)?;
+    rename_set::rename_set_in(img, names, lengths, time, list)
 }
 
 pub fn rename_set_lent(
@@ -179,13 +182,10 @@ pub fn rename_set_lent(
     lengths: &[u64],
     time: u64,
     list: &mut [u8],
-) -> Changed
-    ensures value { result ≡ on_lent rename_set_answer front.now count names.now lengths.now time (length list.old) }
+) -> Result<u64, Refusal>
+    ensures value { changed_in result ≡ on_lent rename_set_answer front.now count names.now lengths.now time (length list.old) }
     ensures list_after { list.new ≡ on_lent rename_set_list front.now count names.now lengths.now time list.old }
 {
-    let v = soundness::judge_lent(front, count);
-    if v.number == 0 {
-        return rename_set::rename_set_in(front, names, lengths, time, list);
-    }
-    commit::refused(v)
+    soundness::judge_lent(front, count)?;
+    rename_set::rename_set_in(front, names, lengths, time, list)
 }

@@ -1,7 +1,7 @@
 -- What a changing call comes to that its own conditions let pass, and what a decision comes to.
 use Rattle.std.specs.Prelude.{ℕ, ◌≡◌, cond, List}
 use Rattle.std.proofs.Math.Option.{Option, none}
-use Rattle.model.specs.declared.Changed.{Changed}
+use Rattle.model.specs.Answers.{Changed}
 use Rattle.model.specs.Disk.{Disk}
 use Rattle.model.specs.Refusals.{verdict_of, is_done}
 use Rattle.model.specs.WriteList.{Plan, Decision, plan_conditions, answer_of, list_after}

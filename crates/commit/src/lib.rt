@@ -2,7 +2,7 @@
 // copies go into the list; journal, start mark, targets and end mark then follow from the targets' numbers and the copies.
 #![tactic(auto)]
 
-ghost use Rattle.std.specs.Prelude.{◌≡◌, [], ◌∷◌, ◌+◌, ◌-◌, ◌*◌, ◌≤◌, ◌<◌, min, length, get_or, set};
+ghost use Rattle.std.specs.Prelude.{◌≡◌, map, [], ◌∷◌, ◌+◌, ◌-◌, ◌*◌, ◌≤◌, ◌<◌, length, get_or, set};
 ghost use Rattle.std.proofs.Math.Option.{some};
 ghost use Rattle.model.specs.Bytes.{bytes_from};
 ghost use Rattle.model.specs.Disk.{view};
@@ -11,7 +11,7 @@ ghost use Rattle.model.specs.WriteList.{sector_write, one_target, record_size, c
 ghost use Rattle.model.specs.Opened.{Bounded, Opened};
 ghost use Rattle.commit.specs.Commit.{Stages, StagesOf, staged_targets, commit_groups};
 
-use model::{Changed, Extent, Geometry, Sector, Verdict};
+use model::{Extent, Geometry, Sector};
 
 // Where copy j is staged: sector j mod S of the (j / S)-th of these extents.
 fn stage_at(g: Geometry, stages: &[u64], j: usize) -> Sector
@@ -22,7 +22,7 @@ fn stage_at(g: Geometry, stages: &[u64], j: usize) -> Sector
 {
     let s = g.extent_sectors as usize;
     let first = g.extent_at(Extent(stages[j / s]));
-    Sector(first.0 + ((j % s) as u64))
+    Sector(first.0 + (j % s) as u64)
 }
 
 // Record k is the copy of target j, in its stage; the target's number is noted for the journal.
@@ -50,12 +50,6 @@ pub fn put_copy(
 
 // ---- the journal
 
-fn fewer(a: usize, b: usize) -> usize
-    ensures { result ≡ min a b }
-{
-    if a <= b { a } else { b }
-}
-
 // A sector of zeros with n entries put in from its front, the first of them entry `from`.
 fn entries_in(g: Geometry, stages: &[u64], numbers: &[u64], from: usize, n: usize) -> [u8; 512]
     requires stages { Stages g stages.now }
@@ -64,12 +58,10 @@ fn entries_in(g: Geometry, stages: &[u64], numbers: &[u64], from: usize, n: usiz
     ensures { result ≡ entries_in (stage_in g stages.now) (λ k. get_or numbers.now k 0) from n }
 {
     let mut a = [0u8; 512];
-    let mut i: usize = 0;
-    while i < n {
+    for i in 0..n {
         let source = stage_at(g, stages, from + i);
         let target = numbers[from + i];
         layout::journal::put(&mut a, i, source.0, target);
-        i += 1;
     }
     a
 }
@@ -82,7 +74,7 @@ fn journal_sector(g: Geometry, stages: &[u64], numbers: &[u64], n: usize, j: usi
     ensures { result ≡ journal_sector (stage_in g stages.now) (λ k. get_or numbers.now k 0) n j }
 {
     let from = 32 * j;
-    entries_in(g, stages, numbers, from, fewer(32, n - from))
+    entries_in(g, stages, numbers, from, (n - from).min(32))
 }
 
 // The journal of n targets, from position k on.
@@ -102,12 +94,10 @@ fn put_journal(
     ensures value { result ≡ k + journal_sectors n }
 {
     let at = g.journal_at();
-    let m = (n + 31) / 32;
-    let mut j: usize = 0;
-    while j < m {
+    let m = n.div_ceil(32);
+    for j in 0..m {
         let s = journal_sector(g, stages, numbers, n, j);
-        lists::put_sector(list, k + j, Sector(at.0 + (j as u64)), s);
-        j += 1;
+        lists::put_sector(list, k + j, Sector(at.0 + j as u64), s);
     }
     k + m
 }
@@ -120,13 +110,8 @@ fn contents_at(list: &[u8], k: usize) -> [u8; 512]
     ensures { result ≡ bytes_from list.now (k * record_size + contents_start) 512 }
 {
     let mut a = [0u8; 512];
-    fields::copy_bytes(
-        list,
-        k * lists::RECORD_SIZE + lists::CONTENTS_START,
-        &mut a,
-        0,
-        512,
-    );
+    let at = k * lists::RECORD_SIZE + lists::CONTENTS_START;
+    a.copy_from_slice(&list[at..at + 512]);
     a
 }
 
@@ -148,11 +133,8 @@ fn put_targets(list: &mut [u8], k: usize, numbers: &[u64], n: usize, from: usize
     ensures emitted { Emitted list.old k (staged_targets list.old from numbers.now n) list.new result }
     ensures value { result ≡ k + n }
 {
-    let mut j: usize = 0;
-    while j < n {
-        let target = Sector(numbers[j]);
-        put_target(list, k + j, target, from + j);
-        j += 1;
+    for j in 0..n {
+        put_target(list, k + j, Sector(numbers[j]), from + j);
     }
     k + n
 }
@@ -191,8 +173,31 @@ pub fn records_for(n: u64) -> usize
     requires { n ≤ 1024 }
     ensures { result ≡ record_count 0 n }
 {
-    let journal = (n + 31) / 32;
+    let journal = n.div_ceil(32);
     (n + journal + 1 + 2 + (n + 1) + 2) as usize
+}
+
+// The list of a call that has no data sectors and these targets: sectors and their new contents.
+pub fn put_targets_alone<const N: usize>(
+    list: &mut [u8],
+    img: &[u8],
+    g: Geometry,
+    stages: &[u64],
+    targets: &[(Sector, [u8; 512]); N],
+) -> usize
+    requires stages_of { StagesOf g (view img.now) stages.now }
+    requires few { N ≤ 640 }
+    requires record_size_in_bounds { record_count 0 N * record_size ≤ length list.old }
+    requires opened { Opened img.now g }
+    ensures { Emitted list.old 0
+        (closed (groups_for (view img.now) (some (record { data_sectors = []; targets = map (λ t. sector_write t.0.0 t.1) targets.now })))) list.new result }
+{
+    let mut numbers = [0u64; N];
+    let mut k = 0;
+    for &(sector, contents) in targets {
+        k = put_copy(list, k, g, stages, &mut numbers, k, sector, contents);
+    }
+    put_commit(list, k, img, g, stages, &numbers, k)
 }
 
 // The list of a call with one target and no data has 9 records.
@@ -211,14 +216,5 @@ pub fn put_one_target(
     requires opened { Opened img.now g }
     ensures { Emitted list.old 0 (closed (groups_for (view img.now) (some (one_target target.0 s)))) list.new result }
 {
-    let mut numbers = [0u64; 1];
-    let k = put_copy(list, 0, g, stages, &mut numbers, 0, target, s);
-    put_commit(list, k, img, g, stages, &numbers, 1)
-}
-
-// What a changing call answers where it refuses.
-pub fn refused(verdict: Verdict) -> Changed
-    ensures { result ≡ record { verdict = verdict; length = 0 } }
-{
-    Changed { verdict, length: 0 }
+    put_targets_alone(list, img, g, stages, &[(target, s)])
 }

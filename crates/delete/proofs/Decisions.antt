@@ -6,8 +6,8 @@ use mathlib.Core.List.{List}
 use mathlib.Core.Option.{some}
 use native.Mathlib.Omega.{arith}
 use lib.ListN.{length}
-use Rattle.model.specs.declared.Changed.{Changed}
-use Rattle.model.specs.declared.Lowest.TheVariants.{At, Nowhere}
+use Rattle.model.specs.Answers.{Changed}
+use Rattle.std.specs.Prelude.{Some, None}
 use Rattle.model.specs.Search.{is_at, index_of}
 use Rattle.model.specs.Disk.{view}
 use Rattle.model.specs.Edition.{bad_time}
@@ -48,19 +48,19 @@ module _ (img list name : List ℕ) (time : ℕ) (ok : (judged (volume_length (v
   bad : is_bad ≡ true → refusal 8 ≡ verdict_of cs
   bad h = sym (own-tests ∙ rw h)
 
-  missing : is_bad ≡ false → file_named c name ≡ Nowhere → refusal 9 ≡ verdict_of cs
+  missing : is_bad ≡ false → file_named c name ≡ None → refusal 9 ≡ verdict_of cs
   missing h n = sym (own-tests ∙ rw (h, n))
 
   pub delete-bad : is_bad ≡ true → Comes img list name time (record { verdict = refusal 8; length = 0 }) list
   unfolding delete_answer delete_list delete_decision
   delete-bad h = refused-by-own (volume_length (view img)) (view img) cs (some plan) list ok (refusal 8) (bad h) (λ (e : ◌≡◌ {A = ℕ} 8 0). omega arith)
 
-  pub delete-missing : is_bad ≡ false → file_named c name ≡ Nowhere → Comes img list name time (record { verdict = refusal 9; length = 0 }) list
+  pub delete-missing : is_bad ≡ false → file_named c name ≡ None → Comes img list name time (record { verdict = refusal 9; length = 0 }) list
   unfolding delete_answer delete_list delete_decision
   delete-missing h n =
       refused-by-own (volume_length (view img)) (view img) cs (some plan) list ok (refusal 9) (missing h n) (λ (e : ◌≡◌ {A = ℕ} 9 0). omega arith)
 
-  module _ (i : ℕ) (good : is_bad ≡ false) (found : file_named c name ≡ At i) where
+  module _ (i : ℕ) (good : is_bad ≡ false) (found : file_named c name ≡ Some i) where
     own : done ≡ verdict_of cs
     own = sym (own-tests ∙ rw (good, found))
 

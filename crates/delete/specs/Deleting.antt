@@ -1,7 +1,7 @@
 -- A delete of a file that was found: its plan, and what it comes to.
 use Rattle.std.specs.Prelude.{ℕ, List, length}
 use Rattle.std.proofs.Math.Option.{some}
-use Rattle.model.specs.declared.Changed.{Changed}
+use Rattle.model.specs.Answers.{Changed}
 use Rattle.model.specs.Geometry.{FileNumber}
 use Rattle.model.specs.Disk.{view}
 use Rattle.model.specs.Catalogue.{catalogue_of}

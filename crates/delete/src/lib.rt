@@ -7,12 +7,13 @@ ghost use Rattle.model.specs.Disk.{view};
 ghost use Rattle.model.specs.Table.{free_file, sectors_holding};
 ghost use Rattle.model.specs.WriteList.{record_size, record_count, groups_for, closed, Emitted};
 ghost use Rattle.model.specs.Delete.{delete_answer, delete_list};
+ghost use Rattle.model.specs.Results.{changed_in};
 ghost use Rattle.model.specs.Opened.{Opened, in_volume, Accepted};
 ghost use Rattle.commit.specs.Commit.{StagesOf};
 ghost use Rattle.table.specs.Owned.{owned_in};
 ghost use Rattle.delete.specs.Deleting.{plan_for, DeletesTo};
 
-use model::{Changed, FileIndex, Geometry, Lowest, Sector};
+use model::{FileIndex, Geometry, Refusal, Sector};
 
 // The whole list that deletes file i; the list has room for it.
 fn put_delete(
@@ -50,39 +51,39 @@ fn delete_count(img: &[u8], g: Geometry, i: FileIndex) -> usize
 }
 
 // Deletes file i: refusals 13 and 14, or the list.
-fn delete_file(img: &[u8], g: Geometry, i: FileIndex, time: u64, list: &mut [u8]) -> Changed
+fn delete_file(
+    img: &[u8],
+    g: Geometry,
+    i: FileIndex,
+    time: u64,
+    list: &mut [u8],
+) -> Result<u64, Refusal>
     requires opened { Opened img.now g }
     requires i_lt_files { i.0 < g.files }
-    ensures { DeletesTo img.now i.0 time list.old result list.new }
+    ensures { DeletesTo img.now i.0 time list.old (changed_in result) list.new }
 {
-    let mut stages = [0u64; 5];
-    if table::staging(img, g, &mut stages) {
-        let needed = lists::RECORD_SIZE * delete_count(img, g, i);
-        if needed <= list.len() {
-            put_delete(img, g, &stages, i, time, list);
-            let verdict = volume::refusal(0);
-            return Changed {
-                verdict,
-                length: needed as u64,
-            };
-        }
-        return commit::refused(volume::refusal(14));
+    let Some(stages) = table::staging(img, g) else {
+        return Err(Refusal::VolumeFull);
+    };
+    let needed = lists::RECORD_SIZE * delete_count(img, g, i);
+    if list.len() < needed {
+        return Err(Refusal::TooShort);
     }
-    commit::refused(volume::refusal(13))
+    put_delete(img, g, &stages, i, time, list);
+    Ok(needed as u64)
 }
 
-pub fn delete_in(img: &[u8], name: &[u8], time: u64, list: &mut [u8]) -> Changed
+pub fn delete_in(img: &[u8], name: &[u8], time: u64, list: &mut [u8]) -> Result<u64, Refusal>
     requires { Accepted img.now }
-    ensures value { result ≡ in_volume delete_answer img.now name.now time (length list.old) }
+    ensures value { changed_in result ≡ in_volume delete_answer img.now name.now time (length list.old) }
     ensures list_after { list.new ≡ in_volume delete_list img.now name.now time list.old }
 {
     let g = volume::geometry_in(img);
     if directory::bad_name_or_time(g.edition, name, time) {
-        return commit::refused(volume::refusal(8));
+        return Err(Refusal::BadArgument);
     }
-    if let Lowest::At(i) = directory::file_named(img, g, name) {
-        let index = FileIndex(i as u64);
-        return delete_file(img, g, index, time, list);
-    }
-    commit::refused(volume::refusal(9))
+    let Some(i) = directory::file_named(img, g, name) else {
+        return Err(Refusal::NotFound);
+    };
+    delete_file(img, g, FileIndex(i as u64), time, list)
 }

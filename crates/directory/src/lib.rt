@@ -14,7 +14,7 @@ ghost use Rattle.model.specs.Faults.{bad_mark, fault21, fault22};
 ghost use Rattle.model.specs.Opened.{Bounded, Opened};
 ghost use Rattle.directory.specs.Named.{is_named};
 
-use model::{Fields, FileIndex, Geometry, Lowest, Sector};
+use model::{Fields, FileIndex, Geometry, Sector};
 
 // ---- one entry
 
@@ -62,13 +62,9 @@ pub fn is_named(s: &[u8], edition: u64, name: &[u8]) -> bool
     requires name_len_bound { length name.now ≤ (layout_of edition).longest_name }
     ensures { result ≡ is_named edition name.now s.now }
 {
-    if layout::entry::is_occupied(s) {
-        if layout::entry::name_length(s, edition) == name.len() {
-            return fields::starts_with(layout::entry::name_part(s, edition), name);
-        }
-        return false;
-    }
-    false
+    layout::entry::is_occupied(s)
+        && layout::entry::name_length(s, edition) == name.len()
+        && fields::starts_with(layout::entry::name_part(s, edition), name)
 }
 
 // Whether entry i is occupied and has the name.
@@ -85,10 +81,7 @@ pub fn has_id_at(img: &[u8], i: FileIndex, id: u64) -> bool
     requires { 512 * entry_at i.0 + 512 ≤ length img.now }
     ensures { result ≡ (is_occupied (view img.now (entry_at i.0)) && eqb (number_in (view img.now (entry_at i.0)) entry_field.id) id) }
 {
-    if is_occupied(img, i) {
-        return id_at(img, i) == id;
-    }
-    false
+    is_occupied(img, i) && id_at(img, i) == id
 }
 
 // ---- the root
@@ -149,84 +142,57 @@ pub fn accessed_entry(img: &[u8], edition: u64, i: FileIndex, time: u64) -> [u8;
 pub fn bad_name(edition: u64, name: &[u8]) -> bool
     ensures { result ≡ bad_name edition name.now }
 {
-    let n = name.len();
-    if 1 <= n {
-        if n <= layout::edition::longest_name(edition) {
-            return fields::has_zero(name);
-        }
-        return true;
-    }
-    true
+    name.is_empty() || layout::edition::longest_name(edition) < name.len() || fields::has_zero(name)
 }
 
 // What every call refuses that takes the name of a file and a time.
 pub fn bad_name_or_time(edition: u64, name: &[u8], time: u64) -> bool
     ensures { result ≡ (bad_time edition time || bad_name edition name.now) }
 {
-    if layout::edition::bad_time(edition, time) {
-        return true;
-    }
-    bad_name(edition, name)
+    layout::edition::bad_time(edition, time) || bad_name(edition, name)
 }
 
 // A byte that nobody can type, or the slash.
 fn is_untypable(b: u8) -> bool
     ensures { result ≡ not (is_typable b) }
 {
-    if 33 <= b {
-        if b <= 126 {
-            return b == 47;
-        }
-        return true;
-    }
-    true
+    !(33..=126).contains(&b) || b == b'/'
 }
 
 // Such a byte stands in the name.
 fn has_untypable(name: &[u8]) -> bool
     ensures { result ≡ any_below (λ k. not (is_typable (get_or name.now k 0))) (length name.now) }
 {
-    let mut i: usize = 0;
-    while i < name.len() {
-        if is_untypable(name[i]) {
-            return true;
-        }
-        i += 1;
-    }
-    false
+    name.iter().any(|&b| is_untypable(b))
 }
 
 // The rule for a name that create or rename gives.
 pub fn bad_new_name(edition: u64, name: &[u8]) -> bool
     ensures { result ≡ bad_new_name edition name.now }
 {
-    if bad_name(edition, name) {
-        return true;
-    }
-    has_untypable(name)
+    bad_name(edition, name) || has_untypable(name)
 }
 
 // ---- searches
 
 // The lowest of the files from `from` to below `to` that has the name.
-pub fn file_named_between(img: &[u8], g: Geometry, name: &[u8], from: usize, to: usize) -> Lowest
+pub fn file_named_between(
+    img: &[u8],
+    g: Geometry,
+    name: &[u8],
+    from: usize,
+    to: usize,
+) -> Option<usize>
     requires opened { Opened img.now g }
     requires name_len_bound { length name.now ≤ (layout_of g.edition).longest_name }
     requires from_le_to { (from ≤ to) × (to ≤ g.files) }
     ensures { result ≡ scan (λ i. is_named g.edition name.now (view img.now (entry_at i))) (to - from) from }
 {
-    let mut i = from;
-    while i < to {
-        if has_name(img, g.edition, FileIndex(i as u64), name) {
-            return Lowest::At(i);
-        }
-        i += 1;
-    }
-    Lowest::Nowhere
+    (from..to).find(|&i| has_name(img, g.edition, FileIndex(i as u64), name))
 }
 
 // The file of that name.
-pub fn file_named(img: &[u8], g: Geometry, name: &[u8]) -> Lowest
+pub fn file_named(img: &[u8], g: Geometry, name: &[u8]) -> Option<usize>
     requires opened { Opened img.now g }
     requires name_len_bound { length name.now ≤ (layout_of g.edition).longest_name }
     ensures { result ≡ file_named (catalogue_of (view img.now)) name.now }
@@ -235,20 +201,11 @@ pub fn file_named(img: &[u8], g: Geometry, name: &[u8]) -> Lowest
 }
 
 // The lowest free entry.
-pub fn free_entry(img: &[u8], g: Geometry) -> Lowest
+pub fn free_entry(img: &[u8], g: Geometry) -> Option<usize>
     requires { Opened img.now g }
     ensures { result ≡ free_entry (catalogue_of (view img.now)) }
 {
-    let f = g.files as usize;
-    let mut i: usize = 0;
-    while i < f {
-        if is_occupied(img, FileIndex(i as u64)) {
-            i += 1;
-        } else {
-            return Lowest::At(i);
-        }
-    }
-    Lowest::Nowhere
+    (0..g.files as usize).find(|&i| !is_occupied(img, FileIndex(i as u64)))
 }
 
 // Whether an occupied entry has the id.
@@ -256,15 +213,7 @@ pub fn has_id(img: &[u8], g: Geometry, id: u64) -> bool
     requires { Opened img.now g }
     ensures { result ≡ any_below (λ i. has_id id ((catalogue_of (view img.now)).entries i)) (catalogue_of (view img.now)).geometry.files }
 {
-    let f = g.files as usize;
-    let mut i: usize = 0;
-    while i < f {
-        if has_id_at(img, FileIndex(i as u64), id) {
-            return true;
-        }
-        i += 1;
-    }
-    false
+    (0..g.files).any(|i| has_id_at(img, FileIndex(i), id))
 }
 
 // ---- fault 21
@@ -275,10 +224,7 @@ pub fn bad_mark_in(s: &[u8]) -> bool
     ensures { result ≡ bad_mark s.now }
 {
     let mark = layout::entry::mark(s);
-    if mark == layout::entry::FREE_MARK {
-        return false;
-    }
-    mark != layout::entry::OCCUPIED_MARK
+    mark != layout::entry::FREE_MARK && mark != layout::entry::OCCUPIED_MARK
 }
 
 fn bad_mark(img: &[u8], i: FileIndex) -> bool
@@ -288,19 +234,11 @@ fn bad_mark(img: &[u8], i: FileIndex) -> bool
     bad_mark_in(fields::sector_part(img, i.sector()))
 }
 
-pub fn fault21(img: &[u8], g: Geometry) -> Lowest
+pub fn fault21(img: &[u8], g: Geometry) -> Option<usize>
     requires { Opened img.now g }
     ensures { result ≡ first (fault21 (view img.now)) g.files }
 {
-    let f = g.files as usize;
-    let mut i: usize = 0;
-    while i < f {
-        if bad_mark(img, FileIndex(i as u64)) {
-            return Lowest::At(i);
-        }
-        i += 1;
-    }
-    Lowest::Nowhere
+    (0..g.files as usize).find(|&i| bad_mark(img, FileIndex(i as u64)))
 }
 
 // ---- fault 22
@@ -310,10 +248,8 @@ fn bad_name_in(s: &[u8], edition: u64) -> bool
     requires { length s.now ≡ 512 }
     ensures { result ≡ bad_name edition (name_in edition s.now) }
 {
-    if layout::entry::name_length(s, edition) <= layout::edition::longest_name(edition) {
-        return bad_name(edition, layout::entry::name(s, edition));
-    }
-    true
+    layout::edition::longest_name(edition) < layout::entry::name_length(s, edition)
+        || bad_name(edition, layout::entry::name(s, edition))
 }
 
 // N x E
@@ -329,10 +265,7 @@ pub fn bad_entry_in(s: &[u8], edition: u64, most: u64) -> bool
     requires { length s.now ≡ 512 }
     ensures { result ≡ (bad_name edition (name_in edition s.now) || ltb most (number_in s.now entry_field.size)) }
 {
-    if bad_name_in(s, edition) {
-        return true;
-    }
-    most < layout::entry::size(s)
+    bad_name_in(s, edition) || most < layout::entry::size(s)
 }
 
 // Entry i is occupied, and its name is bad or its size exceeds `most`.
@@ -342,24 +275,13 @@ fn bad_entry(img: &[u8], edition: u64, most: u64, i: FileIndex) -> bool
         && (bad_name edition (name_in edition (view img.now (entry_at i.0))) || ltb most (number_in (view img.now (entry_at i.0)) entry_field.size))) }
 {
     let s = fields::sector_part(img, i.sector());
-    if layout::entry::is_occupied(s) {
-        return bad_entry_in(s, edition, most);
-    }
-    false
+    layout::entry::is_occupied(s) && bad_entry_in(s, edition, most)
 }
 
-pub fn fault22(img: &[u8], g: Geometry) -> Lowest
+pub fn fault22(img: &[u8], g: Geometry) -> Option<usize>
     requires { Opened img.now g }
     ensures { result ≡ first (fault22 (catalogue_of (view img.now))) g.files }
 {
     let most = most_bytes(g);
-    let f = g.files as usize;
-    let mut i: usize = 0;
-    while i < f {
-        if bad_entry(img, g.edition, most, FileIndex(i as u64)) {
-            return Lowest::At(i);
-        }
-        i += 1;
-    }
-    Lowest::Nowhere
+    (0..g.files as usize).find(|&i| bad_entry(img, g.edition, most, FileIndex(i as u64)))
 }

@@ -1,6 +1,6 @@
 -- Laws of chained hashing, for any buckets: chains as indexes join them, and a walk down one chain in place of a search of all
 -- indexes. Assumes nothing.
-use Prim.Native.Nat.{ℕ, zero, suc, ◌+◌, ◌*◌, ◌-◌, ◌/◌, ◌%◌, ◌≤◌, ◌<◌}
+use Prim.Native.Nat.{ℕ, zero, suc, ◌+◌, ◌-◌, ◌≤◌, ◌<◌}
 use mathlib.Core.Path.{◌≡◌, refl, sym, ap, ◌∙◌}
 use mathlib.Core.Logic.{◌≢◌, ⊎_elim}
 use mathlib.Core.Bool.{Bool, true, false, cond, true≢false}
@@ -9,12 +9,10 @@ use native.Mathlib.Nat.{eq-or-lt_of_le}
 use native.Mathlib.Numerals.{add-one}
 use native.Mathlib.Omega.{arith}
 use lib.Dec.{eqb}
-use lib.ListN.{length, get_or, set, length-set}
-use lib.Seq.{get_or-set_same, get_or-set_other}
 use borrow.Author.Tests.{eqb-true, eqb-false}
 use Rattle.model.specs.Search.{any_below}
 use Rattle.laws.proofs.Search.{any_below-more, any_below-true}
-use Rattle.duplicates.specs.Chains.{last_below, Chain, Chains, Enters, head_in, next_in, Entered, top_in, link_in, last_in, Joined}
+use Rattle.duplicates.specs.Chains.{last_below, Chain, Chains, Enters, head_in, next_in, Entered}
 
 -- ---- the last index of a bucket
 
@@ -90,168 +88,6 @@ chains-enter member n i b {head} {next} {head'} {next'} C E lb in' out = record 
 pub chains-join : (member : ℕ → ℕ → Bool) (n i b : ℕ) (c c' : List ℕ) → Chains member n i (head_in c) (next_in c) → Entered i b c c'
     → b < n → member b i ≡ true → ((x : ℕ) → x ≢ b → member x i ≡ false) → Chains member n (i + 1) (head_in c') (next_in c')
 chains-join member n i b c c' = chains-enter member n i b
-
--- ---- a number of two parts, the upper one from `base` on: one is renewed, the other and all other numbers stay
-
-upper : (a r : ℕ) → r < 65536 → (a * 65536 + r) / 65536 ≡ a
-upper a r l = omega arith
-
-lower : (a r : ℕ) → r < 65536 → (a * 65536 + r) % 65536 ≡ r
-lower a r l = omega arith
-
-top : (a r : ℕ) → r < 16777216 → (a * 16777216 + r) / 16777216 ≡ a
-top a r l = omega arith
-
-link : (a r : ℕ) → r < 16777216 → (a * 16777216 + r) % 16777216 ≡ r
-link a r l = omega arith
-
-module _ (base : ℕ) (upper_of : (a r : ℕ) → r < base → (a * base + r) / base ≡ a) (lower_of : (a r : ℕ) → r < base → (a * base + r) % base ≡ r) where
-  abbrev upper_in : List ℕ → ℕ → ℕ
-  upper_in c k = get_or c k 0 / base
-
-  abbrev lower_in : List ℕ → ℕ → ℕ
-  lower_in c k = get_or c k 0 % base
-
-  module _ (c : List ℕ) (k a r : ℕ) (lk : k < length c) (lr : r < base) where
-    abbrev renewed : List ℕ
-    renewed = set c k (a * base + r)
-
-    upper-renewed : upper_in renewed k ≡ a
-    upper-renewed = rw (get_or-set_same c k (a * base + r) 0 lk) (upper_of a r lr)
-
-    lower-renewed : lower_in renewed k ≡ r
-    lower-renewed = rw (get_or-set_same c k (a * base + r) 0 lk) (lower_of a r lr)
-
-    upper-other : (x : ℕ) → x ≢ k → upper_in renewed x ≡ upper_in c x
-    upper-other x ne = rw (get_or-set_other c k x (a * base + r) 0 ne)
-
-    lower-other : (x : ℕ) → x ≢ k → lower_in renewed x ≡ lower_in c x
-    lower-other x ne = rw (get_or-set_other c k x (a * base + r) 0 ne)
-
-    -- an upper part that is the old one leaves all of them; a lower one likewise
-    uppers-kept : a ≡ upper_in c k → (x : ℕ) → upper_in renewed x ≡ upper_in c x
-    uppers-kept e x = go (eqb x k) refl
-      where
-        go : (t : Bool) → eqb x k ≡ t → upper_in renewed x ≡ upper_in c x
-        go true t = let z : x ≡ k = eqb-true x k t in rw z (upper-renewed ∙ e)
-        go false t = upper-other x (eqb-false x k t)
-
-    lowers-kept : r ≡ lower_in c k → (x : ℕ) → lower_in renewed x ≡ lower_in c x
-    lowers-kept e x = go (eqb x k) refl
-      where
-        go : (t : Bool) → eqb x k ≡ t → lower_in renewed x ≡ lower_in c x
-        go true t = let z : x ≡ k = eqb-true x k t in rw z (lower-renewed ∙ e)
-        go false t = lower-other x (eqb-false x k t)
-
--- ---- index i becomes the last of bucket b: its number's lower half, then the bucket's upper one
-
-module _ (c : List ℕ) (i b : ℕ) (li : i < length c) (lb : b < length c) (small : head_in c b < 65536) where
-  abbrev linked : List ℕ
-  linked = set c i (head_in c i * 65536 + head_in c b)
-
-  below : next_in linked b < 65536
-  below = omega arith
-
-  within : b < length linked
-  within = simp length-set lb
-
-  pub entered : Entered i b c (set linked b ((i + 1) * 65536 + next_in linked b))
-  entered = record {
-    head-own = upper-renewed 65536 upper lower linked b (i + 1) (next_in linked b) within below;
-    head-other = λ x ne. upper-other 65536 upper lower linked b (i + 1) (next_in linked b) within below x ne ∙ uppers-kept 65536 upper lower c i (head_in c i) (head_in c b) li small refl x;
-    next-own = lowers-kept 65536 upper lower linked b (i + 1) (next_in linked b) within below refl i ∙ lower-renewed 65536 upper lower c i (head_in c i) (head_in c b) li small;
-    next-other = λ j ne. lowers-kept 65536 upper lower linked b (i + 1) (next_in linked b) within below refl j ∙ lower-other 65536 upper lower c i (head_in c i) (head_in c b) li small j ne;
-  }
-
--- ---- the same with a tag: the index's link, then the tops of the bucket's two numbers
-
-module _ (c : List ℕ) (k v : ℕ) (lk : k < length c) where
-  -- a new link leaves the tops; a new top leaves the links
-  abbrev linked_to : List ℕ
-  linked_to = set c k (top_in c k * 16777216 + v)
-
-  abbrev topped : List ℕ
-  topped = set c k (v * 16777216 + link_in c k)
-
-  link-new : v < 16777216 → link_in linked_to k ≡ v
-  link-new l = lower-renewed 16777216 top link c k (top_in c k) v lk l
-
-  links-other : v < 16777216 → (j : ℕ) → j ≢ k → link_in linked_to j ≡ link_in c j
-  links-other l = lower-other 16777216 top link c k (top_in c k) v lk l
-
-  tops-kept : v < 16777216 → (x : ℕ) → top_in linked_to x ≡ top_in c x
-  tops-kept l = uppers-kept 16777216 top link c k (top_in c k) v lk l refl
-
-  small-link : link_in c k < 16777216
-  small-link = omega arith
-
-  top-new : top_in topped k ≡ v
-  top-new = upper-renewed 16777216 top link c k v (link_in c k) lk small-link
-
-  tops-other : (x : ℕ) → x ≢ k → top_in topped x ≡ top_in c x
-  tops-other = upper-other 16777216 top link c k v (link_in c k) lk small-link
-
-  links-kept : (x : ℕ) → link_in topped x ≡ link_in c x
-  links-kept = lowers-kept 16777216 top link c k v (link_in c k) lk small-link refl
-
-module _ (c : List ℕ) (i b tag : ℕ) (li : i < length c) (lb : 2 * b + 1 < length c) (small : last_in c b < 65536) (ltag : tag < 256) where
-  abbrev new_link : ℕ
-  new_link = tag * 65536 + last_in c b
-
-  abbrev c1 : List ℕ
-  c1 = linked_to c i new_link li
-
-  abbrev c2 : List ℕ
-  c2 = set c1 (2 * b) ((i + 1) % 256 * 16777216 + link_in c1 (2 * b))
-
-  abbrev c3 : List ℕ
-  c3 = set c2 (2 * b + 1) ((i + 1) / 256 * 16777216 + link_in c2 (2 * b + 1))
-
-  room : 2 * b < length c1
-  room = simp length-set (omega arith)
-
-  more_room : 2 * b + 1 < length c2
-  more_room = simp length-set lb
-
-  small-new : new_link < 16777216
-  small-new = omega arith
-
-  links : (j : ℕ) → link_in c3 j ≡ link_in c1 j
-  links j = links-kept c2 (2 * b + 1) ((i + 1) / 256) more_room j ∙ links-kept c1 (2 * b) ((i + 1) % 256) room j
-
-  tops : (x : ℕ) → x ≢ 2 * b → x ≢ 2 * b + 1 → top_in c3 x ≡ top_in c x
-  tops x e o =
-      tops-other c2 (2 * b + 1) ((i + 1) / 256) more_room x o ∙ tops-other c1 (2 * b) ((i + 1) % 256) room x e ∙ tops-kept c i new_link li small-new x
-
-  last-own : last_in c3 b ≡ i + 1
-  last-own =
-      let even = tops-other c2 (2 * b + 1) ((i + 1) / 256) more_room (2 * b) (λ e. omega arith) ∙ top-new c1 (2 * b) ((i + 1) % 256) room in
-      let odd = top-new c2 (2 * b + 1) ((i + 1) / 256) more_room in
-      omega (arith, even, odd)
-
-  last-other : (x : ℕ) → x ≢ b → last_in c3 x ≡ last_in c x
-  last-other x ne =
-      let even = tops (2 * x) (λ e. ne (omega arith)) (λ e. omega arith) in
-      let odd = tops (2 * x + 1) (λ e. omega arith) (λ e. ne (omega arith)) in
-      omega (arith, even, odd)
-
-  own-link : link_in c3 i ≡ new_link
-  own-link = links i ∙ link-new c i new_link li small-new
-
-  other-link : (j : ℕ) → j ≢ i → link_in c3 j ≡ link_in c j
-  other-link j ne = links j ∙ links-other c i new_link li small-new j ne
-
-  pub joined : Joined i b tag c c3
-  joined = record {
-    enters = record {
-      head-own = last-own;
-      head-other = last-other;
-      next-own = ap (λ v. v % 65536) own-link ∙ lower tag (last_in c b) small;
-      next-other = λ j ne. ap (λ v. v % 65536) (other-link j ne);
-    };
-    tag-own = ap (λ v. v / 65536) own-link ∙ upper tag (last_in c b) small;
-    tag-other = λ j ne. ap (λ v. v / 65536) (other-link j ne);
-  }
 
 -- ---- a walk down a chain, in search of a p that holds only where the chain's q does
 

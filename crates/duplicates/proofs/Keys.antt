@@ -12,7 +12,8 @@ use lib.Dec.{eqb, leb, lit<}
 use lib.ListN.{length, get_or}
 use lib.Seq.{ext_get_or}
 use borrow.Author.Tests.{eqb-true, eq-eqb, ne_eqb, le-leb, leb-true}
-use Rattle.model.specs.declared.Lowest.TheVariants.{Nowhere}
+use Rattle.std.specs.Prelude.{None}
+use Rattle.model.specs.declared.Geometry.{Geometry}
 use Rattle.model.specs.Bytes.{number_in}
 use Rattle.model.specs.Search.{first, all_below, equal_bytes}
 use Rattle.model.specs.Geometry.{entry_at}
@@ -53,12 +54,9 @@ pub words_more : (s : List ℕ) (i : ℕ) → words_sum s (i + 1) ≡ words_sum 
 unfolding words_sum
 words_more s i = rw add-one
 
--- a hash of 32 bits, scaled to n buckets, is below n; and as a place, with 8 bits more
+-- a hash of 32 bits, scaled to n buckets, is below n
 pub bucket-below : (h n : ℕ) → h < 4294967296 → 0 < n → h * n / 4294967296 < n
 bucket-below h n l p = (div-lt_iff_lt-mul {k = 4294967296} (lit< tt)).1 (omega (arith, mul-lt-mul_of_pos_right l p))
-
-pub place-below : (h n : ℕ) → h < 4294967296 → 0 < n → h * n / 16777216 / 256 < n
-place-below h n l p = let m = mul-lt-mul_of_pos_right l p in omega (arith, m)
 
 same-hash : (key : Key) (a b : List ℕ) → same_key key a b ≡ true → key_hash key a ≡ key_hash key b
 same-hash (Name edition) a b e = rw (same-eq (name_in edition a) (name_in edition b) e)
@@ -91,34 +89,29 @@ module _ (key : Key) (d : Disk) (n i : ℕ) where
 
 -- ---- faults
 
-module _ (d : Disk) where
-  abbrev files : ℕ
-  files = (geometry_in (d 0)).files
-
-  abbrev edition : ℕ
-  edition = (geometry_in (d 0)).edition
-
+module _ (d : Disk) (g : Geometry) (is : g ≡ geometry_in (d 0)) where
   abbrev name : Key
-  name = Name edition
+  name = Name g.edition
 
-  pub names-faulty : first (fault23 (catalogue_of d)) files ≡ first (is_faulty name d) files
+  pub names-faulty : first (is_faulty name d) g.files ≡ first (fault23 (catalogue_of d)) g.files
   unfolding is_faulty is_repeated
-  names-faulty = first-ext (fault23 (catalogue_of d)) (is_faulty name d) files (λ i l. fault23-is d i l)
+  names-faulty = rw is (sym (first-ext (fault23 (catalogue_of d)) (is_faulty (Name (geometry_in (d 0)).edition) d) (geometry_in (d 0)).files (λ i l. fault23-is d i l)))
 
-  pub ids-faulty : first (fault24 (catalogue_of d)) files ≡ first (is_faulty Id d) files
+  pub ids-faulty : first (is_faulty Id d) g.files ≡ first (fault24 (catalogue_of d)) g.files
   unfolding is_faulty is_repeated root_in
-  ids-faulty = first-ext (fault24 (catalogue_of d)) (is_faulty Id d) files (λ i l. fault24-is d i l)
+  ids-faulty = rw is (sym (first-ext (fault24 (catalogue_of d)) (is_faulty Id d) (geometry_in (d 0)).files (λ i l. fault24-is d i l)))
 
   -- where fault 22 is nowhere, every name ends in its sector
-  pub names-fit : first (fault22 (catalogue_of d)) files ≡ Nowhere → KeysFit name d files
-  names-fit e j l o = go (dec_lt (layout_of edition).longest_name (number_in s (layout_of edition).name_length))
+  pub names-fit : first (fault22 (catalogue_of d)) g.files ≡ None → KeysFit name d g.files
+  names-fit e j l o = go (dec_lt (layout_of g.edition).longest_name (number_in s (layout_of g.edition).name_length))
     where
       s : List ℕ
       s = d (entry_at j)
 
-      go : Dec ((layout_of edition).longest_name < number_in s (layout_of edition).name_length) → leb (number_in s (layout_of edition).name_length) (layout_of edition).longest_name ≡ true
+      go : Dec ((layout_of g.edition).longest_name < number_in s (layout_of g.edition).name_length)
+          → leb (number_in s (layout_of g.edition).name_length) (layout_of g.edition).longest_name ≡ true
       go (yes h) =
-          let long : bad_name edition (name_in edition s) ≡ true = long-name edition (name_in edition s) (rw (length-name_in edition s) h) in
-          let f : fault22 (catalogue_of d) j ≡ true = fault22-is d j l ∙ rw (o, long) in
-          absurd (true≢false (sym f ∙ first-missed (fault22 (catalogue_of d)) files e j l))
-      go (no h) = le-leb (number_in s (layout_of edition).name_length) (layout_of edition).longest_name (omega arith)
+          let long : bad_name g.edition (name_in g.edition s) ≡ true = long-name g.edition (name_in g.edition s) (rw (length-name_in g.edition s) h) in
+          let f : fault22 (catalogue_of d) j ≡ true = fault22-is d j (rw is at l) ∙ rw (o, ap (λ (h : Geometry). h.edition) (sym is), long) in
+          absurd (true≢false (sym f ∙ first-missed (fault22 (catalogue_of d)) g.files e j l))
+      go (no h) = le-leb (number_in s (layout_of g.edition).name_length) (layout_of g.edition).longest_name (omega arith)

@@ -1,5 +1,6 @@
 -- Names and ids as keys of directory entries, and a hash of each. Nothing but speed hangs on what the hash is.
-use Rattle.std.specs.Prelude.{ℕ, zero, suc, ◌+◌, ◌-◌, ◌*◌, ◌/◌, ◌%◌, ◌<◌, ◌≡◌, Bool, true, false, cond, ◌&&◌, ◌||◌, List, eqb, leb, ltb, length, get_or}
+use Rattle.std.specs.Prelude.{ℕ, zero, suc, ◌+◌, ◌-◌, ◌*◌, ◌/◌, ◌%◌, ◌<◌, ◌≡◌, Bool, true, false, cond, ◌&&◌, ◌||◌, List, [], ◌∷◌, eqb, leb, ltb, length, get_or}
+use Rattle.std.specs.Int.{w32, from_le_bytes}
 use Rattle.model.specs.Bytes.{be_at, number_in}
 use Rattle.model.specs.Search.{any_below, equal_bytes}
 use Rattle.model.specs.Geometry.{root_at, entry_at}
@@ -46,7 +47,7 @@ mixed h w = ((h + w / 4294967296) * 739982445 + w % 4294967296 * 1640531527) % 4
 
 -- four bytes as one number, the lowest first
 unfoldable pub half_at : List ℕ → ℕ → ℕ
-half_at s at = get_or s at 0 + 256 * get_or s (at + 1) 0 + 65536 * (get_or s (at + 2) 0 + 256 * get_or s (at + 3) 0)
+half_at s at = from_le_bytes w32 (get_or s at 0 ∷ (get_or s (at + 1) 0 ∷ (get_or s (at + 2) 0 ∷ (get_or s (at + 3) 0 ∷ []))))
 
 -- what eight bytes add to a name's hash
 unfoldable pub part_at : List ℕ → ℕ → ℕ → ℕ

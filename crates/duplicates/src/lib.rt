@@ -13,7 +13,7 @@ ghost use Rattle.model.specs.Opened.{Opened};
 ghost use Rattle.duplicates.specs.Keys.{shares, key_fits, KeysFit, is_reserved, is_repeated, is_faulty, mixed, half_at, part_at, name_hash, key_hash, place_of};
 ghost use Rattle.duplicates.specs.Chains.{Entered, top_in, link_in, last_in, Joined, Chained};
 
-use model::{FileIndex, Geometry, Lowest};
+use model::{FileIndex, Geometry};
 
 // What no two occupied entries may share. A name stands where the edition has it.
 #[derive(Clone, Copy)]
@@ -33,19 +33,13 @@ pub fn mixed(h: u32, w: u64) -> u32
     ((high * 739982445 + low * 1640531527) % 4294967296) as u32
 }
 
-fn wide(byte: u8) -> u64
-    ensures { (result ≡ byte) × (result < 256) }
-{
-    byte as u64
-}
-
 // The four bytes at `at`, lowest first: so the compiler reads them at once.
 fn half(s: &[u8], at: usize) -> u64
     requires { at + 4 ≤ length s.now }
     ensures value { result ≡ half_at s.now at }
     ensures upper_bound { result < 4294967296 }
 {
-    wide(s[at]) + 256 * wide(s[at + 1]) + 65536 * (wide(s[at + 2]) + 256 * wide(s[at + 3]))
+    u64::from(u32::from_le_bytes([s[at], s[at + 1], s[at + 2], s[at + 3]]))
 }
 
 // What the eight bytes at `at` add to a name's hash: the product of their halves. `k` is added to both, so that the order of words matters.
@@ -73,10 +67,8 @@ fn name_hash(name: &[u8]) -> u32
     }
     let words = n / 8;
     let mut sum: u64 = 0;
-    let mut i: usize = 0;
-    while i < words {
+    for i in 0..words {
         sum += part(name, 8 * i, i);
-        i += 1;
     }
     mixed(0, sum + part(name, n - 8, words))
 }
@@ -127,10 +119,7 @@ fn is_reserved_id(img: &[u8], i: FileIndex) -> bool
     ensures { result ≡ is_reserved Key.Id (view img.now) i.0 }
 {
     let id = directory::id_at(img, i);
-    if id == 0 {
-        return true;
-    }
-    id == directory::root_id(img)
+    id == 0 || id == directory::root_id(img)
 }
 
 fn is_reserved(img: &[u8], key: Key, i: FileIndex) -> bool
@@ -202,10 +191,8 @@ fn is_shared(img: &[u8], key: Key, i: usize, j: usize, place: usize, link: u32) 
     requires link_value { shares key (view img.now) i j ≡ true → link / 65536 ≡ place % 256 }
     ensures { result ≡ shares key (view img.now) i j }
 {
-    if (link / 65536) as usize == place % 256 {
-        return shares(img, key, FileIndex(i as u64), FileIndex(j as u64));
-    }
-    false
+    (link / 65536) as usize == place % 256
+        && shares(img, key, FileIndex(i as u64), FileIndex(j as u64))
 }
 
 // Whether an occupied entry below i has its key, whose place is `place`.
@@ -218,6 +205,7 @@ fn is_repeated(img: &[u8], key: Key, i: usize, place: usize, chains: &[u32]) -> 
     ensures { result ≡ is_repeated key (view img.now) i }
 {
     let mut j = last(chains, place / 256) as usize;
+    // Kept as a loop: it follows the links, and counts nothing.
     while j != 0 {
         let link = chains[j - 1] % 16777216;
         if is_shared(img, key, i, j - 1, place, link) {
@@ -238,96 +226,73 @@ fn is_faulty(img: &[u8], key: Key, i: usize, chains: &mut [u32]) -> bool
     ensures chained_2 { result ≡ false → Chained key (view img.now) (i + 1) chains.new }
 {
     let e = FileIndex(i as u64);
-    if directory::is_occupied(img, e) {
-        if is_reserved(img, key, e) {
-            return true;
-        }
-        let place = place_of(img, key, e, chains.len() / 2);
-        if is_repeated(img, key, i, place, chains) {
-            return true;
-        }
-        join(i, place, chains);
+    if !directory::is_occupied(img, e) {
         return false;
     }
+    if is_reserved(img, key, e) {
+        return true;
+    }
+    let place = place_of(img, key, e, chains.len() / 2);
+    if is_repeated(img, key, i, place, chains) {
+        return true;
+    }
+    join(i, place, chains);
     false
 }
 
 // ---- the searches
 
 // The lowest faulty entry, by way of empty chains that are lent.
-fn first_in(img: &[u8], g: Geometry, key: Key, chains: &mut [u32]) -> Lowest
+fn first_in(img: &[u8], g: Geometry, key: Key, chains: &mut [u32]) -> Option<usize>
     requires opened { Opened img.now g }
     requires keys_fit { KeysFit key (view img.now) g.files }
     requires chains_len_bound { (length chains.old ≤ 65536) × (g.files ≤ length chains.old) × (g.files ≤ 65535) }
     requires by_index { (b : ℕ) → b < length chains.old → get_or chains.old b 0 ≡ 0 }
     ensures { result ≡ first (is_faulty key (view img.now)) g.files }
 {
-    let f = g.files as usize;
-    let mut i: usize = 0;
-    while i < f {
+    // Kept as a loop: the chains change with each entry, and of a search whose test changes what it holds nothing is known.
+    for i in 0..g.files as usize {
         if is_faulty(img, key, i, chains) {
-            return Lowest::At(i);
+            return Some(i);
         }
-        i += 1;
     }
-    Lowest::Nowhere
+    None
 }
 
-fn first_of_few(img: &[u8], g: Geometry, key: Key) -> Lowest
+// By way of N numbers of its own. They stay out of the frames of its callers, so that a volume takes stack only for those that it uses.
+#[inline(never)]
+fn first_of<const N: usize>(img: &[u8], g: Geometry, key: Key) -> Option<usize>
     requires opened { Opened img.now g }
     requires keys_fit { KeysFit key (view img.now) g.files }
-    requires files_bound { g.files ≤ 1024 }
+    requires chains_len_bound { (N ≤ 65536) × (g.files ≤ N) × (g.files ≤ 65535) }
     ensures { result ≡ first (is_faulty key (view img.now)) g.files }
 {
-    let mut chains = [0u32; 1024];
+    let mut chains = [0u32; N];
     first_in(img, g, key, &mut chains)
 }
 
-fn first_of_many(img: &[u8], g: Geometry, key: Key) -> Lowest
+fn first_faulty(img: &[u8], g: Geometry, key: Key) -> Option<usize>
     requires opened { Opened img.now g }
     requires keys_fit { KeysFit key (view img.now) g.files }
-    requires files_bound { g.files ≤ 65535 }
     ensures { result ≡ first (is_faulty key (view img.now)) g.files }
 {
-    let mut chains = [0u32; 65536];
-    first_in(img, g, key, &mut chains)
-}
-
-// By way of chains for `room` entries, or for 64 times as many. It calls itself to keep the longer chains out of the stack of a
-// volume that doesn't use them (docs/DECISIONS.md).
-fn first_with(img: &[u8], g: Geometry, key: Key, room: u64) -> Lowest
-    requires opened { Opened img.now g }
-    requires keys_fit { KeysFit key (view img.now) g.files }
-    requires room_nonzero { 0 < room }
-    ensures { result ≡ first (is_faulty key (view img.now)) g.files }
-{
-    if g.files <= room {
-        if room <= 1024 {
-            return first_of_few(img, g, key);
-        }
-        return first_of_many(img, g, key);
+    if g.files <= 1024 {
+        first_of::<1024>(img, g, key)
+    } else {
+        first_of::<65536>(img, g, key)
     }
-    first_with(img, g, key, room * 64)
-}
-
-fn first_faulty(img: &[u8], g: Geometry, key: Key) -> Lowest
-    requires opened { Opened img.now g }
-    requires keys_fit { KeysFit key (view img.now) g.files }
-    ensures { result ≡ first (is_faulty key (view img.now)) g.files }
-{
-    first_with(img, g, key, 1024)
 }
 
 // Fault 22 bounds the names, so each ends in its sector.
-pub fn fault23(img: &[u8], g: Geometry) -> Lowest
+pub fn fault23(img: &[u8], g: Geometry) -> Option<usize>
     requires opened { Opened img.now g }
-    requires files_value { first (fault22 (catalogue_of (view img.now))) g.files ≡ Lowest.Nowhere }
+    requires files_value { first (fault22 (catalogue_of (view img.now))) g.files ≡ None }
     ensures { result ≡ first (fault23 (catalogue_of (view img.now))) g.files }
 {
     first_faulty(img, g, Key::Name(g.edition))
 }
 
-pub fn fault24(img: &[u8], g: Geometry) -> Lowest
+pub fn fault24(img: &[u8], g: Geometry) -> Option<usize>
     requires { Opened img.now g }
     ensures { result ≡ first (fault24 (catalogue_of (view img.now))) g.files }
 {
@@ -336,38 +301,29 @@ pub fn fault24(img: &[u8], g: Geometry) -> Lowest
 
 // ---- the same by way of lent scratch
 
-// The chains are cleared first.
-fn first_cleared(img: &[u8], g: Geometry, key: Key, chains: &mut [u32]) -> Lowest
-    requires opened { Opened img.now g }
-    requires keys_fit { KeysFit key (view img.now) g.files }
-    requires chains_len_bound { (length chains.old ≤ 65536) × (g.files ≤ length chains.old) }
-    ensures { result ≡ first (is_faulty key (view img.now)) g.files }
-{
-    fields::clear(chains);
-    first_in(img, g, key, chains)
-}
-
 // Four numbers for each entry, so that few entries share a bucket; more than 65,536 in all made the check slower.
-fn first_faulty_with(img: &[u8], g: Geometry, key: Key, scratch: &mut [u32]) -> Lowest
+fn first_faulty_with(img: &[u8], g: Geometry, key: Key, scratch: &mut [u32]) -> Option<usize>
     requires opened { Opened img.now g }
     requires keys_fit { KeysFit key (view img.now) g.files }
     requires files_in_bounds { 4 * g.files ≤ length scratch.old }
     ensures { result ≡ first (is_faulty key (view img.now)) g.files }
 {
-    let n = fields::least(4 * g.files, 65536) as usize;
-    first_cleared(img, g, key, &mut scratch[0..n])
+    let n = (4 * g.files).min(65536) as usize;
+    let chains = &mut scratch[..n];
+    chains.fill(0);
+    first_in(img, g, key, chains)
 }
 
-pub fn fault23_with(img: &[u8], g: Geometry, scratch: &mut [u32]) -> Lowest
+pub fn fault23_with(img: &[u8], g: Geometry, scratch: &mut [u32]) -> Option<usize>
     requires opened { Opened img.now g }
-    requires files_value { first (fault22 (catalogue_of (view img.now))) g.files ≡ Lowest.Nowhere }
+    requires files_value { first (fault22 (catalogue_of (view img.now))) g.files ≡ None }
     requires files_in_bounds { 4 * g.files ≤ length scratch.old }
     ensures { result ≡ first (fault23 (catalogue_of (view img.now))) g.files }
 {
     first_faulty_with(img, g, Key::Name(g.edition), scratch)
 }
 
-pub fn fault24_with(img: &[u8], g: Geometry, scratch: &mut [u32]) -> Lowest
+pub fn fault24_with(img: &[u8], g: Geometry, scratch: &mut [u32]) -> Option<usize>
     requires opened { Opened img.now g }
     requires files_in_bounds { 4 * g.files ≤ length scratch.old }
     ensures { result ≡ first (fault24 (catalogue_of (view img.now))) g.files }

@@ -27,7 +27,7 @@ width_low i = pow-le-pow_right (lit≤ tt) {i = 7} {j = 7 + i} (omega arith)
 pub width-high : (i j : ℕ) → i ≤ j → 2 ^ (7 + i) ≤ 2 ^ (7 + j)
 width-high i j h = pow-le-pow_right (lit≤ tt) {i = 7 + i} {j = 7 + j} (omega arith)
 
-pub wider : (i s : ℕ) → s ≡ 2 ^ (7 + i) → 2 * s ≡ 2 ^ (7 + (i + 1))
+pub wider : (i s : ℕ) → s ≡ 2 ^ (7 + i) → s * 2 ≡ 2 ^ (7 + (i + 1))
 wider i s e =
     let q : 7 + (i + 1) ≡ suc (7 + i) = omega arith in
     rw (q, pow-suc) (omega arith)
@@ -40,21 +40,18 @@ module _ (room s : ℕ) where
   doubled-stop zero h = refl
   doubled-stop (suc k) h = rw (le-ltb _ _ h)
 
-  pub doubled-next : (i : ℕ) → i < 24 → 65535 < room / s → doubled room (24 - i) s ≡ doubled room (24 - (i + 1)) (2 * s)
+  pub doubled-next : (i : ℕ) → i < 24 → 65535 < room / s → doubled room (24 - i) s ≡ doubled room (24 - (i + 1)) (s * 2)
   unfolding doubled
   doubled-next i l h =
       let e : 24 - i ≡ suc (24 - (i + 1)) = omega arith in
-      rw e (rw (lt-ltb _ _ h))
+      let d : s * 2 ≡ 2 * s = omega arith in
+      rw (d, e) (rw (lt-ltb _ _ h))
 
   pub doubled-end : (i : ℕ) → 24 ≤ i → doubled room (24 - i) s ≡ s
   unfolding doubled
   doubled-end i h = let e : 24 - i ≡ 0 = omega arith in rw e
 
 -- ---- the verdict
-
-pub and_one : (b : Bool) → (b && true) ≡ b
-and_one true = refl
-and_one false = refl
 
 -- the code's first test; and what follows from the three
 abbrev pub is_formattable : ℕ → ℕ → Geometry → Bool

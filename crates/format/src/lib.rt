@@ -3,13 +3,14 @@
 
 ghost use Rattle.std.specs.Prelude.{◌≡◌, not, ◌&&◌, ◌+◌, ◌-◌, ◌≤◌, ◌<◌, leb, length};
 ghost use Rattle.model.specs.Bytes.{put, ones_sector};
-ghost use Rattle.model.specs.Geometry.{table_at, in_bounds};
+ghost use Rattle.model.specs.Geometry.{in_bounds};
 ghost use Rattle.model.specs.Edition.{is_edition, bad_time};
 ghost use Rattle.model.specs.WriteList.{sector_write, barrier, record_size, record_bytes};
+ghost use Rattle.model.specs.Results.{formatted_in};
 ghost use Rattle.model.specs.Format.{Format, doubled, geometry_for, format_count, format_record, format_answer, format_output};
 ghost use Rattle.model.specs.Opened.{Bounded};
 
-use model::{FileIndex, Formatted, Geometry, Sector};
+use model::{FileIndex, Geometry, Refusal, Sector};
 
 // ---- the geometry
 
@@ -17,14 +18,7 @@ use model::{FileIndex, Formatted, Geometry, Sector};
 fn data_room(sectors: u64, files: u64) -> u64
     ensures { result ≡ sectors - 546 - files }
 {
-    if sectors < 546 {
-        return 0;
-    }
-    let rest = sectors - 546;
-    if rest < files {
-        return 0;
-    }
-    rest - files
+    sectors.saturating_sub(546).saturating_sub(files)
 }
 
 // S: 128, doubled while G / S exceeds 65,535, 24 times at most.
@@ -33,13 +27,11 @@ fn extent_sectors_for(room: u64) -> u32
     ensures result_nonzero { 0 < result }
 {
     let mut s: u32 = 128;
-    let mut doublings: u32 = 0;
-    while doublings < 24 {
-        if room / (s as u64) <= 65535 {
+    for _i in 0..24u32 {
+        if room / u64::from(s) <= 65535 {
             return s;
         }
-        s = 2 * s;
-        doublings += 1;
+        s *= 2;
     }
     s
 }
@@ -52,7 +44,7 @@ fn geometry_for(sectors: u64, files: u64, edition: u64) -> Geometry
     let s = extent_sectors_for(room);
     Geometry {
         files,
-        extents: room / (s as u64),
+        extents: room / u64::from(s),
         extent_sectors: s,
         edition,
     }
@@ -62,23 +54,16 @@ fn geometry_for(sectors: u64, files: u64, edition: u64) -> Geometry
 fn has_room(sectors: u64, g: Geometry) -> bool
     ensures { result ≡ (leb (546 + g.files) sectors && in_bounds g) }
 {
-    if g.in_bounds() {
-        return 546 + g.files <= sectors;
-    }
-    false
+    g.in_bounds() && 546 + g.files <= sectors
 }
 
 // There is such an edition, and its fields hold the time.
 fn can_format(sectors: u64, g: Geometry, time: u64) -> bool
     ensures { result ≡ (leb (546 + g.files) sectors && in_bounds g && is_edition g.edition && not (bad_time g.edition time)) }
 {
-    if has_room(sectors, g) {
-        if layout::edition::is_edition(g.edition) {
-            return !layout::edition::bad_time(g.edition, time);
-        }
-        return false;
-    }
-    false
+    has_room(sectors, g)
+        && layout::edition::is_edition(g.edition)
+        && !layout::edition::bad_time(g.edition, time)
 }
 
 // ---- the sectors of a new volume
@@ -99,16 +84,6 @@ fn record_count(g: Geometry) -> u64
     g.files + g.table_sectors() + 6
 }
 
-// Sector j of the allocation table.
-fn table_sector(g: Geometry, j: u64) -> Sector
-    requires bounded { Bounded g }
-    requires j_bound { j < 65536 }
-    ensures { result.0 ≡ table_at g + j }
-{
-    let t = g.table_at();
-    Sector(t.0 + j)
-}
-
 // The record of position p at the output's front: a sector's number and its new contents.
 fn put_sector(out: &mut [u8], p: u64, sector: Sector, s: [u8; 512])
     requires { record_size ≤ length out.old }
@@ -122,7 +97,7 @@ fn put_barrier(out: &mut [u8], p: u64)
     requires { record_size ≤ length out.old }
     ensures { out.new ≡ put out.old 0 (record_bytes p barrier) }
 {
-    put_sector(out, p, Sector(18446744073709551615), [0u8; 512])
+    put_sector(out, p, lists::BARRIER, layout::zero_sector())
 }
 
 // The record of a position, with this position, at the output's front.
@@ -132,48 +107,33 @@ fn put_record(g: Geometry, id: u64, mode: u32, time: u64, p: u64, out: &mut [u8]
     requires record_size_in_bounds { record_size ≤ length out.old }
     ensures { (a : Format) → a.id ≡ id → a.mode ≡ mode → a.time ≡ time → out.new ≡ put out.old 0 (record_bytes p (format_record g a p)) }
 {
+    let table = 3 + g.files;
+    let table_end = table + g.table_sectors();
     if p == 0 {
-        return put_sector(
+        put_sector(
             out,
             p,
             Sector::SUPERBLOCK,
             layout::superblock::new(g, 65535),
-        );
-    }
-    if p == 1 {
-        return put_barrier(out, p);
-    }
-    if p == 2 {
-        return put_sector(
+        )
+    } else if p == 1 {
+        put_barrier(out, p)
+    } else if p == 2 {
+        put_sector(
             out,
             p,
             Sector::ROOT,
             layout::root::new(g.edition, id, mode, time),
-        );
+        )
+    } else if p < table {
+        put_sector(out, p, FileIndex(p - 3).sector(), layout::zero_sector())
+    } else if p < table_end {
+        put_sector(out, p, g.table_sector(p - table), free_table_sector())
+    } else if p == table_end + 1 {
+        put_sector(out, p, Sector::SUPERBLOCK, layout::superblock::new(g, 0))
+    } else {
+        put_barrier(out, p)
     }
-    if p < 3 + g.files {
-        return put_sector(out, p, FileIndex(p - 3).sector(), layout::zero_sector());
-    }
-    let table_end = 3 + g.files + g.table_sectors();
-    if p < table_end {
-        return put_sector(
-            out,
-            p,
-            table_sector(g, p - 3 - g.files),
-            free_table_sector(),
-        );
-    }
-    if p == table_end + 1 {
-        return put_sector(out, p, Sector::SUPERBLOCK, layout::superblock::new(g, 0));
-    }
-    put_barrier(out, p)
-}
-
-// A refusal's other numbers are 0.
-fn refused(number: u64) -> Formatted
-    ensures { result ≡ record { number = number; length = 0 } }
-{
-    Formatted { number, length: 0 }
 }
 
 // One record of a format; 8, 9 or 14 leave the output as it is.
@@ -186,23 +146,20 @@ pub fn format_record(
     time: u64,
     position: u64,
     out: &mut [u8],
-) -> Formatted
-    ensures value { result ≡ format_answer (record { sectors = sectors; files = files; edition = edition; id = id; mode = mode; time = time }) position (length out.old) }
+) -> Result<u64, Refusal>
+    ensures value { formatted_in result ≡ format_answer (record { sectors = sectors; files = files; edition = edition; id = id; mode = mode; time = time }) position (length out.old) }
     ensures out_after { out.new ≡ format_output (record { sectors = sectors; files = files; edition = edition; id = id; mode = mode; time = time }) position out.old }
 {
     let g = geometry_for(sectors, files, edition);
-    if can_format(sectors, g, time) {
-        if position < record_count(g) {
-            if lists::RECORD_SIZE <= out.len() {
-                put_record(g, id, mode, time, position, out);
-                return Formatted {
-                    number: 0,
-                    length: lists::RECORD_SIZE as u64,
-                };
-            }
-            return refused(14);
-        }
-        return refused(9);
+    if !can_format(sectors, g, time) {
+        return Err(Refusal::BadArgument);
     }
-    refused(8)
+    if record_count(g) <= position {
+        return Err(Refusal::NotFound);
+    }
+    if out.len() < lists::RECORD_SIZE {
+        return Err(Refusal::TooShort);
+    }
+    put_record(g, id, mode, time, position, out);
+    Ok(lists::RECORD_SIZE as u64)
 }

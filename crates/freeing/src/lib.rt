@@ -59,9 +59,10 @@ fn put_file_sector(
 {
     if table::holds_from(img, g, i, o, t) {
         let marks = table::marks_from(img, g, i, o, t);
-        return put_freed_sector(list, k, numbers, img, g, stages, t, &marks);
+        put_freed_sector(list, k, numbers, img, g, stages, t, &marks)
+    } else {
+        k
     }
-    k
 }
 
 // The copies of all such table sectors, from record k on.
@@ -84,12 +85,9 @@ pub fn put_freed(
         (freed_sectors (owned_in img.now i.0 o) g (view img.now)) numbers.new list.new result }
     ensures value { (result ≡ k + sectors_holding (owned_in img.now i.0 o) g) × (result ≤ k + table_sectors g) }
 {
-    let n = g.table_sectors();
     let mut j = k;
-    let mut t: u64 = 0;
-    while t < n {
+    for t in 0..g.table_sectors() {
         j = put_file_sector(list, j, numbers, img, g, stages, i, o, t);
-        t += 1;
     }
     j
 }

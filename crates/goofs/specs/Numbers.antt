@@ -1,15 +1,5 @@
 -- What the C interface gives of each answer: document 01's numbers and values, case by case.
-use Rattle.model.specs.declared.Summarized.{Summarized}
-use Rattle.model.specs.declared.Checked.{Checked}
-use Rattle.model.specs.declared.Found.{Found}
-use Rattle.model.specs.declared.Listed.{Listed}
-use Rattle.model.specs.declared.BytesRead.{BytesRead}
-use Rattle.model.specs.declared.Changed.{Changed}
-use Rattle.model.specs.declared.Repaired.{Repaired}
-use Rattle.model.specs.declared.Recovered.{Recovered}
-use Rattle.model.specs.declared.Sliced.{Sliced}
-use Rattle.model.specs.declared.Formatted.{Formatted}
-use Rattle.model.specs.declared.Longest.{Longest}
+use Rattle.model.specs.Answers.{Summarized, Checked, Found, Listed, BytesRead, Changed, Repaired, Recovered, Sliced, Formatted, Longest}
 use Rattle.model.specs.Geometry.{extent_sectors}
 use Rattle.model.specs.Summary.{state_code, state_entries}
 use Rattle.goofs.specs.declared.SummaryResult.{SummaryResult}

@@ -15,18 +15,19 @@ ghost use Rattle.model.specs.Resize.{resize_answer, resize_list};
 ghost use Rattle.model.specs.Write.{write_answer, write_list};
 ghost use Rattle.model.specs.Rename.{rename_answer, rename_list};
 ghost use Rattle.model.specs.RenameSet.{rename_set_answer, rename_set_list};
-ghost use Rattle.model.specs.Repair.{repair_answer, repair_list};
+ghost use Rattle.model.specs.Repair.{repair_answer, repair_list, done_but};
 ghost use Rattle.model.specs.Recovery.{recovery_answer, recovery_list, slice_answer, slice_list};
 ghost use Rattle.model.specs.Lent.{on_lent, read_lent, read_step, read_step_output, write_lent, resize_lent, write_step, write_step_list, recovery_lent, recovery_step, recovery_step_list};
 ghost use Rattle.model.specs.Format.{format_answer, format_output};
 ghost use Rattle.model.specs.CarryOut.{carry_answer, carry_image};
 ghost use Rattle.model.specs.Lengths.{longest_answer};
+ghost use Rattle.model.specs.Results.{summarized_in, checked_in, found_in, listed_in, read_in, changed_in, repaired_in, soundness_in, recovered_in, sliced_in, formatted_in, longest_in};
 ghost use Rattle.goofs.specs.Numbers.{summary_numbers, check_numbers, find_numbers, list_numbers, read_numbers, change_numbers};
 ghost use Rattle.goofs.specs.Numbers.{repair_numbers, recover_numbers, slice_numbers, format_numbers, longest_numbers};
 
 use model::{
-    BytesRead, Changed, Checked, Found, Listed, Reading, Recovering, Repaired, State, Summarized,
-    Writing,
+    Fault, FoundFile, ListedFile, ReadBytes, Reading, Recovering, Refusal, Repair, Slice, State,
+    Summary, Writing,
 };
 
 // ---- summary
@@ -54,20 +55,33 @@ fn state_code(s: State) -> u64
     }
 }
 
-fn summary_result(a: Summarized) -> SummaryResult
-    ensures { result ≡ summary_numbers a }
-{
-    let s = a.summary;
-    let g = s.geometry;
-    let st = s.state;
-    SummaryResult {
-        code: a.number,
-        files: g.files,
-        extents: g.extents,
-        extent_sectors: g.extent_sectors as u64,
-        state: state_code(st),
-        entries: volume::state_entries(st),
-        edition: g.edition,
+impl From<Result<Summary, Refusal>> for SummaryResult {
+    ghost from_gives = { λ a r. r ≡ summary_numbers (summarized_in a) };
+
+    fn from(a: Result<Summary, Refusal>) -> SummaryResult {
+        match a {
+            Ok(s) => {
+                let g = s.geometry;
+                SummaryResult {
+                    code: 0,
+                    files: g.files,
+                    extents: g.extents,
+                    extent_sectors: g.extent_sectors as u64,
+                    state: state_code(s.state),
+                    entries: volume::state_entries(s.state),
+                    edition: g.edition,
+                }
+            }
+            Err(refusal) => SummaryResult {
+                code: refusal.number(),
+                files: 0,
+                extents: 0,
+                extent_sectors: 0,
+                state: 0,
+                entries: 0,
+                edition: 0,
+            },
+        }
     }
 }
 
@@ -75,7 +89,7 @@ fn summary_result(a: Summarized) -> SummaryResult
 pub extern "C" fn goofs_summary(img: &[u8]) -> SummaryResult
     ensures { result ≡ summary_numbers (on_image summary_answer img.now) }
 {
-    summary_result(volume::summary(img))
+    SummaryResult::from(volume::summary(img))
 }
 
 // ---- check
@@ -88,14 +102,22 @@ pub struct CheckResult {
     pub place: u64,
 }
 
-fn check_result(a: Checked) -> CheckResult
-    ensures { result ≡ check_numbers a }
-{
-    let v = a.verdict;
-    CheckResult {
-        code: v.number,
-        fault: v.fault,
-        place: v.place,
+impl From<Result<(), Refusal>> for CheckResult {
+    ghost from_gives = { λ a r. r ≡ check_numbers (checked_in a) };
+
+    fn from(a: Result<(), Refusal>) -> CheckResult {
+        match a {
+            Ok(()) => CheckResult {
+                code: 0,
+                fault: 0,
+                place: 0,
+            },
+            Err(refusal) => CheckResult {
+                code: refusal.number(),
+                fault: refusal.fault(),
+                place: refusal.place(),
+            },
+        }
     }
 }
 
@@ -103,7 +125,7 @@ fn check_result(a: Checked) -> CheckResult
 pub extern "C" fn goofs_check(img: &[u8]) -> CheckResult
     ensures { result ≡ check_numbers (on_image check_answer img.now) }
 {
-    check_result(queries::check(img))
+    CheckResult::from(queries::check(img))
 }
 
 // What scratch holds after 0 or 7 is the program's choice; only its length is common to every choice.
@@ -112,8 +134,7 @@ pub extern "C" fn goofs_check_with(img: &[u8], scratch: &mut [u32]) -> CheckResu
     ensures value { result ≡ check_numbers (on_image check_with_answer img.now (length scratch.old)) }
     ensures scratch_after { ScratchAfter (on_image check_with_answer img.now (length scratch.old)).verdict scratch.old scratch.new }
 {
-    let a = queries::check_with(img, scratch);
-    check_result(a)
+    CheckResult::from(queries::check_with(img, scratch))
 }
 
 // ---- find
@@ -134,24 +155,42 @@ pub struct FindResult {
     pub name_length: u64,
 }
 
-fn find_result(a: Found) -> FindResult
-    ensures { result ≡ find_numbers a }
-{
-    let v = a.verdict;
-    let i = a.index;
-    let f = a.fields;
-    FindResult {
-        code: v.number,
-        fault: v.fault,
-        place: v.place,
-        index: i.0,
-        size: f.size,
-        version: f.version as u64,
-        id: f.id,
-        mode: f.mode as u64,
-        access_time: f.access_time,
-        change_time: f.change_time,
-        name_length: f.name_length,
+impl From<Result<FoundFile, Refusal>> for FindResult {
+    ghost from_gives = { λ a r. r ≡ find_numbers (found_in a) };
+
+    fn from(a: Result<FoundFile, Refusal>) -> FindResult {
+        match a {
+            Ok(found) => {
+                let i = found.index;
+                let f = found.fields;
+                FindResult {
+                    code: 0,
+                    fault: 0,
+                    place: 0,
+                    index: i.0,
+                    size: f.size,
+                    version: f.version as u64,
+                    id: f.id,
+                    mode: f.mode as u64,
+                    access_time: f.access_time,
+                    change_time: f.change_time,
+                    name_length: f.name_length,
+                }
+            }
+            Err(refusal) => FindResult {
+                code: refusal.number(),
+                fault: refusal.fault(),
+                place: refusal.place(),
+                index: 0,
+                size: 0,
+                version: 0,
+                id: 0,
+                mode: 0,
+                access_time: 0,
+                change_time: 0,
+                name_length: 0,
+            },
+        }
     }
 }
 
@@ -159,7 +198,7 @@ fn find_result(a: Found) -> FindResult
 pub extern "C" fn goofs_find(img: &[u8], name: &[u8]) -> FindResult
     ensures { result ≡ find_numbers (on_image find_answer img.now name.now) }
 {
-    find_result(queries::find(img, name))
+    FindResult::from(queries::find(img, name))
 }
 
 // ---- list
@@ -180,23 +219,41 @@ pub struct ListResult {
     pub length: u64,
 }
 
-fn list_result(a: Listed) -> ListResult
-    ensures { result ≡ list_numbers a }
-{
-    let v = a.verdict;
-    let f = a.fields;
-    ListResult {
-        code: v.number,
-        fault: v.fault,
-        place: v.place,
-        size: f.size,
-        version: f.version as u64,
-        id: f.id,
-        mode: f.mode as u64,
-        access_time: f.access_time,
-        change_time: f.change_time,
-        name_length: f.name_length,
-        length: a.length,
+impl From<Result<ListedFile, Refusal>> for ListResult {
+    ghost from_gives = { λ a r. r ≡ list_numbers (listed_in a) };
+
+    fn from(a: Result<ListedFile, Refusal>) -> ListResult {
+        match a {
+            Ok(listed) => {
+                let f = listed.fields;
+                ListResult {
+                    code: 0,
+                    fault: 0,
+                    place: 0,
+                    size: f.size,
+                    version: f.version as u64,
+                    id: f.id,
+                    mode: f.mode as u64,
+                    access_time: f.access_time,
+                    change_time: f.change_time,
+                    name_length: f.name_length,
+                    length: listed.length,
+                }
+            }
+            Err(refusal) => ListResult {
+                code: refusal.number(),
+                fault: refusal.fault(),
+                place: refusal.place(),
+                size: 0,
+                version: 0,
+                id: 0,
+                mode: 0,
+                access_time: 0,
+                change_time: 0,
+                name_length: 0,
+                length: 0,
+            },
+        }
     }
 }
 
@@ -213,8 +270,7 @@ pub extern "C" fn goofs_list(
     ensures out_after { out.new ≡ on_image list_output img.now index time out.old (length list.old) }
     ensures list_after { list.new ≡ on_image listing_list img.now index time (length out.old) list.old }
 {
-    let a = queries::list(img, index, time, out, list);
-    list_result(a)
+    ListResult::from(queries::list(img, index, time, out, list))
 }
 
 // ---- read
@@ -229,16 +285,26 @@ pub struct ReadResult {
     pub length: u64,
 }
 
-fn read_result(a: BytesRead) -> ReadResult
-    ensures { result ≡ read_numbers a }
-{
-    let v = a.verdict;
-    ReadResult {
-        code: v.number,
-        fault: v.fault,
-        place: v.place,
-        count: a.count,
-        length: a.length,
+impl From<Result<ReadBytes, Refusal>> for ReadResult {
+    ghost from_gives = { λ a r. r ≡ read_numbers (read_in a) };
+
+    fn from(a: Result<ReadBytes, Refusal>) -> ReadResult {
+        match a {
+            Ok(b) => ReadResult {
+                code: 0,
+                fault: 0,
+                place: 0,
+                count: b.count,
+                length: b.length,
+            },
+            Err(refusal) => ReadResult {
+                code: refusal.number(),
+                fault: refusal.fault(),
+                place: refusal.place(),
+                count: 0,
+                length: 0,
+            },
+        }
     }
 }
 
@@ -257,8 +323,7 @@ pub extern "C" fn goofs_read(
     ensures out_after { out.new ≡ on_image read_output img.now name.now offset count time out.old (length list.old) }
     ensures list_after { list.new ≡ on_image read_list img.now name.now offset count time (length out.old) list.old }
 {
-    let a = queries::read(img, name, offset, count, time, out, list);
-    read_result(a)
+    ReadResult::from(queries::read(img, name, offset, count, time, out, list))
 }
 
 // ---- create, delete, resize, write
@@ -272,15 +337,24 @@ pub struct ChangeResult {
     pub length: u64,
 }
 
-fn change_result(a: Changed) -> ChangeResult
-    ensures { result ≡ change_numbers a }
-{
-    let v = a.verdict;
-    ChangeResult {
-        code: v.number,
-        fault: v.fault,
-        place: v.place,
-        length: a.length,
+impl From<Result<u64, Refusal>> for ChangeResult {
+    ghost from_gives = { λ a r. r ≡ change_numbers (changed_in a) };
+
+    fn from(a: Result<u64, Refusal>) -> ChangeResult {
+        match a {
+            Ok(length) => ChangeResult {
+                code: 0,
+                fault: 0,
+                place: 0,
+                length,
+            },
+            Err(refusal) => ChangeResult {
+                code: refusal.number(),
+                fault: refusal.fault(),
+                place: refusal.place(),
+                length: 0,
+            },
+        }
     }
 }
 
@@ -296,8 +370,7 @@ pub extern "C" fn goofs_create(
     ensures value { result ≡ change_numbers (on_image create_answer img.now name.now id mode time (length list.old)) }
     ensures list_after { list.new ≡ on_image create_list img.now name.now id mode time list.old }
 {
-    let a = changes::create(img, name, id, mode, time, list);
-    change_result(a)
+    ChangeResult::from(changes::create(img, name, id, mode, time, list))
 }
 
 #[unsafe(no_mangle)]
@@ -305,8 +378,7 @@ pub extern "C" fn goofs_delete(img: &[u8], name: &[u8], time: u64, list: &mut [u
     ensures value { result ≡ change_numbers (on_image delete_answer img.now name.now time (length list.old)) }
     ensures list_after { list.new ≡ on_image delete_list img.now name.now time list.old }
 {
-    let a = changes::delete(img, name, time, list);
-    change_result(a)
+    ChangeResult::from(changes::delete(img, name, time, list))
 }
 
 #[unsafe(no_mangle)]
@@ -320,8 +392,7 @@ pub extern "C" fn goofs_resize(
     ensures value { result ≡ change_numbers (on_image resize_answer img.now name.now size time (length list.old)) }
     ensures list_after { list.new ≡ on_image resize_list img.now name.now size time list.old }
 {
-    let a = changes::resize(img, name, size, time, list);
-    change_result(a)
+    ChangeResult::from(changes::resize(img, name, size, time, list))
 }
 
 #[unsafe(no_mangle)]
@@ -336,8 +407,7 @@ pub extern "C" fn goofs_write(
     ensures value { result ≡ change_numbers (on_image write_answer img.now name.now offset bytes.now time (length list.old)) }
     ensures list_after { list.new ≡ on_image write_list img.now name.now offset bytes.now time list.old }
 {
-    let a = changes::write(img, name, offset, bytes, time, list);
-    change_result(a)
+    ChangeResult::from(changes::write(img, name, offset, bytes, time, list))
 }
 
 #[unsafe(no_mangle)]
@@ -351,8 +421,7 @@ pub extern "C" fn goofs_rename(
     ensures value { result ≡ change_numbers (on_image rename_answer img.now old.now new.now time (length list.old)) }
     ensures list_after { list.new ≡ on_image rename_list img.now old.now new.now time list.old }
 {
-    let a = changes::rename(img, old, new, time, list);
-    change_result(a)
+    ChangeResult::from(changes::rename(img, old, new, time, list))
 }
 
 // `names` holds all names one after the other, old, new, old, new and so on; `lengths` the length of each.
@@ -367,8 +436,7 @@ pub extern "C" fn goofs_rename_set(
     ensures value { result ≡ change_numbers (on_image rename_set_answer img.now names.now lengths.now time (length list.old)) }
     ensures list_after { list.new ≡ on_image rename_set_list img.now names.now lengths.now time list.old }
 {
-    let a = changes::rename_set(img, names, lengths, time, list);
-    change_result(a)
+    ChangeResult::from(changes::rename_set(img, names, lengths, time, list))
 }
 
 // ---- repair
@@ -384,16 +452,45 @@ pub struct RepairResult {
     pub freed: u64,
 }
 
-fn repair_result(a: Repaired) -> RepairResult
-    ensures { result ≡ repair_numbers a }
+// The first fault that remains, by its numbers: 0 and 0 where none does.
+fn remaining_number(remaining: Result<(), Fault>) -> u64
+    ensures { result ≡ (done_but (soundness_in remaining)).fault }
 {
-    let v = a.verdict;
-    RepairResult {
-        code: v.number,
-        fault: v.fault,
-        place: v.place,
-        length: a.length,
-        freed: a.freed,
+    match remaining {
+        Ok(()) => 0,
+        Err(fault) => fault.number(),
+    }
+}
+
+fn remaining_place(remaining: Result<(), Fault>) -> u64
+    ensures { result ≡ (done_but (soundness_in remaining)).place }
+{
+    match remaining {
+        Ok(()) => 0,
+        Err(fault) => fault.place(),
+    }
+}
+
+impl From<Result<Repair, Refusal>> for RepairResult {
+    ghost from_gives = { λ a r. r ≡ repair_numbers (repaired_in a) };
+
+    fn from(a: Result<Repair, Refusal>) -> RepairResult {
+        match a {
+            Ok(r) => RepairResult {
+                code: 0,
+                fault: remaining_number(r.remaining),
+                place: remaining_place(r.remaining),
+                length: r.length,
+                freed: r.freed,
+            },
+            Err(refusal) => RepairResult {
+                code: refusal.number(),
+                fault: refusal.fault(),
+                place: refusal.place(),
+                length: 0,
+                freed: 0,
+            },
+        }
     }
 }
 
@@ -402,8 +499,7 @@ pub extern "C" fn goofs_repair(img: &[u8], list: &mut [u8]) -> RepairResult
     ensures value { result ≡ repair_numbers (on_image repair_answer img.now (length list.old)) }
     ensures list_after { list.new ≡ on_image repair_list img.now list.old }
 {
-    let a = repair::repair(img, list);
-    repair_result(a)
+    RepairResult::from(repair::repair(img, list))
 }
 
 // ---- recovery, format, carrying out
@@ -415,16 +511,26 @@ pub struct RecoverResult {
     pub length: u64,
 }
 
+impl From<Result<u64, Refusal>> for RecoverResult {
+    ghost from_gives = { λ a r. r ≡ recover_numbers (recovered_in a) };
+
+    fn from(a: Result<u64, Refusal>) -> RecoverResult {
+        match a {
+            Ok(length) => RecoverResult { code: 0, length },
+            Err(refusal) => RecoverResult {
+                code: refusal.number(),
+                length: 0,
+            },
+        }
+    }
+}
+
 #[unsafe(no_mangle)]
 pub extern "C" fn goofs_recover(img: &[u8], list: &mut [u8]) -> RecoverResult
     ensures value { result ≡ recover_numbers (on_image recovery_answer img.now (length list.old)) }
     ensures list_after { list.new ≡ on_image recovery_list img.now list.old }
 {
-    let a = recovery::recover(img, list);
-    RecoverResult {
-        code: a.number,
-        length: a.length,
-    }
+    RecoverResult::from(recovery::recover(img, list))
 }
 
 #[repr(C)]
@@ -435,17 +541,31 @@ pub struct SliceResult {
     pub count: u64,
 }
 
+impl From<Result<Slice, Refusal>> for SliceResult {
+    ghost from_gives = { λ a r. r ≡ slice_numbers (sliced_in a) };
+
+    fn from(a: Result<Slice, Refusal>) -> SliceResult {
+        match a {
+            Ok(slice) => SliceResult {
+                code: 0,
+                length: slice.length,
+                count: slice.count,
+            },
+            Err(refusal) => SliceResult {
+                code: refusal.number(),
+                length: 0,
+                count: 0,
+            },
+        }
+    }
+}
+
 #[unsafe(no_mangle)]
 pub extern "C" fn goofs_recover_slice(img: &[u8], budget: u64, list: &mut [u8]) -> SliceResult
     ensures value { result ≡ slice_numbers (on_image slice_answer img.now budget (length list.old)) }
     ensures list_after { list.new ≡ on_image slice_list img.now budget list.old }
 {
-    let a = recovery::recover_slice(img, budget, list);
-    SliceResult {
-        code: a.number,
-        length: a.length,
-        count: a.count,
-    }
+    SliceResult::from(recovery::recover_slice(img, budget, list))
 }
 
 #[repr(C)]
@@ -453,6 +573,20 @@ pub extern "C" fn goofs_recover_slice(img: &[u8], budget: u64, list: &mut [u8]) 
 pub struct FormatResult {
     pub code: u64,
     pub length: u64,
+}
+
+impl From<Result<u64, Refusal>> for FormatResult {
+    ghost from_gives = { λ a r. r ≡ format_numbers (formatted_in a) };
+
+    fn from(a: Result<u64, Refusal>) -> FormatResult {
+        match a {
+            Ok(length) => FormatResult { code: 0, length },
+            Err(refusal) => FormatResult {
+                code: refusal.number(),
+                length: 0,
+            },
+        }
+    }
 }
 
 #[unsafe(no_mangle)]
@@ -469,11 +603,9 @@ pub extern "C" fn goofs_format_record(
     ensures value { result ≡ format_numbers (format_answer (record { sectors = sectors; files = files; edition = edition; id = id; mode = mode; time = time }) position (length out.old)) }
     ensures out_after { out.new ≡ format_output (record { sectors = sectors; files = files; edition = edition; id = id; mode = mode; time = time }) position out.old }
 {
-    let a = format::format_record(sectors, files, edition, id, mode, time, position, out);
-    FormatResult {
-        code: a.number,
-        length: a.length,
-    }
+    FormatResult::from(format::format_record(
+        sectors, files, edition, id, mode, time, position, out,
+    ))
 }
 
 #[unsafe(no_mangle)]
@@ -481,8 +613,10 @@ pub extern "C" fn goofs_carry_out(img: &mut [u8], list: &[u8]) -> u64
     ensures value { result ≡ (carry_answer img.old list.now).number }
     ensures img_after { img.new ≡ carry_image img.old list.now }
 {
-    let a = carry_out::carry_out(img, list);
-    a.number
+    match carry_out::carry_out(img, list) {
+        Ok(()) => 0,
+        Err(refusal) => refusal.number(),
+    }
 }
 
 // ---- how long a list can be
@@ -494,6 +628,20 @@ pub struct LongestResult {
     pub length: u64,
 }
 
+impl From<Result<u64, Refusal>> for LongestResult {
+    ghost from_gives = { λ a r. r ≡ longest_numbers (longest_in a) };
+
+    fn from(a: Result<u64, Refusal>) -> LongestResult {
+        match a {
+            Ok(length) => LongestResult { code: 0, length },
+            Err(refusal) => LongestResult {
+                code: refusal.number(),
+                length: 0,
+            },
+        }
+    }
+}
+
 #[unsafe(no_mangle)]
 pub extern "C" fn goofs_longest_list(
     files: u64,
@@ -503,11 +651,7 @@ pub extern "C" fn goofs_longest_list(
 ) -> LongestResult
     ensures { result ≡ longest_numbers (longest_answer (record { files = files; extents = extents; extent_sectors = sectors; edition = 1 }) call) }
 {
-    let a = lengths::longest_list(files, extents, sectors, call);
-    LongestResult {
-        code: a.number,
-        length: a.length,
-    }
+    LongestResult::from(lengths::longest_list(files, extents, sectors, call))
 }
 
 // ---- on lent sectors (T-11): `front` holds at least the sectors before the data area, `count` is the volume's sectors
@@ -516,14 +660,14 @@ pub extern "C" fn goofs_longest_list(
 pub extern "C" fn goofs_summary_lent(front: &[u8], count: u64) -> SummaryResult
     ensures { result ≡ summary_numbers (on_lent summary_answer front.now count) }
 {
-    summary_result(volume::summary_lent(front, count))
+    SummaryResult::from(volume::summary_lent(front, count))
 }
 
 #[unsafe(no_mangle)]
 pub extern "C" fn goofs_check_lent(front: &[u8], count: u64) -> CheckResult
     ensures { result ≡ check_numbers (on_lent check_answer front.now count) }
 {
-    check_result(queries::check_lent(front, count))
+    CheckResult::from(queries::check_lent(front, count))
 }
 
 #[unsafe(no_mangle)]
@@ -535,15 +679,14 @@ pub extern "C" fn goofs_check_with_lent(
     ensures value { result ≡ check_numbers (on_lent check_with_answer front.now count (length scratch.old)) }
     ensures scratch_after { ScratchAfter (on_lent check_with_answer front.now count (length scratch.old)).verdict scratch.old scratch.new }
 {
-    let a = queries::check_with_lent(front, count, scratch);
-    check_result(a)
+    CheckResult::from(queries::check_with_lent(front, count, scratch))
 }
 
 #[unsafe(no_mangle)]
 pub extern "C" fn goofs_find_lent(front: &[u8], count: u64, name: &[u8]) -> FindResult
     ensures { result ≡ find_numbers (on_lent find_answer front.now count name.now) }
 {
-    find_result(queries::find_lent(front, count, name))
+    FindResult::from(queries::find_lent(front, count, name))
 }
 
 #[unsafe(no_mangle)]
@@ -559,8 +702,7 @@ pub extern "C" fn goofs_list_lent(
     ensures out_after { out.new ≡ on_lent list_output front.now count index time out.old (length list.old) }
     ensures list_after { list.new ≡ on_lent listing_list front.now count index time (length out.old) list.old }
 {
-    let a = queries::list_lent(front, count, index, time, out, list);
-    list_result(a)
+    ListResult::from(queries::list_lent(front, count, index, time, out, list))
 }
 
 #[unsafe(no_mangle)]
@@ -576,8 +718,7 @@ pub extern "C" fn goofs_create_lent(
     ensures value { result ≡ change_numbers (on_lent create_answer front.now count name.now id mode time (length list.old)) }
     ensures list_after { list.new ≡ on_lent create_list front.now count name.now id mode time list.old }
 {
-    let a = changes::create_lent(front, count, name, id, mode, time, list);
-    change_result(a)
+    ChangeResult::from(changes::create_lent(front, count, name, id, mode, time, list))
 }
 
 #[unsafe(no_mangle)]
@@ -591,8 +732,7 @@ pub extern "C" fn goofs_delete_lent(
     ensures value { result ≡ change_numbers (on_lent delete_answer front.now count name.now time (length list.old)) }
     ensures list_after { list.new ≡ on_lent delete_list front.now count name.now time list.old }
 {
-    let a = changes::delete_lent(front, count, name, time, list);
-    change_result(a)
+    ChangeResult::from(changes::delete_lent(front, count, name, time, list))
 }
 
 #[unsafe(no_mangle)]
@@ -607,8 +747,7 @@ pub extern "C" fn goofs_rename_lent(
     ensures value { result ≡ change_numbers (on_lent rename_answer front.now count old.now new.now time (length list.old)) }
     ensures list_after { list.new ≡ on_lent rename_list front.now count old.now new.now time list.old }
 {
-    let a = changes::rename_lent(front, count, old, new, time, list);
-    change_result(a)
+    ChangeResult::from(changes::rename_lent(front, count, old, new, time, list))
 }
 
 #[unsafe(no_mangle)]
@@ -623,8 +762,7 @@ pub extern "C" fn goofs_rename_set_lent(
     ensures value { result ≡ change_numbers (on_lent rename_set_answer front.now count names.now lengths.now time (length list.old)) }
     ensures list_after { list.new ≡ on_lent rename_set_list front.now count names.now lengths.now time list.old }
 {
-    let a = changes::rename_set_lent(front, count, names, lengths, time, list);
-    change_result(a)
+    ChangeResult::from(changes::rename_set_lent(front, count, names, lengths, time, list))
 }
 
 #[unsafe(no_mangle)]
@@ -632,8 +770,7 @@ pub extern "C" fn goofs_repair_lent(front: &[u8], count: u64, list: &mut [u8]) -
     ensures value { result ≡ repair_numbers (on_lent repair_answer front.now count (length list.old)) }
     ensures list_after { list.new ≡ on_lent repair_list front.now count list.old }
 {
-    let a = repair::repair_lent(front, count, list);
-    repair_result(a)
+    RepairResult::from(repair::repair_lent(front, count, list))
 }
 
 // Read, write, a growing resize and recovery ask for data sectors: the state that comes back goes into the next step with the sector's bytes.

@@ -8,12 +8,9 @@ use lib.Dec.{eqb}
 use lib.ListN.{length}
 use borrow.Author.Tests.{eqb-true}
 use Rattle.model.specs.declared.Geometry.{Geometry}
-use Rattle.model.specs.declared.Lowest.{Lowest}
-use Rattle.model.specs.declared.Lowest.TheVariants.{At, Nowhere}
-use Rattle.model.specs.declared.Soundness.{Soundness}
-use Rattle.model.specs.declared.Soundness.TheVariants.{Sound, Faulty}
-use Rattle.model.specs.declared.Verdict.{Verdict}
-use Rattle.model.specs.Search.{first}
+use Rattle.std.specs.Prelude.{Some, None}
+use Rattle.model.specs.Answers.{Soundness, Sound, Faulty, Verdict}
+use Rattle.model.specs.Search.{Lowest, first}
 use Rattle.model.specs.Geometry.{extent_sectors, superblock_at}
 use Rattle.model.specs.Disk.{Disk, view}
 use Rattle.model.specs.Superblock.{geometry_in, state_on}
@@ -82,9 +79,9 @@ pub accepted-length : (img : List ℕ) → Accepted img → 512 ≤ length img
 accepted-length img a = readable-length img (accepted-readable img a)
 
 -- a volume without a fault has none of 21, none of 22 and so on
-skip : (n : ℕ) (p : Lowest) (later : Soundness) → or_else n p later ≡ Sound → (p ≡ Nowhere) × (later ≡ Sound)
-skip n (At i) later h = let z : ◌≡◌ {A = ℕ} 0 1 = cc in absurd (omega arith)
-skip n Nowhere later h = (refl, h)
+skip : (n : ℕ) (p : Lowest) (later : Soundness) → or_else n p later ≡ Sound → (p ≡ None) × (later ≡ Sound)
+skip n (Some i) later h = let z : ◌≡◌ {A = ℕ} 0 1 = cc in absurd (omega arith)
+skip n None later h = (refl, h)
 
 abbrev files : Disk → ℕ
 files d = (geometry_in (d superblock_at)).files
@@ -95,6 +92,6 @@ from23 d =
     or_else 23 (first (fault23 (catalogue_of d)) (files d)) (or_else 24 (first (fault24 (catalogue_of d)) (files d))
     (or_else 25 (first (fault25 (catalogue_of d)) (catalogue_of d).geometry.extents) (or_else 26 (first (fault26 (catalogue_of d)) (files d)) Sound)))
 
-pub sound-22 : (d : Disk) → first_fault d ≡ Sound → first (fault22 (catalogue_of d)) (geometry_in (d superblock_at)).files ≡ Nowhere
+pub sound-22 : (d : Disk) → first_fault d ≡ Sound → first (fault22 (catalogue_of d)) (geometry_in (d superblock_at)).files ≡ None
 unfolding first_fault catalogue_of
 sound-22 d h = (skip 22 (first (fault22 (catalogue_of d)) (files d)) (from23 d) (skip 21 (first (fault21 d) (files d)) (or_else 22 (first (fault22 (catalogue_of d)) (files d)) (from23 d)) h).1).0

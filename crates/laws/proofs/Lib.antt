@@ -3,6 +3,10 @@ pub mod Booleans
 pub mod Bytes
 pub mod Search
 pub mod Seeking
+pub mod Ranges
+pub mod Folds
+pub mod Slices
+pub mod Results
 pub mod Count
 pub mod Disk
 pub mod Edition

@@ -12,7 +12,7 @@ use lib.ListN.{length}
 use borrow.Author.Tests.{ltb-false}
 use Rattle.model.specs.declared.Fields.{Fields}
 use Rattle.model.specs.declared.Geometry.{Geometry}
-use Rattle.model.specs.declared.Lowest.TheVariants.{At}
+use Rattle.std.specs.Prelude.{Some}
 use Rattle.model.specs.Bytes.{number_in}
 use Rattle.model.specs.Search.{scan, equal_bytes}
 use Rattle.model.specs.Geometry.{superblock_at, entry_at, extent_bytes}
@@ -23,7 +23,7 @@ use Rattle.model.specs.Entry.{entry_field, name_in, entry_in, is_occupied, field
 use Rattle.model.specs.Catalogue.{catalogue_of, is_free, file_named, entry_of, entry_or}
 use Rattle.model.specs.Faults.{fault22, first_fault}
 use Rattle.model.specs.Opened.{Opened}
-use Rattle.model.specs.declared.Soundness.TheVariants.{Sound}
+use Rattle.model.specs.Answers.{Sound}
 use Rattle.laws.proofs.Booleans.{and_left}
 use Rattle.laws.proofs.Search.{Hit, scan-hit, first-missed}
 use Rattle.laws.proofs.Entry.{length-name_in, long-name}
@@ -55,15 +55,15 @@ module _ (d : Disk) where
       go false = refl
 
   -- the file of a name stands in the directory, occupied
-  pub named-at : (name : List ℕ) (i : ℕ) → At i ≡ file_named (catalogue_of d) name → (i < (geometry_in (d superblock_at)).files) × (is_occupied (d (entry_at i)) ≡ true)
+  pub named-at : (name : List ℕ) (i : ℕ) → Some i ≡ file_named (catalogue_of d) name → (i < (geometry_in (d superblock_at)).files) × (is_occupied (d (entry_at i)) ≡ true)
   named-at name i e =
       let p : ℕ → Bool = λ k. is_occupied (d (entry_at k)) && equal_bytes (name_in (edition_on d) (d (entry_at k))) name in
       let n = (geometry_in (d superblock_at)).files in
-      let q : scan p (n - 0) 0 ≡ At i = sym (e ∙ named-on d name) in
-      let h : Hit p (n - 0) 0 (At i) = rw q at (scan-hit p (n - 0) 0) in
+      let q : scan p (n - 0) 0 ≡ Some i = sym (e ∙ named-on d name) in
+      let h : Hit p (n - 0) 0 (Some i) = rw q at (scan-hit p (n - 0) 0) in
       (omega (arith, h.1), and_left (is_occupied (d (entry_at i))) (equal_bytes (name_in (edition_on d) (d (entry_at i))) name) h.2)
 
-  pub named-entry : (name : List ℕ) (i : ℕ) → At i ≡ file_named (catalogue_of d) name → entry_of (catalogue_of d) i ≡ entry_in (edition_on d) (d (entry_at i))
+  pub named-entry : (name : List ℕ) (i : ℕ) → Some i ≡ file_named (catalogue_of d) name → entry_of (catalogue_of d) i ≡ entry_in (edition_on d) (d (entry_at i))
   named-entry name i e = let h = named-at name i e in entry-on i h.0 h.1
 
   -- on a sound volume its name ends in the sector

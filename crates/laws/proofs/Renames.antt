@@ -12,10 +12,9 @@ use lib.Dec.{eqb, ltb}
 use lib.ListN.{length, get_or}
 use borrow.Author.Tests.{eq-eqb, ne_eqb, eqb-true, eqb-false, ltb-true}
 use Rattle.model.specs.declared.Geometry.{Geometry}
-use Rattle.model.specs.declared.Lowest.{Lowest}
-use Rattle.model.specs.declared.Lowest.TheVariants.{At, Nowhere}
+use Rattle.std.specs.Prelude.{Some, None}
 use Rattle.model.specs.Bytes.{zero_sector}
-use Rattle.model.specs.Search.{index_of, equal_bytes, any_below, count_below}
+use Rattle.model.specs.Search.{Lowest, index_of, equal_bytes, any_below, count_below}
 use Rattle.model.specs.Geometry.{superblock_at, root_at, entry_at, journal_at, table_at, table_sectors, data_at}
 use Rattle.model.specs.Disk.{Disk}
 use Rattle.model.specs.Superblock.{geometry_in}
@@ -86,24 +85,24 @@ module _ (i j : ℕ) (u v : List ℕ) where
 
 -- the file found is q
 abbrev pub is_slot : Lowest → ℕ → Bool
-is_slot Nowhere q = false
-is_slot (At j) q = eqb j q
+is_slot None q = false
+is_slot (Some j) q = eqb j q
 
 -- a table sector where that file is replaced, and whether it holds one of its extents
 abbrev pub freed_for : Lowest → Catalogue → ℕ → List ℕ → List ℕ
-freed_for Nowhere c t s = s
-freed_for (At j) c t s = freed_in (λ k. owns_from c j 0 (128 * t + k)) s 128
+freed_for None c t s = s
+freed_for (Some j) c t s = freed_in (λ k. owns_from c j 0 (128 * t + k)) s 128
 
 abbrev pub held_for : Lowest → Catalogue → ℕ → Bool
-held_for Nowhere c t = false
-held_for (At j) c t = holds_any (owns_from c j 0) t
+held_for None c t = false
+held_for (Some j) c t = holds_any (owns_from c j 0) t
 
 pub found_below : (x : Disk) (n : List ℕ) → 0 < (geometry_in (x superblock_at)).files → index_of (file_named (catalogue_of x) n) < (geometry_in (x superblock_at)).files
 found_below x n few = go (file_named (catalogue_of x) n) refl
   where
     go : (p : Lowest) → p ≡ file_named (catalogue_of x) n → index_of p < (geometry_in (x superblock_at)).files
-    go Nowhere e = few
-    go (At j) e = (named-at x n j e).0
+    go None e = few
+    go (Some j) e = (named-at x n j e).0
 
 module _ (x : Disk) (i : ℕ) (new : List ℕ) (time : ℕ) where
   abbrev renamed_of : ℕ → List ℕ
@@ -127,8 +126,8 @@ module _ (x : Disk) (i : ℕ) (new : List ℕ) (time : ℕ) where
   behind-entry : (place : Lowest) (q : ℕ) (y : List ℕ) → q < (catalogue_of x).geometry.files
       → (over (behind place) (entry_at q) y ≡ cond (eqb i q) (renamed_of q) (cond (is_slot place q) zero_sector y)) × (hits (behind place) (entry_at q) ≡ (eqb i q || is_slot place q))
   unfolding renamed_record replacing_records over hits
-  behind-entry Nowhere q y l = (ap (λ (b : Bool). cond b (renamed_of i) y) (eqb-entry q i) ∙ own-entry q y, ap (λ (b : Bool). b || false) (eqb-entry q i))
-  behind-entry (At j) q y l =
+  behind-entry None q y l = (ap (λ (b : Bool). cond b (renamed_of i) y) (eqb-entry q i) ∙ own-entry q y, ap (λ (b : Bool). b || false) (eqb-entry q i))
+  behind-entry (Some j) q y l =
       let pair = pair_of i j (renamed_of i) zero_sector (ltb i j) in
       let out = freed-outside (owns_from (catalogue_of x) j 0) (catalogue_of x).geometry x (entry_at q) (over pair (entry_at q) y) (omega arith) in (
         over-append pair (tables j) (entry_at q) y ∙ out.0 ∙ pair-over i j (renamed_of i) zero_sector q y ∙ own-entry q (cond (eqb j q) zero_sector y),
@@ -139,8 +138,8 @@ module _ (x : Disk) (i : ℕ) (new : List ℕ) (time : ℕ) where
   behind-miss : (place : Lowest) (s : ℕ) (y : List ℕ) → s < table_at (catalogue_of x).geometry → s ≢ entry_at i → s ≢ entry_at (index_of place)
       → (over (behind place) s y ≡ y) × (hits (behind place) s ≡ false)
   unfolding renamed_record replacing_records over hits
-  behind-miss Nowhere s y l p q = rw (ne_eqb s (entry_at i) p) (refl, refl)
-  behind-miss (At j) s y l p q =
+  behind-miss None s y l p q = rw (ne_eqb s (entry_at i) p) (refl, refl)
+  behind-miss (Some j) s y l p q =
       let pair = pair_of i j (renamed_of i) zero_sector (ltb i j) in
       let m = pair-miss i j (renamed_of i) zero_sector s y (ltb i j) p q in
       let out = freed-outside (owns_from (catalogue_of x) j 0) (catalogue_of x).geometry x s (over pair s y) l in (
@@ -152,8 +151,8 @@ module _ (x : Disk) (i : ℕ) (new : List ℕ) (time : ℕ) where
       → (over (behind place) (table_at (catalogue_of x).geometry + t) (x (table_at (catalogue_of x).geometry + t)) ≡ freed_for place (catalogue_of x) t (x (table_at (catalogue_of x).geometry + t)))
       × (hits (behind place) (table_at (catalogue_of x).geometry + t) ≡ held_for place (catalogue_of x) t)
   unfolding renamed_record replacing_records over hits
-  behind-table Nowhere t a b l = rw (ne_eqb (table_at (catalogue_of x).geometry + t) (entry_at i) (λ e. omega arith)) (refl, refl)
-  behind-table (At j) t a b l =
+  behind-table None t a b l = rw (ne_eqb (table_at (catalogue_of x).geometry + t) (entry_at i) (λ e. omega arith)) (refl, refl)
+  behind-table (Some j) t a b l =
       let s = table_at (catalogue_of x).geometry + t in
       let pair = pair_of i j (renamed_of i) zero_sector (ltb i j) in
       let m = pair-miss i j (renamed_of i) zero_sector s (x s) (ltb i j) (λ e. omega arith) (λ e. omega arith) in
@@ -373,8 +372,8 @@ count_below-one i (suc n) = go (eqb i n) refl (count_below-one i n)
     go false e r = omega arith
 
 slot-one : (p : Lowest) (n : ℕ) → count_below (is_slot p) n ≤ 1
-slot-one Nowhere n = omega (arith, count_below-none (λ k. false) n (any_below-no (λ k. false) n (λ k l. refl)))
-slot-one (At j) n = count_below-one j n
+slot-one None n = omega (arith, count_below-none (λ k. false) n (any_below-no (λ k. false) n (λ k l. refl)))
+slot-one (Some j) n = count_below-one j n
 
 module _ (d : Disk) (names lengths : List ℕ) (time : ℕ) where
   abbrev geometry : Geometry

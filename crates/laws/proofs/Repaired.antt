@@ -8,9 +8,8 @@ use mathlib.Core.Option.{Option, none, some}
 use native.Mathlib.Omega.{arith}
 use lib.Dec.{eqb, leb}
 use borrow.Author.Tests.{eqb-true, eq-eqb, lt-leb, leb-false}
-use Rattle.model.specs.declared.Lowest.{Lowest}
-use Rattle.model.specs.declared.Lowest.TheVariants.{At, Nowhere}
-use Rattle.model.specs.Search.{scan, first, any_below, all_below, count_below, is_at, index_of}
+use Rattle.std.specs.Prelude.{Some, None}
+use Rattle.model.specs.Search.{Lowest, scan, first, any_below, all_below, count_below, is_at, index_of}
 use Rattle.model.specs.Geometry.{extents_for}
 use Rattle.model.specs.Entry.{Entry}
 use Rattle.model.specs.Catalogue.{Catalogue, Owner, is_free, is_part, owned_from, entry_or, extent_of}
@@ -44,13 +43,13 @@ module _ (p : ℕ → Bool) where
   first-lowest zero = refl
   first-lowest (suc n) =
       first-suc lowest n
-      ∙ ap₂ (λ (r : Lowest) (b : Bool). or_found r (cond (p n && not b) (At n) Nowhere)) (first-lowest n) (any_below-first p n)
+      ∙ ap₂ (λ (r : Lowest) (b : Bool). or_found r (cond (p n && not b) (Some n) None)) (first-lowest n) (any_below-first p n)
       ∙ go (first p n) (p n) ∙ sym (first-suc p n)
     where
-      go : (r : Lowest) (a : Bool) → or_found r (cond (a && not (is_at r)) (At n) Nowhere) ≡ or_found r (cond a (At n) Nowhere)
-      go (At k) a = refl
-      go Nowhere true = refl
-      go Nowhere false = refl
+      go : (r : Lowest) (a : Bool) → or_found r (cond (a && not (is_at r)) (Some n) None) ≡ or_found r (cond a (Some n) None)
+      go (Some k) a = refl
+      go None true = refl
+      go None false = refl
 
   -- of two that pass the count is above 1
   pub count_below-two : (n a b : ℕ) → a < b → b < n → p a ≡ true → p b ≡ true → 1 < count_below p n

@@ -13,10 +13,9 @@ use lib.ListN.{length, get_or, length-append, get_or-append}
 use lib.Seq.{get_or_at}
 use lib.Dec.{eqb}
 use borrow.Author.Tests.{eq-eqb, ne_eqb, eqb-true, eqb-false}
-use Rattle.model.specs.declared.Lowest.{Lowest}
-use Rattle.model.specs.declared.Lowest.TheVariants.{At, Nowhere}
+use Rattle.std.specs.Prelude.{Some, None}
 use Rattle.model.specs.Bytes.{bytes_from}
-use Rattle.model.specs.Search.{scan, first, any_below, all_below, count_below, tabulate, concatenated, equal_bytes}
+use Rattle.model.specs.Search.{Lowest, scan, first, any_below, all_below, count_below, tabulate, concatenated, equal_bytes}
 use Rattle.laws.proofs.Booleans.{and_left, and_right, and_yes, and-false, or_right, or-none}
 use Rattle.laws.proofs.Bytes.{length-bytes_from, get_or-bytes_from}
 
@@ -26,7 +25,7 @@ module _ (p : ℕ → Bool) (n i : ℕ) where
   more : i < n → n - i ≡ suc (n - (i + 1))
   more h = omega arith
 
-  pub scan-here : i < n → p i ≡ true → scan p (n - i) i ≡ At i
+  pub scan-here : i < n → p i ≡ true → scan p (n - i) i ≡ Some i
   unfolding scan
   scan-here h t = rw (more h) (rw t)
 
@@ -34,34 +33,34 @@ module _ (p : ℕ → Bool) (n i : ℕ) where
   unfolding scan
   scan-next h t = rw (more h) (rw (t, add-one i))
 
-  pub scan-end : n ≤ i → scan p (n - i) i ≡ Nowhere
+  pub scan-end : n ≤ i → scan p (n - i) i ≡ None
   unfolding scan
   scan-end h = let z : n - i ≡ 0 = omega arith in rw z
 
 -- ---- what a search says
 
-pub scan-none : (p : ℕ → Bool) (n i : ℕ) → ((k : ℕ) → i ≤ k → k < i + n → p k ≡ false) → scan p n i ≡ Nowhere
+pub scan-none : (p : ℕ → Bool) (n i : ℕ) → ((k : ℕ) → i ≤ k → k < i + n → p k ≡ false) → scan p n i ≡ None
 unfolding scan
 scan-none p zero i h = refl
 scan-none p (suc n) i h =
-    ap (λ (b : Bool). cond b (At i) (scan p n (suc i))) (h i (omega arith) (omega arith)) ∙ scan-none p n (suc i) (λ k a b. h k (omega arith) (omega arith))
+    ap (λ (b : Bool). cond b (Some i) (scan p n (suc i))) (h i (omega arith) (omega arith)) ∙ scan-none p n (suc i) (λ k a b. h k (omega arith) (omega arith))
 
-pub first-none : (p : ℕ → Bool) (n : ℕ) → ((k : ℕ) → k < n → p k ≡ false) → first p n ≡ Nowhere
+pub first-none : (p : ℕ → Bool) (n : ℕ) → ((k : ℕ) → k < n → p k ≡ false) → first p n ≡ None
 first-none p n h = scan-none p (n - 0) 0 (λ k a b. h k (omega arith))
 
 pub scan-ext : (p q : ℕ → Bool) (n i : ℕ) → ((k : ℕ) → i ≤ k → k < i + n → p k ≡ q k) → scan p n i ≡ scan q n i
 unfolding scan
 scan-ext p q zero i h = refl
 scan-ext p q (suc n) i h =
-    ap₂ (λ (b : Bool) (r : Lowest). cond b (At i) r) (h i (omega arith) (omega arith)) (scan-ext p q n (suc i) (λ k a b. h k (omega arith) (omega arith)))
+    ap₂ (λ (b : Bool) (r : Lowest). cond b (Some i) r) (h i (omega arith) (omega arith)) (scan-ext p q n (suc i) (λ k a b. h k (omega arith) (omega arith)))
 
 pub first-ext : (p q : ℕ → Bool) (n : ℕ) → ((k : ℕ) → k < n → p k ≡ q k) → first p n ≡ first q n
 first-ext p q n h = scan-ext p q (n - 0) 0 (λ k a b. h k (omega arith))
 
 -- an index found is below the bound and passes; where none is found none passes
 abbrev pub Hit : (ℕ → Bool) → ℕ → ℕ → Lowest → Type 0
-Hit p n i (At k) = (i ≤ k) × (k < i + n) × (p k ≡ true)
-Hit p n i Nowhere = (k : ℕ) → i ≤ k → k < i + n → p k ≡ false
+Hit p n i (Some k) = (i ≤ k) × (k < i + n) × (p k ≡ true)
+Hit p n i None = (k : ℕ) → i ≤ k → k < i + n → p k ≡ false
 
 none-next : (p : ℕ → Bool) (n i : ℕ) → p i ≡ false → ((k : ℕ) → suc i ≤ k → k < suc i + n → p k ≡ false) → (k : ℕ) → i ≤ k → k < i + suc n → p k ≡ false
 none-next p n i e h k a b = go (dec_lt i k)
@@ -71,21 +70,21 @@ none-next p n i e h k a b = go (dec_lt i k)
     go (no l) = let q : k ≡ i = omega arith in ap p q ∙ e
 
 hit-next : (p : ℕ → Bool) (n i : ℕ) (r : Lowest) → p i ≡ false → Hit p n (suc i) r → Hit p (suc n) i r
-hit-next p n i (At k) e h = (omega (arith, h.0), omega (arith, h.1), h.2)
-hit-next p n i Nowhere e h = none-next p n i e h
+hit-next p n i (Some k) e h = (omega (arith, h.0), omega (arith, h.1), h.2)
+hit-next p n i None e h = none-next p n i e h
 
 pub scan-hit : (p : ℕ → Bool) (n i : ℕ) → Hit p n i (scan p n i)
 unfolding scan
 scan-hit p zero i = λ k a b. absurd (let q : i < i + 0 = omega arith in omega arith)
 scan-hit p (suc n) i = go (p i) refl (scan-hit p n (suc i))
   where
-    go : (b : Bool) → p i ≡ b → Hit p n (suc i) (scan p n (suc i)) → Hit p (suc n) i (cond b (At i) (scan p n (suc i)))
+    go : (b : Bool) → p i ≡ b → Hit p n (suc i) (scan p n (suc i)) → Hit p (suc n) i (cond b (Some i) (scan p n (suc i)))
     go true e h = (omega arith, omega arith, e)
     go false e h = hit-next p n i (scan p n (suc i)) e h
 
 -- where the search finds nothing, the test holds nowhere
-pub first-missed : (p : ℕ → Bool) (n : ℕ) → first p n ≡ Nowhere → (j : ℕ) → j < n → p j ≡ false
-first-missed p n e j h = let r : Hit p (n - 0) 0 Nowhere = rw e at (scan-hit p (n - 0) 0) in r j (omega arith) (omega arith)
+pub first-missed : (p : ℕ → Bool) (n : ℕ) → first p n ≡ None → (j : ℕ) → j < n → p j ≡ false
+first-missed p n e j h = let r : Hit p (n - 0) 0 None = rw e at (scan-hit p (n - 0) 0) in r j (omega arith) (omega arith)
 
 -- ---- some, every, count
 

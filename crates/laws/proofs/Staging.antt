@@ -11,7 +11,7 @@ use lib.ListN.{length, get_or, length-append, length-drop, get_or-append}
 use lib.Seq.{get_or_at, get_or-drop}
 use borrow.Author.Tests.{ltb-false}
 use Rattle.model.specs.declared.Geometry.{Geometry}
-use Rattle.model.specs.declared.Lowest.TheVariants.{At}
+use Rattle.std.specs.Prelude.{Some}
 use Rattle.model.specs.Search.{first, count_below, concatenated, index_of}
 use Rattle.model.specs.Geometry.{extent_sectors, reserve_extents, data_at, extent_at, volume_sectors}
 use Rattle.model.specs.Catalogue.{Catalogue, is_free, free_extent, free_below, free_extents, lacks_reserve, staging_extents}
@@ -136,7 +136,7 @@ module _ (c : Catalogue) where
           placed q (no a) = let z : q.at ≡ 0 = omega arith in omega (arith, q.is, ap (λ k. get_or (free_below c n) k 0) z)
       go false t = refl
 
-  pub free-first : (n : ℕ) → 0 < length (free_below c n) → first free n ≡ At (get_or (free_below c n) 0 0)
+  pub free-first : (n : ℕ) → 0 < length (free_below c n) → first free n ≡ Some (get_or (free_below c n) 0 0)
   free-first n h =
       first-there free (get_or (free_below c n) 0 0) n ((free-rises n).below 0 h)
       (first-none free (get_or (free_below c n) 0 0) (λ j l. below-first n j h l)) ((free-rises n).passes 0 h)
@@ -179,14 +179,14 @@ module _ (c : Catalogue) where
         → index_of (free_extent c) < get_or (staging_extents c) k 0
     unfolding free_extent
     lowest-below h k l =
-        let e : first free N ≡ At (get_or (free_extents c) 0 0) = free-first N (omega arith) in
+        let e : first free N ≡ Some (get_or (free_extents c) 0 0) = free-first N (omega arith) in
         rw (e, staging-at k) ((free-rises N).rising 0 _ (omega arith) (inside k l))
 
     -- with no more than K, the lowest is the first of them
     pub lowest-is : 0 < reserve_extents c.geometry → length (free_extents c) ≡ reserve_extents c.geometry → index_of (free_extent c) ≡ get_or (staging_extents c) 0 0
     unfolding free_extent
     lowest-is h e =
-        let f : first free N ≡ At (get_or (free_extents c) 0 0) = free-first N (omega arith) in
+        let f : first free N ≡ Some (get_or (free_extents c) 0 0) = free-first N (omega arith) in
         let z : length (free_extents c) - reserve_extents c.geometry + 0 ≡ 0 = omega arith in
         ap index_of f ∙ sym (staging-at 0 ∙ ap (λ k. get_or (free_extents c) k 0) z)
 

@@ -71,10 +71,7 @@ pub fn of(edition: u64) -> Edition
     ensures result_value { layout_in result ≡ layout_of edition }
     ensures in_sector { InSector result }
 {
-    if edition == 2 {
-        return SECOND;
-    }
-    FIRST
+    if edition == 2 { SECOND } else { FIRST }
 }
 
 // Where an entry's name starts.
@@ -82,32 +79,24 @@ pub fn name_start(edition: u64) -> usize
     ensures value { result ≡ (layout_of edition).name }
     ensures edition_value { result + (layout_of edition).longest_name ≡ 512 }
 {
-    let e = of(edition);
-    e.name
+    of(edition).name
 }
 
 pub fn longest_name(edition: u64) -> usize
     ensures { result ≡ (layout_of edition).longest_name }
 {
-    let e = of(edition);
-    e.longest_name
+    of(edition).longest_name
 }
 
 pub fn is_edition(version: u64) -> bool
     ensures { result ≡ is_edition version }
 {
-    if version == 1 {
-        return true;
-    }
-    version == 2
+    version == 1 || version == 2
 }
 
 // A time that the edition's fields cannot hold.
 pub fn bad_time(edition: u64, time: u64) -> bool
     ensures { result ≡ bad_time edition time }
 {
-    if edition == 2 {
-        return false;
-    }
-    4294967295 < time
+    edition != 2 && u64::from(u32::MAX) < time
 }

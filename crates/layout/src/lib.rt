@@ -47,7 +47,7 @@ fn owned(s: &[u8]) -> [u8; 512]
     ensures { result ≡ s.now }
 {
     let mut a = [0u8; 512];
-    fields::copy_bytes(s, 0, &mut a, 0, 512);
+    a.copy_from_slice(s);
     a
 }
 
@@ -56,5 +56,5 @@ fn raised_version(version: u64) -> u64
     requires { version < 4294967296 }
     ensures { result ≡ raised version }
 {
-    std::num::wrapping_add_u32(version as u32, 1) as u64
+    u64::from((version as u32).wrapping_add(1))
 }

@@ -4,6 +4,7 @@ ghost use Rattle.model.specs.Bytes.{number_in};
 ghost use Rattle.model.specs.Root.{root_field, updated_root_sector, accessed_root_sector, new_root_sector};
 
 use super::Field;
+use super::edition::of;
 
 const VERSION: Field = Field {
     offset: 0,
@@ -32,12 +33,10 @@ pub fn updated(s: &[u8], edition: u64, time: u64) -> [u8; 512]
     requires { length s.now ≡ 512 }
     ensures { result ≡ updated_root_sector edition time s.now }
 {
-    let e = super::edition::of(edition);
-    let change = e.root_change_time;
-    let mut a = super::owned(s);
     let version = super::raised_version(super::number_in(s, VERSION));
+    let mut a = super::owned(s);
     super::set_to(&mut a, VERSION, version);
-    super::set_to(&mut a, change, time);
+    super::set_to(&mut a, of(edition).root_change_time, time);
     a
 }
 
@@ -46,10 +45,8 @@ pub fn accessed(s: &[u8], edition: u64, time: u64) -> [u8; 512]
     requires { length s.now ≡ 512 }
     ensures { result ≡ accessed_root_sector edition time s.now }
 {
-    let e = super::edition::of(edition);
-    let f = e.root_access_time;
     let mut a = super::owned(s);
-    super::set_to(&mut a, f, time);
+    super::set_to(&mut a, of(edition).root_access_time, time);
     a
 }
 
@@ -57,13 +54,11 @@ pub fn accessed(s: &[u8], edition: u64, time: u64) -> [u8; 512]
 pub fn new(edition: u64, id: u64, mode: u32, time: u64) -> [u8; 512]
     ensures { result ≡ new_root_sector edition id mode time }
 {
-    let e = super::edition::of(edition);
-    let access = e.root_access_time;
-    let change = e.root_change_time;
+    let e = of(edition);
     let mut a = super::zero_sector();
     super::set_to(&mut a, ID, id);
     super::set_to(&mut a, MODE, mode as u64);
-    super::set_to(&mut a, access, time);
-    super::set_to(&mut a, change, time);
+    super::set_to(&mut a, e.root_access_time, time);
+    super::set_to(&mut a, e.root_change_time, time);
     a
 }

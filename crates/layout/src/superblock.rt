@@ -23,8 +23,6 @@ const EXTENT_SECTORS: Field = Field {
 
 const MAGIC: usize = 8;
 
-const MAGIC_END: usize = 16;
-
 const VERSION: Field = Field {
     offset: 16,
     width: 2,
@@ -42,25 +40,18 @@ pub fn is_volume(s: &[u8]) -> bool
     requires { length s.now ≡ 512 }
     ensures { result ≡ is_volume s.now }
 {
-    if fields::starts_with(&s[MAGIC..MAGIC_END], b"/Goo/FS/") {
-        return super::edition::is_edition(super::number_in(s, VERSION));
-    }
-    false
+    s[MAGIC..].starts_with(b"/Goo/FS/") && super::edition::is_edition(super::number_in(s, VERSION))
 }
 
 pub fn geometry(s: &[u8]) -> Geometry
     requires { length s.now ≡ 512 }
     ensures { result ≡ geometry_in s.now }
 {
-    let files = super::number_in(s, FILES);
-    let extents = super::number_in(s, EXTENTS);
-    let extent_sectors = super::number_in(s, EXTENT_SECTORS) as u32;
-    let edition = super::number_in(s, VERSION);
     Geometry {
-        files,
-        extents,
-        extent_sectors,
-        edition,
+        files: super::number_in(s, FILES),
+        extents: super::number_in(s, EXTENTS),
+        extent_sectors: super::number_in(s, EXTENT_SECTORS) as u32,
+        edition: super::number_in(s, VERSION),
     }
 }
 

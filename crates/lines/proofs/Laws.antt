@@ -11,6 +11,7 @@ use Rattle.model.specs.declared.FileIndex.{FileIndex}
 use Rattle.model.specs.declared.Geometry.{Geometry}
 use Rattle.model.specs.declared.Line.{Line}
 use Rattle.model.specs.declared.Line.TheVariants.{Nothing, Refused, Fault, File}
+use Rattle.std.specs.Prelude.{Option, Some, None, is_some}
 use Rattle.lines.specs.declared.Awaited.{Awaited}
 use Rattle.lines.specs.declared.Awaited.TheVariants as awaited
 use Rattle.lines.specs.declared.Step.{Step}
@@ -28,7 +29,7 @@ use Rattle.laws.proofs.Booleans.{or-none}
 use Rattle.laws.proofs.Edition.{name-ends}
 use Rattle.laws.proofs.Named.{short-name}
 use Rattle.laws.proofs.Refusals.{superblock-length, superblock-bounds, first_done}
-use Rattle.lines.specs.Steps.{step, step_on, entry_from, unless_short, Kept, left, is_awaited, NameInSector}
+use Rattle.lines.specs.Steps.{step, step_on, entry_from, unless_short, Kept, left, NameInSector}
 
 -- ---- a superblock that passes
 
@@ -59,90 +60,90 @@ name-within g i s = go (bad_mark s) (is_occupied s) (bad_entry g (entry_in g.edi
     go false true true e = tt
     go false true false e = omega (arith, short-name g.edition n (or-none (bad_name g.edition n) _ e).0, name-ends g.edition)
 
-pub line-within : (s : List ℕ) (next : Awaited) → NameInSector (step_on s next).line
+pub line-within : (s : List ℕ) (next : Option Awaited) → NameInSector (step_on s next).line
 unfolding step_on
-line-within s awaited.Superblock = go (is_done (listing_verdict (length s) (view s)))
+line-within s (Some awaited.Superblock) = go (is_done (listing_verdict (length s) (view s)))
   where
     go : (b : Bool)
-        → NameInSector (cond b (step Nothing (awaited.Root (geometry_in (view s superblock_at)))) (step (Refused (listing_verdict (length s) (view s)).number) awaited.None)).line
+        → NameInSector (cond b (step Nothing (Some (awaited.Root (geometry_in (view s superblock_at))))) (step (Refused (listing_verdict (length s) (view s)).number) None)).line
     go true = tt
     go false = tt
-line-within s (awaited.Root g) = go (ltb (length s) 512)
+line-within s (Some (awaited.Root g)) = go (ltb (length s) 512)
   where
-    go : (b : Bool) → NameInSector (cond b (step (Refused 1) awaited.None) (step Nothing (entry_from g 0))).line
+    go : (b : Bool) → NameInSector (cond b (step (Refused 1) None) (step Nothing (entry_from g 0))).line
     go true = tt
     go false = tt
-line-within s (awaited.Entry g i) = go (ltb (length s) 512)
+line-within s (Some (awaited.Entry g i)) = go (ltb (length s) 512)
   where
-    go : (b : Bool) → NameInSector (cond b (step (Refused 1) awaited.None) (step (entry_line g i.0 s) (entry_from g (i.0 + 1)))).line
+    go : (b : Bool) → NameInSector (cond b (step (Refused 1) None) (step (entry_line g i.0 s) (entry_from g (i.0 + 1)))).line
     go true = tt
     go false = name-within g i.0 s
-line-within s awaited.None = tt
+line-within s None = tt
 
 -- ---- what steps keep
 
 entry_kept : (g : Geometry) (i : FileNumber) → Bounded g → Kept (entry_from g i)
 entry_kept g i b = go (ltb i g.files) refl
   where
-    go : (t : Bool) → ltb i g.files ≡ t → Kept (cond t (awaited.Entry g (record { 0 = i })) awaited.None)
+    go : (t : Bool) → ltb i g.files ≡ t → Kept (cond t (Some (awaited.Entry g (record { 0 = i }))) None)
     go true e = (b, ltb-true i g.files e)
     go false e = tt
 
-short-kept : (s : List ℕ) (line : Line) (next : Awaited) → Kept next → Kept (unless_short s (step line next)).next
+short-kept : (s : List ℕ) (line : Line) (next : Option Awaited) → Kept next → Kept (unless_short s (step line next)).next
 short-kept s line next k = go (ltb (length s) 512)
   where
-    go : (b : Bool) → Kept (cond b (step (Refused 1) awaited.None) (step line next)).next
+    go : (b : Bool) → Kept (cond b (step (Refused 1) None) (step line next)).next
     go true = tt
     go false = k
 
-pub root_kept : (s : List ℕ) (g : Geometry) → Bounded g → Kept (step_on s (awaited.Root g)).next
+pub root_kept : (s : List ℕ) (g : Geometry) → Bounded g → Kept (step_on s (Some (awaited.Root g))).next
 unfolding step_on
 root_kept s g b = short-kept s Nothing (entry_from g 0) (entry_kept g 0 b)
 
-pub entry-step-kept : (s : List ℕ) (g : Geometry) (i : FileIndex) → Bounded g → Kept (step_on s (awaited.Entry g i)).next
+pub entry-step-kept : (s : List ℕ) (g : Geometry) (i : FileIndex) → Bounded g → Kept (step_on s (Some (awaited.Entry g i))).next
 unfolding step_on
 entry-step-kept s g i b = short-kept s (entry_line g i.0 s) (entry_from g (i.0 + 1)) (entry_kept g (i.0 + 1) b)
 
 -- ---- steps end
 
 -- a sector that is awaited is one that is left
-pub awaited-left : (next : Awaited) → Kept next → is_awaited next ≡ true → 0 < left next
-awaited-left awaited.Superblock k e = omega arith
-awaited-left (awaited.Root g) k e = omega arith
-awaited-left (awaited.Entry g i) k e = omega (arith, k.1)
-awaited-left awaited.None k e = absurd (false≢true e)
+pub awaited-left : (next : Option Awaited) → Kept next → is_some next ≡ true → 0 < left next
+awaited-left (Some awaited.Superblock) k e = omega arith
+awaited-left (Some (awaited.Root g)) k e = omega arith
+awaited-left (Some (awaited.Entry g i)) k e = omega (arith, k.1)
+awaited-left None k e = absurd (false≢true e)
 
 entry-left : (g : Geometry) (i n : ℕ) → g.files ≤ i + n → left (entry_from g i) ≤ n
 entry-left g i n h = go (ltb i g.files)
   where
-    go : (t : Bool) → left (cond t (awaited.Entry g (record { 0 = i })) awaited.None) ≤ n
+    go : (t : Bool) → left (cond t (Some (awaited.Entry g (record { 0 = i }))) None) ≤ n
     go true = omega arith
     go false = omega arith
 
-short-left : (s : List ℕ) (line : Line) (next : Awaited) (n : ℕ) → left next ≤ n → left (unless_short s (step line next)).next ≤ n
+short-left : (s : List ℕ) (line : Line) (next : Option Awaited) (n : ℕ) → left next ≤ n → left (unless_short s (step line next)).next ≤ n
 short-left s line next n h = go (ltb (length s) 512)
   where
-    go : (b : Bool) → left (cond b (step (Refused 1) awaited.None) (step line next)).next ≤ n
+    go : (b : Bool) → left (cond b (step (Refused 1) None) (step line next)).next ≤ n
     go true = omega arith
     go false = h
 
-pub falls : (s : List ℕ) (next : Awaited) → Kept (step_on s next).next → left (step_on s next).next ≤ left next - 1
+pub falls : (s : List ℕ) (next : Option Awaited) → Kept (step_on s next).next → left (step_on s next).next ≤ left next - 1
 unfolding step_on
-falls s awaited.Superblock k = go (is_done (listing_verdict (length s) (view s))) k
+falls s (Some awaited.Superblock) k = go (is_done (listing_verdict (length s) (view s))) k
   where
     after : Bool → Step
-    after b = cond b (step Nothing (awaited.Root (geometry_in (view s superblock_at)))) (step (Refused (listing_verdict (length s) (view s)).number) awaited.None)
+    after b = cond b (step Nothing (Some (awaited.Root (geometry_in (view s superblock_at))))) (step (Refused (listing_verdict (length s) (view s)).number) None)
 
     go : (b : Bool) → Kept (after b).next → left (after b).next ≤ most_files + 1
     go true k = omega (arith, k.files-high)
     go false k = omega arith
-falls s (awaited.Root g) k = short-left s Nothing (entry_from g 0) (g.files + 1 - 1) (entry-left g 0 (g.files + 1 - 1) (omega arith))
-falls s (awaited.Entry g i) k =
+falls s (Some (awaited.Root g)) k = short-left s Nothing (entry_from g 0) (g.files + 1 - 1) (entry-left g 0 (g.files + 1 - 1) (omega arith))
+falls s (Some (awaited.Entry g i)) k =
     short-left s (entry_line g i.0 s) (entry_from g (i.0 + 1)) (g.files - i.0 - 1) (entry-left g (i.0 + 1) (g.files - i.0 - 1) (omega arith))
-falls s awaited.None k = omega arith
+falls s None k = omega arith
 
 -- all that a step's contract says, by what the step is and what it keeps
-pub outcome : (s : List ℕ) (next : Awaited) (r : Step) → r ≡ step_on s next → Kept r.next
+pub outcome : (s : List ℕ) (next : Option Awaited) (r : Step) → r ≡ step_on s next → Kept r.next
     → (r ≡ step_on s next) × (NameInSector r.line × (Kept r.next × (left r.next ≤ left next - 1)))
 outcome s next r e k = (
   e,

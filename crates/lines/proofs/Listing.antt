@@ -9,9 +9,10 @@ use lib.Dec.{leb, ltb}
 use lib.ListN.{length, drop, length-take, length-drop}
 use borrow.Author.Tests.{lt-ltb, le-ltb, eqb-true, leb-true}
 use Rattle.model.specs.declared.Geometry.{Geometry}
-use Rattle.model.specs.declared.Verdict.{Verdict}
+use Rattle.model.specs.Answers.{Verdict}
 use Rattle.model.specs.declared.Line.{Line}
 use Rattle.model.specs.declared.Line.TheVariants.{Nothing, Refused}
+use Rattle.std.specs.Prelude.{Option, Some, None}
 use Rattle.lines.specs.declared.Awaited.{Awaited}
 use Rattle.lines.specs.declared.Awaited.TheVariants as awaited
 use Rattle.lines.specs.declared.Step.{Step}
@@ -30,17 +31,17 @@ use Rattle.lines.proofs.Laws.{listing-length, listing-bounds}
 
 -- ---- one step
 
-short-step : (s : List ℕ) (r : Step) → ltb (length s) 512 ≡ true → unless_short s r ≡ step (Refused 1) awaited.None
+short-step : (s : List ℕ) (r : Step) → ltb (length s) 512 ≡ true → unless_short s r ≡ step (Refused 1) None
 short-step s r h = rw h
 
 whole-step : (s : List ℕ) (r : Step) → ltb (length s) 512 ≡ false → unless_short s r ≡ r
 whole-step s r h = rw h
 
-on-root : (s : List ℕ) (g : Geometry) → step_on s (awaited.Root g) ≡ unless_short s (step Nothing (entry_from g 0))
+on-root : (s : List ℕ) (g : Geometry) → step_on s (Some (awaited.Root g)) ≡ unless_short s (step Nothing (entry_from g 0))
 unfolding step_on
 on-root s g = refl
 
-on-entry : (s : List ℕ) (g : Geometry) (i : FileNumber) → step_on s (awaited.Entry g (record { 0 = i })) ≡ unless_short s (step (entry_line g i s) (entry_from g (i + 1)))
+on-entry : (s : List ℕ) (g : Geometry) (i : FileNumber) → step_on s (Some (awaited.Entry g (record { 0 = i }))) ≡ unless_short s (step (entry_line g i s) (entry_from g (i + 1)))
 unfolding step_on
 on-entry s g i = refl
 
@@ -90,20 +91,20 @@ module _ (input : List ℕ) where
 
   -- ---- what follows a step
 
-  none-lines : (n k : ℕ) → lines_from input n k awaited.None ≡ []
+  none-lines : (n k : ℕ) → lines_from input n k None ≡ []
   unfolding lines_from step_on
   none-lines zero k = refl
   none-lines (suc n) k = none-lines n (k + 1)
 
-  after : (n k : ℕ) (next : Awaited) (r : Step) → step_on (sector_read input k) next ≡ r
+  after : (n k : ℕ) (next : Option Awaited) (r : Step) → step_on (sector_read input k) next ≡ r
       → lines_from input (suc n) k next ≡ printed r.line ++ lines_from input n (k + 1) r.next
   unfolding lines_from
   after n k next r e = ap (λ (x : Step). printed x.line ++ lines_from input n (k + 1) x.next) e
 
-  after-short : (n k : ℕ) (next : Awaited) (r : Step) → step_on (sector_read input k) next ≡ unless_short (sector_read input k) r → sectors ≤ k
+  after-short : (n k : ℕ) (next : Option Awaited) (r : Step) → step_on (sector_read input k) next ≡ unless_short (sector_read input k) r → sectors ≤ k
       → lines_from input (suc n) k next ≡ Refused 1 ∷ []
   after-short n k next r e h =
-      after n k next (step (Refused 1) awaited.None) (e ∙ short-step (sector_read input k) r (read_short k h))
+      after n k next (step (Refused 1) None) (e ∙ short-step (sector_read input k) r (read_short k h))
       ∙ ap (λ x. (Refused 1 ∷ []) ++ x) (none-lines n (k + 1))
 
   module _ (g : Geometry) where
@@ -124,20 +125,20 @@ module _ (input : List ℕ) where
     entry-lines : (m i n : ℕ) → i + suc m ≡ g.files → entry_at i ≤ sectors
         → (entry_at i < sectors
         → lines_from input n (entry_at (i + 1)) (entry_from g (i + 1)) ≡ concatenated line (i + 1) (min m (sectors - entry_at (i + 1))) ++ ending)
-        → lines_from input (suc n) (entry_at i) (awaited.Entry g (record { 0 = i })) ≡ concatenated line i (min (suc m) (sectors - entry_at i)) ++ ending
+        → lines_from input (suc n) (entry_at i) (Some (awaited.Entry g (record { 0 = i }))) ≡ concatenated line i (min (suc m) (sectors - entry_at i)) ++ ending
     entry-lines m i n e h later = go (dec_lt (entry_at i) sectors)
       where
-        go : Dec (entry_at i < sectors) → lines_from input (suc n) (entry_at i) (awaited.Entry g (record { 0 = i })) ≡ concatenated line i (min (suc m) (sectors - entry_at i)) ++ ending
+        go : Dec (entry_at i < sectors) → lines_from input (suc n) (entry_at i) (Some (awaited.Entry g (record { 0 = i }))) ≡ concatenated line i (min (suc m) (sectors - entry_at i)) ++ ending
         go (yes k) =
             let here = sector_read input (entry_at i) in
             let next = entry_from g (i + 1) in
             let rest = min m (sectors - entry_at (i + 1)) in
-            let stepped : step_on here (awaited.Entry g (record { 0 = i })) ≡ step (entry_line g i (view input (entry_at i))) next =
+            let stepped : step_on here (Some (awaited.Entry g (record { 0 = i }))) ≡ step (entry_line g i (view input (entry_at i))) next =
             on-entry here g i ∙ whole-step here (step (entry_line g i here) next) (read_whole (entry_at i) k) ∙ ap (λ s. step (entry_line g i s) next) (whole-read (entry_at i) k) in
             let a : entry_at i + 1 ≡ entry_at (i + 1) = omega arith in
             let b : i + 1 ≡ suc i = omega arith in
             let c : suc rest ≡ min (suc m) (sectors - entry_at i) = omega arith in
-            after n (entry_at i) (awaited.Entry g (record { 0 = i })) (step (entry_line g i (view input (entry_at i))) next) stepped
+            after n (entry_at i) (Some (awaited.Entry g (record { 0 = i }))) (step (entry_line g i (view input (entry_at i))) next) stepped
             ∙ ap (λ x. line i ++ lines_from input n x next) a
             ∙ ap (λ x. line i ++ x) (later k ∙ ap (λ x. concatenated line x rest ++ ending) b)
             ∙ sym (append_assoc (line i) (concatenated line (suc i) rest) ending)
@@ -147,7 +148,7 @@ module _ (input : List ℕ) where
             let here = sector_read input (entry_at i) in
             let z : min (suc m) (sectors - entry_at i) ≡ 0 = omega arith in
             let cut : ltb sectors (journal_at g) ≡ true = lt-ltb sectors (journal_at g) (omega arith) in
-            after-short n (entry_at i) (awaited.Entry g (record { 0 = i })) (step (entry_line g i here) (entry_from g (i + 1))) (on-entry here g i) (omega arith)
+            after-short n (entry_at i) (Some (awaited.Entry g (record { 0 = i }))) (step (entry_line g i here) (entry_from g (i + 1))) (on-entry here g i) (omega arith)
             ∙ sym (ending-cut (min (suc m) (sectors - entry_at i)) i z cut)
 
     entries : (m i n : ℕ) → i + m ≡ g.files → m ≤ n → entry_at i ≤ sectors
@@ -164,19 +165,19 @@ module _ (input : List ℕ) where
         rw there (entry-lines m i n e h (λ k. entries m (i + 1) n (omega arith) (omega arith) (omega arith)))
 
     -- from the root on
-    directory : (n : ℕ) → g.files ≤ n → lines_from input (suc n) 1 (awaited.Root g) ≡ directory_lines g sectors (view input)
+    directory : (n : ℕ) → g.files ≤ n → lines_from input (suc n) 1 (Some (awaited.Root g)) ≡ directory_lines g sectors (view input)
     unfolding directory_lines
     directory n l = go (dec_lt 1 sectors)
       where
-        go : Dec (1 < sectors) → lines_from input (suc n) 1 (awaited.Root g) ≡ concatenated line 0 (min g.files (sectors - entry_at 0)) ++ ending
+        go : Dec (1 < sectors) → lines_from input (suc n) 1 (Some (awaited.Root g)) ≡ concatenated line 0 (min g.files (sectors - entry_at 0)) ++ ending
         go (yes k) =
             let root = sector_read input 1 in
-            after n 1 (awaited.Root g) (step Nothing (entry_from g 0)) (on-root root g ∙ whole-step root (step Nothing (entry_from g 0)) (read_whole 1 k))
+            after n 1 (Some (awaited.Root g)) (step Nothing (entry_from g 0)) (on-root root g ∙ whole-step root (step Nothing (entry_from g 0)) (read_whole 1 k))
             ∙ entries g.files 0 n (omega arith) l (omega arith)
         go (no k) =
             let z : min g.files (sectors - entry_at 0) ≡ 0 = omega arith in
             let cut : ltb sectors (journal_at g) ≡ true = lt-ltb sectors (journal_at g) (omega arith) in
-            after-short n 1 (awaited.Root g) (step Nothing (entry_from g 0)) (on-root (sector_read input 1) g) (omega arith)
+            after-short n 1 (Some (awaited.Root g)) (step Nothing (entry_from g 0)) (on-root (sector_read input 1) g) (omega arith)
             ∙ sym (ending-cut (min g.files (sectors - entry_at 0)) 0 z cut)
 
   -- ---- the superblock
@@ -205,30 +206,30 @@ module _ (input : List ℕ) where
           let b : ltb (length input) 512 ≡ false = le-ltb (length input) 512 (omega arith) in
           rw (a, b) (ap (verdict_by false) (first-view (omega arith)))
 
-  refused : is_done verdict ≡ false → step_on first awaited.Superblock ≡ step (Refused verdict.number) awaited.None
+  refused : is_done verdict ≡ false → step_on first (Some awaited.Superblock) ≡ step (Refused verdict.number) None
   unfolding step_on
   refused e = rw (verdict-same, e)
 
-  passed : is_done verdict ≡ true → step_on first awaited.Superblock ≡ step Nothing (awaited.Root (geometry_in (view input superblock_at)))
+  passed : is_done verdict ≡ true → step_on first (Some awaited.Superblock) ≡ step Nothing (Some (awaited.Root (geometry_in (view input superblock_at))))
   unfolding step_on
   passed e =
       let h : 512 ≤ length input = listing-length (length input) (view input) (eqb-true verdict.number 0 e) in
-      rw (verdict-same, e) (ap (λ s. step Nothing (awaited.Root (geometry_in s))) (first-view h))
+      rw (verdict-same, e) (ap (λ s. step Nothing (Some (awaited.Root (geometry_in s)))) (first-view h))
 
   -- all that the program prints: F + 2 steps are enough, and any further one prints nothing
-  pub listing : (n : ℕ) → most_files + 2 ≤ n → lines_from input n 0 awaited.Superblock ≡ listing_lines (length input) (view input)
+  pub listing : (n : ℕ) → most_files + 2 ≤ n → lines_from input n 0 (Some awaited.Superblock) ≡ listing_lines (length input) (view input)
   unfolding listing_lines
   listing zero l = absurd (omega arith)
   listing (suc zero) l = absurd (omega arith)
   listing (suc (suc n)) l = go (is_done verdict) refl
     where
       go : (b : Bool) → is_done verdict ≡ b
-          → lines_from input (suc (suc n)) 0 awaited.Superblock
+          → lines_from input (suc (suc n)) 0 (Some awaited.Superblock)
           ≡ cond b (directory_lines (geometry_in (view input superblock_at)) sectors (view input)) (Refused verdict.number ∷ [])
       go true e =
           let g = geometry_in (view input superblock_at) in
           let f = files-most g (listing-bounds (length input) (view input) (eqb-true verdict.number 0 e)) in
-          after (suc n) 0 awaited.Superblock (step Nothing (awaited.Root g)) (passed e) ∙ directory g n (omega arith)
+          after (suc n) 0 (Some awaited.Superblock) (step Nothing (Some (awaited.Root g))) (passed e) ∙ directory g n (omega arith)
       go false e =
-          after (suc n) 0 awaited.Superblock (step (Refused verdict.number) awaited.None) (refused e)
+          after (suc n) 0 (Some awaited.Superblock) (step (Refused verdict.number) None) (refused e)
           ∙ ap (λ x. (Refused verdict.number ∷ []) ++ x) (none-lines (suc n) 1)

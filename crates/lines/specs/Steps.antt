@@ -1,6 +1,6 @@
 -- What the listing program does with one sector: the line that it prints, and what it awaits next. `proofs/Listing` shows that the steps over
 -- an input print the lines that `listing_lines` says.
-use Rattle.std.specs.Prelude.{ℕ, zero, suc, ◌+◌, ◌-◌, ◌*◌, ◌<◌, ◌≤◌, Bool, true, false, cond, List, [], ◌++◌, ltb, length, take, drop}
+use Rattle.std.specs.Prelude.{ℕ, zero, suc, ◌+◌, ◌-◌, ◌*◌, ◌<◌, ◌≤◌, cond, List, [], ◌++◌, ltb, length, take, drop, Option, Some, None}
 use Rattle.model.specs.declared.Geometry.{Geometry}
 use Rattle.model.specs.declared.Line.{Line}
 use Rattle.model.specs.declared.Line.TheVariants.{Nothing, Refused, Fault, File}
@@ -14,44 +14,38 @@ use Rattle.model.specs.Refusals.{given}
 use Rattle.model.specs.Lines.{listing_verdict, entry_line, printed}
 use Rattle.model.specs.Opened.{Bounded}
 
-abbrev pub step : Line → Awaited → Step
+abbrev pub step : Line → Option Awaited → Step
 step line next = record { line = line; next = next }
 
 -- entry i, or nothing at the directory's end
-abbrev pub entry_from : Geometry → FileNumber → Awaited
-entry_from g i = cond (ltb i g.files) (awaited.Entry g (record { 0 = i })) awaited.None
+abbrev pub entry_from : Geometry → FileNumber → Option Awaited
+entry_from g i = cond (ltb i g.files) (Some (awaited.Entry g (record { 0 = i }))) None
 
 -- fewer than 512 bytes are the input's end
 abbrev pub unless_short : List ℕ → Step → Step
-unless_short s r = cond (ltb (length s) 512) (step (Refused 1) awaited.None) r
+unless_short s r = cond (ltb (length s) 512) (step (Refused 1) None) r
 
 -- the bytes s were read where the sector awaited should stand
-unfoldable pub step_on : List ℕ → Awaited → Step
-step_on s awaited.Superblock =
-    given (listing_verdict (length s) (view s)) (step Nothing (awaited.Root (geometry_in (view s superblock_at)))) (λ v. step (Refused v.number) awaited.None)
-step_on s (awaited.Root g) = unless_short s (step Nothing (entry_from g 0))
-step_on s (awaited.Entry g i) = unless_short s (step (entry_line g i.0 s) (entry_from g (i.0 + 1)))
-step_on s awaited.None = step Nothing awaited.None
+unfoldable pub step_on : List ℕ → Option Awaited → Step
+step_on s (Some awaited.Superblock) =
+    given (listing_verdict (length s) (view s)) (step Nothing (Some (awaited.Root (geometry_in (view s superblock_at))))) (λ v. step (Refused v.number) None)
+step_on s (Some (awaited.Root g)) = unless_short s (step Nothing (entry_from g 0))
+step_on s (Some (awaited.Entry g i)) = unless_short s (step (entry_line g i.0 s) (entry_from g (i.0 + 1)))
+step_on s None = step Nothing None
 
 -- what steps keep: the geometry is in bounds, and the entry awaited is in the directory
-abbrev pub Kept : Awaited → Type 0
-Kept awaited.Superblock = Unit {0}
-Kept (awaited.Root g) = Bounded g
-Kept (awaited.Entry g i) = Bounded g × (i.0 < g.files)
-Kept awaited.None = Unit {0}
+abbrev pub Kept : Option Awaited → Type 0
+Kept (Some awaited.Superblock) = Unit {0}
+Kept (Some (awaited.Root g)) = Bounded g
+Kept (Some (awaited.Entry g i)) = Bounded g × (i.0 < g.files)
+Kept None = Unit {0}
 
 -- how many sectors are still to be read, at most
-abbrev pub left : Awaited → ℕ
-left awaited.Superblock = most_files + 2
-left (awaited.Root g) = g.files + 1
-left (awaited.Entry g i) = g.files - i.0
-left awaited.None = 0
-
-abbrev pub is_awaited : Awaited → Bool
-is_awaited awaited.Superblock = true
-is_awaited (awaited.Root g) = true
-is_awaited (awaited.Entry g i) = true
-is_awaited awaited.None = false
+abbrev pub left : Option Awaited → ℕ
+left (Some awaited.Superblock) = most_files + 2
+left (Some (awaited.Root g)) = g.files + 1
+left (Some (awaited.Entry g i)) = g.files - i.0
+left None = 0
 
 -- a line's name lies in the sector
 abbrev pub NameInSector : Line → Type 0
@@ -67,7 +61,7 @@ unfoldable pub sector_read : List ℕ → ℕ → List ℕ
 sector_read input k = take 512 (drop (512 * k) input)
 
 -- the lines of n steps, of which the first gets sector k
-unfoldable pub lines_from : List ℕ → ℕ → ℕ → Awaited → List Line
+unfoldable pub lines_from : List ℕ → ℕ → ℕ → Option Awaited → List Line
 lines_from input zero k next = []
 lines_from input (suc n) k next =
     let r = step_on (sector_read input k) next in

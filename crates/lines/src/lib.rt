@@ -8,35 +8,23 @@ ghost use Rattle.model.specs.Edition.{layout_of};
 ghost use Rattle.model.specs.Entry.{entry_field};
 ghost use Rattle.model.specs.Lines.{entry_line};
 ghost use Rattle.model.specs.Opened.{Bounded};
-ghost use Rattle.lines.specs.Steps.{step, step_on, entry_from, Kept, left, is_awaited, NameInSector};
+ghost use Rattle.lines.specs.Steps.{step, step_on, entry_from, Kept, left, NameInSector};
 
 use model::{FileIndex, Geometry, Line};
 
-// The sector that the program reads next: the superblock, the root or an entry, then none.
+// The sector that the program reads: the superblock, the root or an entry.
 #[derive(Clone, Copy)]
 pub enum Awaited {
     Superblock,
     Root(Geometry),
     Entry(Geometry, FileIndex),
-    None,
 }
 
+// What a sector makes the program print, and which sector it reads next, if one is left.
 #[derive(Clone, Copy)]
 pub struct Step {
     pub line: Line,
-    pub next: Awaited,
-}
-
-// A sector is still to be read.
-pub fn is_awaited(next: Awaited) -> bool
-    ensures { result ≡ is_awaited next }
-{
-    match next {
-        Awaited::Superblock => true,
-        Awaited::Root(_) => true,
-        Awaited::Entry(_, _) => true,
-        Awaited::None => false,
-    }
+    pub next: Option<Awaited>,
 }
 
 // An occupied entry without fault 22.
@@ -67,44 +55,42 @@ fn entry_line(g: Geometry, i: FileIndex, s: &[u8]) -> Line
     Line::Nothing
 }
 
-fn entry_from(g: Geometry, i: FileIndex) -> Awaited
+fn entry_from(g: Geometry, i: FileIndex) -> Option<Awaited>
     ensures { result ≡ entry_from g i.0 }
 {
     if i.0 < g.files {
-        return Awaited::Entry(g, i);
+        return Some(Awaited::Entry(g, i));
     }
-    Awaited::None
+    None
 }
 
 fn ended() -> Step
-    ensures { result ≡ step (Line.Refused 1) Awaited.None }
+    ensures { result ≡ step (Line.Refused 1) None }
 {
     Step {
         line: Line::Refused(1),
-        next: Awaited::None,
+        next: None,
     }
 }
 
 fn superblock_step(s: &[u8]) -> Step
-    ensures value { result ≡ step_on s.now Awaited.Superblock }
+    ensures value { result ≡ step_on s.now (Some Awaited.Superblock) }
     ensures kept { Kept result.next }
 {
-    let v = volume::listing_verdict(s);
-    if v.number == 0 {
-        let g = volume::geometry_in(s);
-        return Step {
+    match volume::listing_verdict(s) {
+        Ok(()) => Step {
             line: Line::Nothing,
-            next: Awaited::Root(g),
-        };
-    }
-    Step {
-        line: Line::Refused(v.number),
-        next: Awaited::None,
+            next: Some(Awaited::Root(volume::geometry_in(s))),
+        },
+        Err(refusal) => Step {
+            line: Line::Refused(refusal.number()),
+            next: None,
+        },
     }
 }
 
 fn root_step(g: Geometry, s: &[u8]) -> Step
-    ensures { result ≡ step_on s.now (Awaited.Root g) }
+    ensures { result ≡ step_on s.now (Some (Awaited.Root g)) }
 {
     if s.len() < 512 {
         return ended();
@@ -120,7 +106,7 @@ fn entry_step(g: Geometry, i: FileIndex, s: &[u8]) -> Step
     requires bounded { Bounded g }
     requires i_lt_files { i.0 < g.files }
     requires s_len_bound { length s.now ≤ 512 }
-    ensures { result ≡ step_on s.now (Awaited.Entry g i) }
+    ensures { result ≡ step_on s.now (Some (Awaited.Entry g i)) }
 {
     if s.len() < 512 {
         return ended();
@@ -132,7 +118,21 @@ fn entry_step(g: Geometry, i: FileIndex, s: &[u8]) -> Step
 }
 
 // The bytes `s` were read where the sector awaited should stand; fewer than 512 are the input's end.
-pub fn step_on(next: Awaited, s: &[u8]) -> Step
+fn step_at(awaited: Awaited, s: &[u8]) -> Step
+    requires kept { Kept (Some awaited) }
+    requires s_len_bound { length s.now ≤ 512 }
+    ensures value { result ≡ step_on s.now (Some awaited) }
+    ensures kept_2 { Kept result.next }
+{
+    match awaited {
+        Awaited::Superblock => superblock_step(s),
+        Awaited::Root(g) => root_step(g, s),
+        Awaited::Entry(g, i) => entry_step(g, i, s),
+    }
+}
+
+// The same where a sector is awaited; where none is, nothing is printed.
+pub fn step_on(next: Option<Awaited>, s: &[u8]) -> Step
     requires kept { Kept next }
     requires s_len_bound { length s.now ≤ 512 }
     ensures value { result ≡ step_on s.now next }
@@ -141,12 +141,10 @@ pub fn step_on(next: Awaited, s: &[u8]) -> Step
     ensures next_bound { left result.next ≤ left next - 1 }
 {
     match next {
-        Awaited::Superblock => superblock_step(s),
-        Awaited::Root(g) => root_step(g, s),
-        Awaited::Entry(g, i) => entry_step(g, i, s),
-        Awaited::None => Step {
+        Some(awaited) => step_at(awaited, s),
+        None => Step {
             line: Line::Nothing,
-            next: Awaited::None,
+            next: None,
         },
     }
 }

@@ -11,36 +11,11 @@ use lines::Awaited;
 use model::Line;
 use std::io::Read;
 
-// Reads until `buf` is full, the input ends or a read fails, and returns how many bytes stand at the start of `buf`.
-fn read_full(input: &mut impl Read, buf: &mut [u8]) -> usize
-    ensures { result ≤ length buf.new }
-{
-    let mut done = 0;
-    while done < buf.len() {
-        match input.read(&mut buf[done..]) {
-            Ok(0) => break,
-            Ok(n) => done += n,
-            Err(_) => break,
-        }
-    }
-    done
-}
-
-fn print_number(rt: &impl Print, label: &[u8], n: u64) {
-    let _ = rt.write_all(label);
-    let _ = rt.print(n);
-}
-
-fn print_end(rt: &impl Print) {
-    let _ = rt.write_all(b"\n");
-}
-
+// The name's bytes are printed as they are: nothing says that they are text.
 fn print_file(rt: &impl Print, index: u64, size: u64, name: &[u8]) {
-    let _ = rt.print(index);
-    print_number(rt, b" ", size);
-    let _ = rt.write_all(b" ");
+    let _ = print!(rt; "{index} {size} ");
     let _ = rt.write_all(name);
-    print_end(rt);
+    let _ = println!(rt;);
 }
 
 // `s` is the sector that the line was made of.
@@ -51,36 +26,33 @@ fn print_line(rt: &impl Print, line: Line, s: &[u8])
     match line {
         Line::Nothing => {}
         Line::Refused(n) => {
-            print_number(rt, b"refused ", n);
-            print_end(rt);
+            let _ = println!(rt; "refused {n}");
         }
         Line::Fault(n, i) => {
-            print_number(rt, b"fault ", n);
-            print_number(rt, b" at ", i);
-            print_end(rt);
+            let _ = println!(rt; "fault {n} at {i}");
         }
         Line::File(i, size, at, n) => print_file(rt, i, size, &s[at..at + n]),
     }
 }
 
 // Reads the sector awaited and prints its line. No earlier sector is kept.
-fn turn(rt: &impl Print, input: &mut impl Read, next: Awaited) -> Awaited
+fn turn(rt: &impl Print, input: &mut impl Read, next: Option<Awaited>) -> Option<Awaited>
     requires { Kept next }
     ensures kept { Kept result }
     ensures result_bound { left result ≤ left next - 1 }
 {
     let mut s = [0u8; 512];
-    let n = read_full(input, &mut s);
+    let n = input::read_full(input, &mut s);
     let r = lines::step_on(next, &s[..n]);
-    let line = r.line;
-    print_line(rt, line, &s);
+    print_line(rt, r.line, &s);
     r.next
 }
 
 fn main(rt: HostRuntime) {
     let mut input = rt.stdin();
-    let mut next = Awaited::Superblock;
-    while lines::is_awaited(next) {
+    let mut next = Some(Awaited::Superblock);
+    // Kept as a `while`: it goes from sector to sector as the steps say, and counts nothing.
+    while next.is_some() {
         next = turn(&rt, &mut input, next);
     }
 }

@@ -16,13 +16,16 @@ pub const NUMBER_START: usize = 8;
 
 pub const CONTENTS_START: usize = 16;
 
+// The number that a barrier has in place of a sector's: the highest.
+pub const BARRIER: Sector = Sector(u64::MAX);
+
 // Copies 512 bytes of `src` from `from` to `dst` at `at`.
 pub fn copy_sector(src: &[u8], from: usize, dst: &mut [u8], at: usize)
     requires from_in_bounds { from + 512 ≤ length src.now }
     requires at_in_bounds { at + 512 ≤ length dst.old }
     ensures { dst.new ≡ put dst.old at (bytes_from src.now from 512) }
 {
-    fields::move_bytes(src, from, dst, at, 512);
+    fields::copy_bytes(src, from, dst, at, 512);
 }
 
 // The record of position p, at any place: a sector's number and its new contents, the 512 bytes of `src` from `from` on.
@@ -54,12 +57,12 @@ pub fn put_from(list: &mut [u8], k: usize, sector: Sector, src: &[u8], from: usi
     k + 1
 }
 
-// Record k is a barrier: the highest number, and zeros.
+// Record k is a barrier: its number, and zeros.
 pub fn put_barrier(list: &mut [u8], k: usize) -> usize
     requires { (k + 1) * record_size ≤ length list.old }
     ensures { Emitted list.old k (barrier ∷ []) list.new result }
 {
-    put_sector(list, k, Sector(18446744073709551615), [0u8; 512])
+    put_sector(list, k, BARRIER, layout::zero_sector())
 }
 
 // A group that is the superblock with another journal length, which is stored over the copied one.

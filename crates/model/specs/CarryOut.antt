@@ -1,8 +1,7 @@
 -- "Carrying out: 1 for the image; 8 if the list isn't whole records, a number lies outside the image, or a barrier has other
 -- bytes; else all writes in order." And 8 for "a list whose positions aren't 0, 1, 2 and so on, before it writes anything" (T-09).
 use Rattle.std.specs.Prelude.{ℕ, ◌+◌, ◌*◌, ◌/◌, ◌%◌, Bool, cond, not, ◌||◌, List, [], ◌∷◌, eqb, leb, length, get_or}
-use Rattle.model.specs.declared.CarriedOut.{CarriedOut}
-use Rattle.model.specs.declared.Verdict.{Verdict}
+use Rattle.model.specs.Answers.{CarriedOut, Verdict}
 use Rattle.model.specs.Bytes.{be_at, bytes_from}
 use Rattle.model.specs.Search.{any_below, all_below, tabulate}
 use Rattle.model.specs.Refusals.{verdict_of, given, refusal, is_whole}

@@ -3,8 +3,7 @@
 use Rattle.std.specs.Prelude.{ℕ, ◌+◌, ◌-◌, ◌/◌, ◌%◌, Bool, true, false, cond, not, ◌&&◌, List, [], ◌∷◌, eqb, leb, ltb, length, get_or, drop}
 use Rattle.std.proofs.Math.Option.{Option, none, some}
 use Rattle.model.specs.declared.Geometry.{Geometry}
-use Rattle.model.specs.declared.Lowest.{Lowest}
-use Rattle.model.specs.Search.{first, tabulate, concatenated, index_of, equal_bytes}
+use Rattle.model.specs.Search.{Lowest, first, tabulate, concatenated, index_of, equal_bytes}
 use Rattle.model.specs.Geometry.{SectorNumber, ExtentNumber, FileNumber, extent_sectors, reserve_extents, superblock_at, root_at, entry_at, extent_at}
 use Rattle.model.specs.Disk.{Disk}
 use Rattle.model.specs.Superblock.{geometry_in}

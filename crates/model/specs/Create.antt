@@ -2,7 +2,7 @@
 -- up, change time set. Targets 1 and the entry."
 use Rattle.std.specs.Prelude.{ℕ, not, ◌||◌, List, [], ◌∷◌, eqb, length}
 use Rattle.std.proofs.Math.Option.{some}
-use Rattle.model.specs.declared.Changed.{Changed}
+use Rattle.model.specs.Answers.{Changed}
 use Rattle.model.specs.Search.{any_below, is_at, index_of}
 use Rattle.model.specs.Geometry.{root_at, entry_at}
 use Rattle.model.specs.Disk.{Disk}

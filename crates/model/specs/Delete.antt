@@ -2,7 +2,7 @@
 -- holds one."
 use Rattle.std.specs.Prelude.{ℕ, List, [], ◌∷◌, length}
 use Rattle.std.proofs.Math.Option.{some}
-use Rattle.model.specs.declared.Changed.{Changed}
+use Rattle.model.specs.Answers.{Changed}
 use Rattle.model.specs.Bytes.{zero_sector}
 use Rattle.model.specs.Search.{index_of}
 use Rattle.model.specs.Geometry.{FileNumber, root_at, entry_at}

@@ -1,14 +1,11 @@
 -- "Faults, lowest number first, then lowest place." A test says that the fault is at that place; nothing is assumed of the disk.
 -- But for the entry marks, faults are read off the catalogue.
-use Rattle.std.specs.Prelude.{ℕ, ◌*◌, Bool, false, not, ◌&&◌, ◌||◌, List, eqb, ltb}
+use Rattle.std.specs.Prelude.{ℕ, ◌*◌, Bool, false, not, ◌&&◌, ◌||◌, List, eqb, ltb, Some, None}
 use Rattle.std.proofs.Math.Option.{Option, none, some}
 use Rattle.model.specs.declared.Geometry.{Geometry}
-use Rattle.model.specs.declared.Lowest.{Lowest}
-use Rattle.model.specs.declared.Lowest.TheVariants.{At, Nowhere}
-use Rattle.model.specs.declared.Soundness.{Soundness}
-use Rattle.model.specs.declared.Soundness.TheVariants.{Sound, Faulty}
+use Rattle.model.specs.Answers.{Soundness, Sound, Faulty}
 use Rattle.model.specs.Bytes.{number_in}
-use Rattle.model.specs.Search.{first, any_below, all_below, count_below}
+use Rattle.model.specs.Search.{Lowest, first, any_below, all_below, count_below}
 use Rattle.model.specs.Geometry.{ExtentNumber, FileNumber, extent_bytes, entry_at, extents_for}
 use Rattle.model.specs.Disk.{Disk}
 use Rattle.model.specs.Entry.{Entry, entry_field, free_mark, is_occupied, bad_name}
@@ -58,8 +55,8 @@ module _ (c : Catalogue) where
 
 -- the fault of this number at the place found, else the later ones
 abbrev pub or_else : ℕ → Lowest → Soundness → Soundness
-or_else n (At i) later = Faulty n i
-or_else n Nowhere later = later
+or_else n (Some i) later = Faulty n i
+or_else n None later = later
 
 -- "Places are file indexes, for 25 an extent": by the entries whose marks are faults, and by what the catalogue says
 abbrev pub faults_in : (FileNumber → Bool) → Catalogue → Soundness

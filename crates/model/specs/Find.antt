@@ -1,7 +1,6 @@
 -- "Find gives index and fields." 8 bad name, 9 no such name.
 use Rattle.std.specs.Prelude.{ℕ, not, List, [], ◌∷◌}
-use Rattle.model.specs.declared.Found.{Found}
-use Rattle.model.specs.declared.Verdict.{Verdict}
+use Rattle.model.specs.Answers.{Found, Verdict}
 use Rattle.model.specs.Search.{is_at, index_of}
 use Rattle.model.specs.Disk.{Disk}
 use Rattle.model.specs.Entry.{bad_name, fields_of, no_fields}

@@ -1,8 +1,7 @@
 -- "Format, from a sector count." "Records are asked for one at a time by position."
 use Rattle.std.specs.Prelude.{ℕ, zero, suc, ◌+◌, ◌*◌, ◌-◌, ◌/◌, Bool, cond, not, ◌&&◌, List, [], ◌∷◌, eqb, leb, ltb, length}
 use Rattle.model.specs.declared.Geometry.{Geometry}
-use Rattle.model.specs.declared.Verdict.{Verdict}
-use Rattle.model.specs.declared.Formatted.{Formatted}
+use Rattle.model.specs.Answers.{Verdict, Formatted}
 use Rattle.model.specs.Bytes.{put, zero_sector, ones_sector}
 use Rattle.model.specs.Search.{tabulate}
 use Rattle.model.specs.Geometry.{in_bounds, table_sectors, superblock_at, root_at, entry_at, table_at}

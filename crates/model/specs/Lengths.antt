@@ -2,7 +2,7 @@
 -- targets that the call can have. T-01: "Longest list: 515 targets", which is a rename's on a table of 512 sectors.
 use Rattle.std.specs.Prelude.{ℕ, ◌+◌, ◌*◌, min, max, cond, not, ◌&&◌, [], ◌∷◌, eqb, leb}
 use Rattle.model.specs.declared.Geometry.{Geometry}
-use Rattle.model.specs.declared.Longest.{Longest}
+use Rattle.model.specs.Answers.{Longest}
 use Rattle.model.specs.Geometry.{extent_sectors, table_sectors, most_targets, reserve_extents, in_bounds}
 use Rattle.model.specs.Refusals.{verdict_of, refusal, given}
 use Rattle.model.specs.WriteList.{record_size, record_count}

@@ -2,9 +2,7 @@
 -- sector count, which refusal 3 takes for the image's; refusal 1 looks at the lent sectors." A form answers, and leaves its list, as the call does on
 -- an image of `lent_length` bytes whose sectors are the lent ones. What a call takes from the data area is asked for, one sector after the other.
 use Rattle.std.specs.Prelude.{ℕ, ◌+◌, ◌*◌, ◌-◌, ◌/◌, ◌%◌, min, max, Bool, cond, ◌&&◌, ◌||◌, List, [], ◌∷◌, eqb, leb, ltb, length, get_or}
-use Rattle.model.specs.declared.BytesRead.{BytesRead}
-use Rattle.model.specs.declared.Changed.{Changed}
-use Rattle.model.specs.declared.Recovered.{Recovered}
+use Rattle.model.specs.Answers.{BytesRead, Changed, Recovered}
 use Rattle.model.specs.declared.Reading.{Reading}
 use Rattle.model.specs.declared.Part.{Part}
 use Rattle.model.specs.declared.Writing.{Writing}

@@ -10,6 +10,7 @@ pub mod Entry
 pub mod Table
 pub mod Journal
 pub mod Catalogue
+pub mod Answers
 pub mod Faults
 pub mod Refusals
 pub mod Summary
@@ -32,6 +33,7 @@ pub mod Format
 pub mod CarryOut
 pub mod Lent
 pub mod Lengths
+pub mod Results
 pub mod Cut
 pub mod Ledger
 pub mod Run

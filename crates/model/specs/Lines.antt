@@ -2,7 +2,7 @@
 -- index, size, name". A line's name is a part of the sector that the line was made of.
 use Rattle.std.specs.Prelude.{ℕ, ◌-◌, ◌/◌, min, cond, List, [], ◌∷◌, ◌++◌, ltb, length}
 use Rattle.model.specs.declared.Geometry.{Geometry}
-use Rattle.model.specs.declared.Verdict.{Verdict}
+use Rattle.model.specs.Answers.{Verdict}
 use Rattle.model.specs.declared.Line.{Line}
 use Rattle.model.specs.declared.Line.TheVariants.{Nothing, Refused, Fault, File}
 use Rattle.model.specs.Bytes.{bytes_from}

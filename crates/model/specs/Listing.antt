@@ -4,8 +4,7 @@
 -- extents are free, "read and list answer there with an empty write list and the access time stays".
 use Rattle.std.specs.Prelude.{ℕ, cond, List, [], ◌∷◌, leb, ltb, length}
 use Rattle.std.proofs.Math.Option.{Option, none, some}
-use Rattle.model.specs.declared.Listed.{Listed}
-use Rattle.model.specs.declared.Verdict.{Verdict}
+use Rattle.model.specs.Answers.{Listed, Verdict}
 use Rattle.model.specs.Bytes.{put}
 use Rattle.model.specs.Geometry.{root_at}
 use Rattle.model.specs.Disk.{Disk}

@@ -4,8 +4,7 @@
 -- are free, "read and list answer there with an empty write list and the access time stays".
 use Rattle.std.specs.Prelude.{ℕ, ◌-◌, min, cond, not, ◌||◌, List, [], ◌∷◌, ltb, length}
 use Rattle.std.proofs.Math.Option.{Option, none, some}
-use Rattle.model.specs.declared.BytesRead.{BytesRead}
-use Rattle.model.specs.declared.Verdict.{Verdict}
+use Rattle.model.specs.Answers.{BytesRead, Verdict}
 use Rattle.model.specs.Bytes.{put}
 use Rattle.model.specs.Search.{is_at, index_of}
 use Rattle.model.specs.Geometry.{FileNumber, entry_at}

@@ -8,9 +8,7 @@ use Rattle.std.specs.Prelude.{ℕ, Bool, true, false, cond, not, ◌&&◌, ◌||
 use Rattle.model.specs.declared.Geometry.{Geometry}
 use Rattle.model.specs.declared.State.{State}
 use Rattle.model.specs.declared.State.TheVariants.{Clean, Waiting, Damaged, Unfinished}
-use Rattle.model.specs.declared.Verdict.{Verdict}
-use Rattle.model.specs.declared.Recovered.{Recovered}
-use Rattle.model.specs.declared.Sliced.{Sliced}
+use Rattle.model.specs.Answers.{Verdict, Recovered, Sliced}
 use Rattle.model.specs.Search.{first, any_below, all_below, count_below, concatenated, is_at, index_of, equal_bytes}
 use Rattle.model.specs.Geometry.{SectorNumber, superblock_at, root_at, journal_at, table_at, data_at, volume_sectors}
 use Rattle.model.specs.Disk.{Disk}

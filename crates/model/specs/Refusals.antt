@@ -1,11 +1,9 @@
 -- "Numbers that a call gives back." Conditions stand in the rising order of their numbers; "the lowest number whose condition
 -- holds is the answer".
 use Rattle.std.specs.Prelude.{ℕ, ◌/◌, ◌%◌, Bool, cond, not, ◌&&◌, List, [], ◌∷◌, eqb, leb, ltb}
-use Rattle.model.specs.declared.Verdict.{Verdict}
+use Rattle.model.specs.Answers.{Verdict, Soundness, Sound, Faulty}
 use Rattle.model.specs.declared.State.{State}
 use Rattle.model.specs.declared.State.TheVariants.{Clean, Waiting, Damaged, Unfinished}
-use Rattle.model.specs.declared.Soundness.{Soundness}
-use Rattle.model.specs.declared.Soundness.TheVariants.{Sound, Faulty}
 use Rattle.model.specs.Geometry.{in_bounds, volume_sectors, superblock_at}
 use Rattle.model.specs.Disk.{Disk}
 use Rattle.model.specs.Superblock.{is_volume, geometry_in, state_on}

@@ -1,13 +1,11 @@
 -- T-01: "Rename gives an entry a new name (bytes after it zero), raises its version, sets its change time, and updates the root once, as
 -- create does. If the new name exists, that file is deleted in the same transaction. A name renamed to itself is done with an empty
 -- list. Refusals: 8 for either name, 9 for the old one, 14."
-use Rattle.std.specs.Prelude.{ℕ, cond, not, ◌||◌, List, [], ◌∷◌, ◌++◌, ltb, length}
+use Rattle.std.specs.Prelude.{ℕ, cond, not, ◌||◌, List, [], ◌∷◌, ◌++◌, ltb, length, Some, None}
 use Rattle.std.proofs.Math.Option.{Option, none, some}
-use Rattle.model.specs.declared.Lowest.{Lowest}
-use Rattle.model.specs.declared.Lowest.TheVariants.{At, Nowhere}
-use Rattle.model.specs.declared.Changed.{Changed}
+use Rattle.model.specs.Answers.{Changed}
 use Rattle.model.specs.Bytes.{zero_sector}
-use Rattle.model.specs.Search.{is_at, index_of, equal_bytes}
+use Rattle.model.specs.Search.{Lowest, is_at, index_of, equal_bytes}
 use Rattle.model.specs.Geometry.{FileNumber, root_at, entry_at}
 use Rattle.model.specs.Disk.{Disk}
 use Rattle.model.specs.Edition.{bad_time}
@@ -37,8 +35,8 @@ replacing_records c d i j name time =
 
 -- by where the new name is: nowhere, or at a file that is replaced
 abbrev pub renaming_records : Catalogue → Disk → FileNumber → Lowest → List ℕ → ℕ → List Record
-renaming_records c d i Nowhere name time = renamed_record c d i name time ∷ []
-renaming_records c d i (At j) name time = replacing_records c d i j name time
+renaming_records c d i None name time = renamed_record c d i name time ∷ []
+renaming_records c d i (Some j) name time = replacing_records c d i j name time
 
 unfoldable pub rename_plan : Catalogue → Disk → FileNumber → Lowest → List ℕ → ℕ → Plan
 rename_plan c d i place name time = record {

@@ -4,8 +4,7 @@
 -- each rename applied; a rename to itself changes nothing and has no target. If the distinct targets number more than K x S, the answer is 13."
 use Rattle.std.specs.Prelude.{ℕ, zero, suc, ◌+◌, ◌*◌, ◌/◌, ◌%◌, Bool, cond, not, ◌||◌, List, [], ◌∷◌, ◌++◌, map, eqb, ltb, length, get_or}
 use Rattle.std.proofs.Math.Option.{Option, none, some}
-use Rattle.model.specs.declared.Changed.{Changed}
-use Rattle.model.specs.declared.Verdict.{Verdict}
+use Rattle.model.specs.Answers.{Changed, Verdict}
 use Rattle.model.specs.Bytes.{bytes_from}
 use Rattle.model.specs.Search.{any_below, concatenated}
 use Rattle.model.specs.Geometry.{SectorNumber, extent_sectors, reserve_extents, data_at}

@@ -5,10 +5,7 @@
 -- T-12: it "no longer refuses a taken last extent, but refuses 13 if it has a target and fewer than K are free".
 use Rattle.std.specs.Prelude.{ℕ, Bool, cond, ◌||◌, List, [], leb, length}
 use Rattle.std.proofs.Math.Option.{Option, none, some}
-use Rattle.model.specs.declared.Soundness.{Soundness}
-use Rattle.model.specs.declared.Soundness.TheVariants.{Sound, Faulty}
-use Rattle.model.specs.declared.Verdict.{Verdict}
-use Rattle.model.specs.declared.Repaired.{Repaired}
+use Rattle.model.specs.Answers.{Soundness, Sound, Faulty, Verdict, Repaired}
 use Rattle.model.specs.Search.{any_below, count_below}
 use Rattle.model.specs.Geometry.{ExtentNumber, extents_for}
 use Rattle.model.specs.Disk.{Disk}

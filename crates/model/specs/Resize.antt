@@ -2,7 +2,7 @@
 -- freed entries as in delete); targets: entry, changed table sectors. Growing is a write of zeros at the end."
 use Rattle.std.specs.Prelude.{ℕ, ◌+◌, ◌-◌, cond, not, ◌&&◌, ◌||◌, List, [], ◌∷◌, ltb, length}
 use Rattle.std.proofs.Math.Option.{Option, some}
-use Rattle.model.specs.declared.Changed.{Changed}
+use Rattle.model.specs.Answers.{Changed}
 use Rattle.model.specs.Bytes.{bytes_from}
 use Rattle.model.specs.Search.{is_at, index_of}
 use Rattle.model.specs.Geometry.{FileNumber, entry_at, extents_for}

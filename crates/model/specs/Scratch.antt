@@ -1,8 +1,7 @@
 -- T-10, the check with scratch: "a form that borrows a scratch slice of numbers and gives exactly the same fault and place".
 use Rattle.std.specs.Prelude.{ℕ, ◌+◌, ◌*◌, ◌≡◌, Bool, false, cond, ◌||◌, List, eqb, ltb, length}
 use Rattle.model.specs.declared.Geometry.{Geometry}
-use Rattle.model.specs.declared.Checked.{Checked}
-use Rattle.model.specs.declared.Verdict.{Verdict}
+use Rattle.model.specs.Answers.{Checked, Verdict}
 use Rattle.model.specs.Geometry.{superblock_at}
 use Rattle.model.specs.Disk.{Disk}
 use Rattle.model.specs.Superblock.{geometry_in, state_on}

@@ -1,26 +1,26 @@
 -- Tests over the indexes below a number, and lists made by index. `scan` peels from the front, as a search does; the others
 -- from the top, as a loop's growing prefix does.
-use Rattle.std.specs.Prelude.{ℕ, zero, suc, ◌+◌, ◌-◌, Bool, true, false, cond, ◌&&◌, ◌||◌, List, [], ◌∷◌, ◌++◌, eqb, length, get_or}
-use Rattle.model.specs.declared.Lowest.{Lowest}
-use Rattle.model.specs.declared.Lowest.TheVariants.{At, Nowhere}
+use Rattle.std.specs.Prelude.{ℕ, zero, suc, ◌+◌, ◌-◌, Bool, true, false, cond, ◌&&◌, ◌||◌, List, [], ◌∷◌, ◌++◌, eqb, length, get_or, Option, Some, None, is_some, unwrap_or}
+
+-- what a search over indexes answers
+abbrev pub Lowest : Type 0
+Lowest = Option ℕ
 
 -- the lowest of i, i + 1, .., i + k - 1 at which p holds
 unfoldable pub scan : (ℕ → Bool) → ℕ → ℕ → Lowest
-scan p zero i = Nowhere
-scan p (suc k) i = let rest = scan p k (suc i) in cond (p i) (At i) rest
+scan p zero i = None
+scan p (suc k) i = let rest = scan p k (suc i) in cond (p i) (Some i) rest
 
 -- the lowest index below n at which p holds (n - 0, so that a loop at index i has the same form)
 abbrev pub first : (ℕ → Bool) → ℕ → Lowest
 first p n = scan p (n - 0) 0
 
 abbrev pub is_at : Lowest → Bool
-is_at (At i) = true
-is_at Nowhere = false
+is_at = is_some
 
 -- the index found; 0 where there is none
 abbrev pub index_of : Lowest → ℕ
-index_of (At i) = i
-index_of Nowhere = 0
+index_of p = unwrap_or p 0
 
 -- the test holds at some index below n; at every one; at how many
 unfoldable pub any_below : (ℕ → Bool) → ℕ → Bool

@@ -4,12 +4,9 @@ use Rattle.model.specs.declared.Geometry.{Geometry}
 use Rattle.model.specs.declared.State.{State}
 use Rattle.model.specs.declared.State.TheVariants.{Clean, Waiting, Damaged, Unfinished}
 use Rattle.model.specs.declared.Summary.{Summary}
-use Rattle.model.specs.declared.Summarized.{Summarized}
-use Rattle.model.specs.declared.Located.{Located}
+use Rattle.model.specs.Answers.{Summarized, Located, Checked, Verdict}
 use Rattle.model.specs.declared.Area.{Area}
 use Rattle.model.specs.declared.Area.TheVariants.{Journal, Table, Data, Reserve}
-use Rattle.model.specs.declared.Checked.{Checked}
-use Rattle.model.specs.declared.Verdict.{Verdict}
 use Rattle.model.specs.Geometry.{SectorNumber, superblock_at, in_bounds, journal_at, table_at, data_at, reserve_at}
 use Rattle.model.specs.Disk.{Disk}
 use Rattle.model.specs.Superblock.{is_volume, geometry_in, state_on}

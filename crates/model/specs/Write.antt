@@ -3,7 +3,7 @@
 -- changed." T-12: "An allocation takes the lowest free extent and is refused 13 if fewer than K + 1 are free."
 use Rattle.std.specs.Prelude.{ℕ, ◌+◌, ◌*◌, ◌-◌, ◌/◌, ◌%◌, min, max, Bool, cond, not, ◌&&◌, ◌||◌, List, [], ◌∷◌, eqb, ltb, length}
 use Rattle.std.proofs.Math.Option.{Option, none, some}
-use Rattle.model.specs.declared.Changed.{Changed}
+use Rattle.model.specs.Answers.{Changed}
 use Rattle.model.specs.Bytes.{bytes_from, put}
 use Rattle.model.specs.Search.{tabulate, is_at, index_of}
 use Rattle.model.specs.Geometry.{SectorNumber, FileNumber, extent_sectors, reserve_extents, entry_at, extent_at, extents_for}

@@ -4,8 +4,7 @@
 use Rattle.std.specs.Prelude.{ℕ, suc, ◌+◌, ◌*◌, ◌-◌, ◌/◌, ◌%◌, ◌^◌, ◌≡◌, Bool, true, false, cond, ◌&&◌, ◌||◌, List, [], ◌∷◌, ◌++◌, map, eqb, ltb, length, get_or}
 use Rattle.std.proofs.Math.Option.{Option, none, some}
 use Rattle.model.specs.declared.Geometry.{Geometry}
-use Rattle.model.specs.declared.Verdict.{Verdict}
-use Rattle.model.specs.declared.Changed.{Changed}
+use Rattle.model.specs.Answers.{Verdict, Changed}
 use Rattle.model.specs.Bytes.{be_bytes, bytes_from, put, zero_sector}
 use Rattle.model.specs.Search.{tabulate}
 use Rattle.model.specs.Geometry.{SectorNumber, ExtentNumber, extent_sectors, superblock_at, journal_at, extent_at}

@@ -5,16 +5,18 @@ ghost use Rattle.std.specs.Prelude.{◌≡◌, ◌+◌, ◌*◌, ◌≤◌, ◌<
 ghost use Rattle.model.specs.Geometry.{in_bounds, table_sectors, reserve_extents, usable, entry_at, journal_at, table_at, data_at, extent_at, reserve_at, volume_sectors};
 ghost use Rattle.model.specs.Table.{table_sector_of, table_entry_start};
 ghost use Rattle.model.specs.Summary.{area_at, located};
+ghost use Rattle.model.specs.Results.{located_in, fault_number, fault_place, verdict_for};
 ghost use Rattle.model.specs.Opened.{Bounded};
+ghost use Rattle.model.specs.declared.Refusal.TheVariants.{Unsound};
 
 // Sector, extent and file numbers are never mixed: each is its own kind.
-#[derive(Clone, Copy)]
+#[derive(Clone, Copy, PartialEq, Eq)]
 pub struct Sector(pub u64);
 
-#[derive(Clone, Copy)]
+#[derive(Clone, Copy, PartialEq, Eq)]
 pub struct Extent(pub u64);
 
-#[derive(Clone, Copy)]
+#[derive(Clone, Copy, PartialEq, Eq)]
 pub struct FileIndex(pub u64);
 
 // F files, N extents, S sectors in each extent, and the edition, which is the superblock's version. The superblock gives S four bytes, so
@@ -51,26 +53,129 @@ pub struct Summary {
     pub state: State,
 }
 
-// What a search over indexes answers.
-#[derive(Clone, Copy)]
-pub enum Lowest {
-    At(usize),
-    Nowhere,
+// What can be wrong with a volume, and where: document 01 numbers the kinds from 21 to 26.
+#[derive(Clone, Copy, PartialEq, Eq)]
+pub enum Fault {
+    // the entry's mark is neither value
+    BadMark(FileIndex),
+    // the entry's name is bad, or its size exceeds the volume's
+    BadEntry(FileIndex),
+    // an entry of lower index has the name
+    RepeatedName(FileIndex),
+    // the id is 0, the root's, or that of an entry of lower index
+    BadId(FileIndex),
+    // the extent's table entry names no occupied file and isn't free
+    Misplaced(Extent),
+    // the file hasn't exactly one extent for each offset that its size needs
+    WrongExtents(FileIndex),
 }
 
-// No fault, or the first one's number and place.
-#[derive(Clone, Copy)]
-pub enum Soundness {
-    Sound,
-    Faulty(u64, u64),
+// Why a call gives nothing. Document 01 numbers the refusals from 1 to 14 in this order; the lowest that holds is the answer.
+#[derive(Clone, Copy, PartialEq, Eq)]
+pub enum Refusal {
+    NotWhole,
+    NotVolume,
+    OutOfBounds,
+    Unfinished,
+    Waiting,
+    Damaged,
+    Unsound(Fault),
+    BadArgument,
+    NotFound,
+    Taken,
+    DirectoryFull,
+    PastEnd,
+    VolumeFull,
+    TooShort,
+    // 8 and 9 of the rename at this place of a set
+    BadRename(u64),
+    NoSuchName(u64),
 }
 
-// A number of document 01's table; with 7 also the fault and its place, else both are 0.
-#[derive(Clone, Copy)]
-pub struct Verdict {
-    pub number: u64,
-    pub fault: u64,
-    pub place: u64,
+// The numbers by which document 01, and so C, knows a fault and a refusal.
+impl Fault {
+    pub fn number(self) -> u64
+        ensures { result ≡ fault_number self }
+    {
+        match self {
+            Fault::BadMark(_) => 21,
+            Fault::BadEntry(_) => 22,
+            Fault::RepeatedName(_) => 23,
+            Fault::BadId(_) => 24,
+            Fault::Misplaced(_) => 25,
+            Fault::WrongExtents(_) => 26,
+        }
+    }
+
+    // A file's index, or of a misplaced extent its number.
+    pub fn place(self) -> u64
+        ensures { result ≡ fault_place self }
+    {
+        match self {
+            Fault::BadMark(i) => i.0,
+            Fault::BadEntry(i) => i.0,
+            Fault::RepeatedName(i) => i.0,
+            Fault::BadId(i) => i.0,
+            Fault::Misplaced(e) => e.0,
+            Fault::WrongExtents(i) => i.0,
+        }
+    }
+}
+
+impl Refusal {
+    pub fn number(self) -> u64
+        ensures { result ≡ (verdict_for self).number }
+    {
+        match self {
+            Refusal::NotWhole => 1,
+            Refusal::NotVolume => 2,
+            Refusal::OutOfBounds => 3,
+            Refusal::Unfinished => 4,
+            Refusal::Waiting => 5,
+            Refusal::Damaged => 6,
+            Refusal::Unsound(_) => 7,
+            Refusal::BadArgument => 8,
+            Refusal::NotFound => 9,
+            Refusal::Taken => 10,
+            Refusal::DirectoryFull => 11,
+            Refusal::PastEnd => 12,
+            Refusal::VolumeFull => 13,
+            Refusal::TooShort => 14,
+            Refusal::BadRename(_) => 8,
+            Refusal::NoSuchName(_) => 9,
+        }
+    }
+
+    // The fault's number, 0 of any other refusal.
+    pub fn fault(self) -> u64
+        ensures { result ≡ (verdict_for self).fault }
+    {
+        match self {
+            Refusal::Unsound(f) => f.number(),
+            _ => 0,
+        }
+    }
+
+    // The fault's place, or of a set the rename's, 0 of any other refusal.
+    pub fn place(self) -> u64
+        ensures { result ≡ (verdict_for self).place }
+    {
+        match self {
+            Refusal::Unsound(f) => f.place(),
+            Refusal::BadRename(k) => k,
+            Refusal::NoSuchName(k) => k,
+            _ => 0,
+        }
+    }
+}
+
+// A fault refuses every call that asks for a sound volume.
+impl From<Fault> for Refusal {
+    ghost from_gives = { λ f r. r ≡ Unsound f };
+
+    fn from(fault: Fault) -> Refusal {
+        Refusal::Unsound(fault)
+    }
 }
 
 // What find and list give of an entry.
@@ -85,87 +190,40 @@ pub struct Fields {
     pub name_length: u64,
 }
 
-// ---- one answer for each kind of call
+// ---- what a call gives where nothing refuses it
 
 #[derive(Clone, Copy)]
-pub struct Summarized {
-    pub number: u64,
-    pub summary: Summary,
-}
-
-// Where an area starts, from a summary alone: 0 and the sector, or 3.
-#[derive(Clone, Copy)]
-pub struct Located {
-    pub number: u64,
-    pub sector: Sector,
-}
-
-#[derive(Clone, Copy)]
-pub struct Checked {
-    pub verdict: Verdict,
-}
-
-#[derive(Clone, Copy)]
-pub struct Found {
-    pub verdict: Verdict,
+pub struct FoundFile {
     pub index: FileIndex,
     pub fields: Fields,
 }
 
 // The name's bytes stand in the output; their count is the field `name_length`. Of list and read too, `length` is the write list's in bytes.
 #[derive(Clone, Copy)]
-pub struct Listed {
-    pub verdict: Verdict,
+pub struct ListedFile {
     pub fields: Fields,
     pub length: u64,
 }
 
 #[derive(Clone, Copy)]
-pub struct BytesRead {
-    pub verdict: Verdict,
+pub struct ReadBytes {
     pub count: u64,
     pub length: u64,
 }
 
-// Create, delete, resize, write: the write list's length in bytes.
+// How many table entries a repair frees, its write list's length in bytes, and the first fault that remains.
 #[derive(Clone, Copy)]
-pub struct Changed {
-    pub verdict: Verdict,
-    pub length: u64,
-}
-
-// Repair: how many table entries it frees, the write list's length in bytes. With number 0 the verdict's fault and place are the first
-// fault that remains.
-#[derive(Clone, Copy)]
-pub struct Repaired {
-    pub verdict: Verdict,
+pub struct Repair {
     pub freed: u64,
     pub length: u64,
+    pub remaining: Result<(), Fault>,
 }
 
+// Of `count` sector writes.
 #[derive(Clone, Copy)]
-pub struct Recovered {
-    pub number: u64,
-    pub length: u64,
-}
-
-// Of a slice: `count` sector writes.
-#[derive(Clone, Copy)]
-pub struct Sliced {
-    pub number: u64,
+pub struct Slice {
     pub length: u64,
     pub count: u64,
-}
-
-#[derive(Clone, Copy)]
-pub struct Formatted {
-    pub number: u64,
-    pub length: u64,
-}
-
-#[derive(Clone, Copy)]
-pub struct CarriedOut {
-    pub number: u64,
 }
 
 // What the listing program prints on a sector: nothing; "refused " and the number; a fault's number and the entry's index; or an occupied
@@ -176,13 +234,6 @@ pub enum Line {
     Refused(u64),
     Fault(u64, u64),
     File(u64, u64, usize, usize),
-}
-
-// The most bytes that a call's list can have.
-#[derive(Clone, Copy)]
-pub struct Longest {
-    pub number: u64,
-    pub length: u64,
 }
 
 // ---- a call over lent sectors (T-11), between its steps. Each holds the number of the last step, the answer's other numbers, the data sector that is
@@ -274,19 +325,11 @@ impl Geometry {
     pub fn in_bounds(self) -> bool
         ensures { result ≡ in_bounds self }
     {
-        if 255 <= self.files {
-            if self.files <= 65535 {
-                if 2 <= self.extents {
-                    if self.extents <= 65535 {
-                        return 128 <= self.extent_sectors;
-                    }
-                    return false;
-                }
-                return false;
-            }
-            return false;
-        }
-        false
+        255 <= self.files
+            && self.files <= 65535
+            && 2 <= self.extents
+            && self.extents <= 65535
+            && 128 <= self.extent_sectors
     }
 
     pub fn table_sectors(self) -> u64
@@ -404,42 +447,38 @@ impl Geometry {
     }
 }
 
-// Once made, the summary alone answers where each area starts; one whose geometry breaks the bounds answers 3.
+// Once made, the summary alone answers where each area starts, unless its geometry breaks the bounds.
 impl Summary {
-    fn start_of(self, area: Area) -> Located
-        ensures { result ≡ located (area_at area) self }
+    fn start_of(self, area: Area) -> Result<Sector, Refusal>
+        ensures { located_in result ≡ located (area_at area) self }
     {
         let g = self.geometry;
         if g.in_bounds() {
-            let sector = g.start_of(area);
-            return Located { number: 0, sector };
+            return Ok(g.start_of(area));
         }
-        Located {
-            number: 3,
-            sector: Sector(0),
-        }
+        Err(Refusal::OutOfBounds)
     }
 
-    pub fn journal_at(self) -> Located
-        ensures { result ≡ located journal_at self }
+    pub fn journal_at(self) -> Result<Sector, Refusal>
+        ensures { located_in result ≡ located journal_at self }
     {
         self.start_of(Area::Journal)
     }
 
-    pub fn table_at(self) -> Located
-        ensures { result ≡ located table_at self }
+    pub fn table_at(self) -> Result<Sector, Refusal>
+        ensures { located_in result ≡ located table_at self }
     {
         self.start_of(Area::Table)
     }
 
-    pub fn data_at(self) -> Located
-        ensures { result ≡ located data_at self }
+    pub fn data_at(self) -> Result<Sector, Refusal>
+        ensures { located_in result ≡ located data_at self }
     {
         self.start_of(Area::Data)
     }
 
-    pub fn reserve_at(self) -> Located
-        ensures { result ≡ located reserve_at self }
+    pub fn reserve_at(self) -> Result<Sector, Refusal>
+        ensures { located_in result ≡ located reserve_at self }
     {
         self.start_of(Area::Reserve)
     }

@@ -9,46 +9,45 @@ ghost use Rattle.model.specs.Scratch.{check_with_answer, ScratchAfter};
 ghost use Rattle.model.specs.Find.{find_answer};
 ghost use Rattle.model.specs.Listing.{list_answer, list_output, listing_list};
 ghost use Rattle.model.specs.Read.{read_answer, read_output, read_list};
+ghost use Rattle.model.specs.Results.{verdict_in, checked_in, found_in, listed_in, read_in};
 ghost use Rattle.model.specs.Lent.{on_lent, read_lent};
 
-use model::{BytesRead, Checked, Found, Listed, Reading};
+use model::{FoundFile, ListedFile, ReadBytes, Reading, Refusal};
 
-pub fn check(img: &[u8]) -> Checked
-    ensures { result ≡ on_image check_answer img.now }
+pub fn check(img: &[u8]) -> Result<(), Refusal>
+    ensures { checked_in result ≡ on_image check_answer img.now }
 {
-    let verdict = soundness::judge(img);
-    Checked { verdict }
+    soundness::judge(img)
 }
 
 // Check by way of lent scratch (T-10). What scratch holds after 0 or 7 is the program's choice.
-pub fn check_with(img: &[u8], scratch: &mut [u32]) -> Checked
-    ensures value { result ≡ on_image check_with_answer img.now (length scratch.old) }
-    ensures scratch_after { ScratchAfter result.verdict scratch.old scratch.new }
+pub fn check_with(img: &[u8], scratch: &mut [u32]) -> Result<(), Refusal>
+    ensures value { checked_in result ≡ on_image check_with_answer img.now (length scratch.old) }
+    ensures scratch_after { ScratchAfter (verdict_in result) scratch.old scratch.new }
 {
-    let verdict = soundness::judge_with(img, scratch);
-    Checked { verdict }
+    soundness::judge_with(img, scratch)
 }
 
-pub fn find(img: &[u8], name: &[u8]) -> Found
-    ensures { result ≡ on_image find_answer img.now name.now }
+pub fn find(img: &[u8], name: &[u8]) -> Result<FoundFile, Refusal>
+    ensures { found_in result ≡ on_image find_answer img.now name.now }
 {
-    let v = soundness::judge(img);
-    if v.number == 0 {
-        return reading::find_in(img, name);
-    }
-    reading::not_found(v)
+    soundness::judge(img)?;
+    reading::find_in(img, name)
 }
 
-pub fn list(img: &[u8], index: u64, time: u64, out: &mut [u8], list: &mut [u8]) -> Listed
-    ensures value { result ≡ on_image list_answer img.now index time (length out.old) (length list.old) }
+pub fn list(
+    img: &[u8],
+    index: u64,
+    time: u64,
+    out: &mut [u8],
+    list: &mut [u8],
+) -> Result<ListedFile, Refusal>
+    ensures value { listed_in result ≡ on_image list_answer img.now index time (length out.old) (length list.old) }
     ensures out_after { out.new ≡ on_image list_output img.now index time out.old (length list.old) }
     ensures list_after { list.new ≡ on_image listing_list img.now index time (length out.old) list.old }
 {
-    let v = soundness::judge(img);
-    if v.number == 0 {
-        return reading::list_in(img, index, time, out, list);
-    }
-    reading::not_listed(v)
+    soundness::judge(img)?;
+    reading::list_in(img, index, time, out, list)
 }
 
 pub fn read(
@@ -59,43 +58,35 @@ pub fn read(
     time: u64,
     out: &mut [u8],
     list: &mut [u8],
-) -> BytesRead
-    ensures value { result ≡ on_image read_answer img.now name.now offset count time (length out.old) (length list.old) }
+) -> Result<ReadBytes, Refusal>
+    ensures value { read_in result ≡ on_image read_answer img.now name.now offset count time (length out.old) (length list.old) }
     ensures out_after { out.new ≡ on_image read_output img.now name.now offset count time out.old (length list.old) }
     ensures list_after { list.new ≡ on_image read_list img.now name.now offset count time (length out.old) list.old }
 {
-    let v = soundness::judge(img);
-    if v.number == 0 {
-        return reading::read_in(img, name, offset, count, time, out, list);
-    }
-    reading::not_read(v)
+    soundness::judge(img)?;
+    reading::read_in(img, name, offset, count, time, out, list)
 }
 
 // ---- on the sectors before the data area alone, of a volume of `count` sectors
 
-pub fn check_lent(front: &[u8], count: u64) -> Checked
-    ensures { result ≡ on_lent check_answer front.now count }
+pub fn check_lent(front: &[u8], count: u64) -> Result<(), Refusal>
+    ensures { checked_in result ≡ on_lent check_answer front.now count }
 {
-    let verdict = soundness::judge_lent(front, count);
-    Checked { verdict }
+    soundness::judge_lent(front, count)
 }
 
-pub fn check_with_lent(front: &[u8], count: u64, scratch: &mut [u32]) -> Checked
-    ensures value { result ≡ on_lent check_with_answer front.now count (length scratch.old) }
-    ensures scratch_after { ScratchAfter result.verdict scratch.old scratch.new }
+pub fn check_with_lent(front: &[u8], count: u64, scratch: &mut [u32]) -> Result<(), Refusal>
+    ensures value { checked_in result ≡ on_lent check_with_answer front.now count (length scratch.old) }
+    ensures scratch_after { ScratchAfter (verdict_in result) scratch.old scratch.new }
 {
-    let verdict = soundness::judge_with_lent(front, count, scratch);
-    Checked { verdict }
+    soundness::judge_with_lent(front, count, scratch)
 }
 
-pub fn find_lent(front: &[u8], count: u64, name: &[u8]) -> Found
-    ensures { result ≡ on_lent find_answer front.now count name.now }
+pub fn find_lent(front: &[u8], count: u64, name: &[u8]) -> Result<FoundFile, Refusal>
+    ensures { found_in result ≡ on_lent find_answer front.now count name.now }
 {
-    let v = soundness::judge_lent(front, count);
-    if v.number == 0 {
-        return reading::find_in(front, name);
-    }
-    reading::not_found(v)
+    soundness::judge_lent(front, count)?;
+    reading::find_in(front, name)
 }
 
 pub fn list_lent(
@@ -105,16 +96,13 @@ pub fn list_lent(
     time: u64,
     out: &mut [u8],
     list: &mut [u8],
-) -> Listed
-    ensures value { result ≡ on_lent list_answer front.now count index time (length out.old) (length list.old) }
+) -> Result<ListedFile, Refusal>
+    ensures value { listed_in result ≡ on_lent list_answer front.now count index time (length out.old) (length list.old) }
     ensures out_after { out.new ≡ on_lent list_output front.now count index time out.old (length list.old) }
     ensures list_after { list.new ≡ on_lent listing_list front.now count index time (length out.old) list.old }
 {
-    let v = soundness::judge_lent(front, count);
-    if v.number == 0 {
-        return reading::list_in(front, index, time, out, list);
-    }
-    reading::not_listed(v)
+    soundness::judge_lent(front, count)?;
+    reading::list_in(front, index, time, out, list)
 }
 
 // The bytes follow by `reading::read_step`, sector by sector; `room` is the length of the output that they are for.
@@ -131,9 +119,8 @@ pub fn read_lent(
     ensures value { result ≡ on_lent read_lent front.now count name.now offset asked time room (length list.old) }
     ensures list_after { list.new ≡ on_lent read_list front.now count name.now offset asked time room list.old }
 {
-    let v = soundness::judge_lent(front, count);
-    if v.number == 0 {
-        return reading::read_lent_in(front, name, offset, asked, time, room, list);
+    match soundness::judge_lent(front, count) {
+        Ok(()) => reading::read_lent_in(front, name, offset, asked, time, room, list),
+        Err(refusal) => reading::idle(Err(refusal)),
     }
-    reading::idle(reading::not_read(v))
 }

@@ -10,8 +10,7 @@ use lib.ListN.{length}
 use borrow.Author.Tests.{eq-eqb, ne_eqb, le-leb, lt-leb}
 use Rattle.model.specs.declared.Fields.{Fields}
 use Rattle.model.specs.declared.Geometry.{Geometry}
-use Rattle.model.specs.declared.Listed.{Listed}
-use Rattle.model.specs.declared.Verdict.{Verdict}
+use Rattle.model.specs.Answers.{Listed, Verdict}
 use Rattle.model.specs.Bytes.{put}
 use Rattle.model.specs.Geometry.{superblock_at, root_at, entry_at}
 use Rattle.model.specs.Disk.{Disk, view}

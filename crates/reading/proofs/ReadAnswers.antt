@@ -7,15 +7,13 @@ use mathlib.Core.Option.{Option, none, some}
 use native.Mathlib.Omega.{arith}
 use lib.Dec.{eqb, ltb}
 use lib.ListN.{length}
-use borrow.Author.Tests.{ltb-false, eqb-true, eq-eqb, ne_eqb}
-use Rattle.model.specs.declared.BytesRead.{BytesRead}
+use borrow.Author.Tests.{ltb-false, eqb-true, eqb-false, eq-eqb, ne_eqb}
+use Rattle.model.specs.Answers.{BytesRead, Verdict}
 use Rattle.model.specs.declared.Geometry.{Geometry}
-use Rattle.model.specs.declared.Lowest.{Lowest}
-use Rattle.model.specs.declared.Lowest.TheVariants.{At, Nowhere}
+use Rattle.std.specs.Prelude.{Some, Ok}
 use Rattle.model.specs.declared.Reading.{Reading}
-use Rattle.model.specs.declared.Verdict.{Verdict}
 use Rattle.model.specs.Bytes.{number_in, put}
-use Rattle.model.specs.Search.{tabulate, is_at, index_of}
+use Rattle.model.specs.Search.{Lowest, tabulate, is_at, index_of}
 use Rattle.model.specs.Geometry.{superblock_at, entry_at}
 use Rattle.model.specs.Disk.{Disk, view}
 use Rattle.model.specs.Superblock.{geometry_in}
@@ -26,13 +24,16 @@ use Rattle.model.specs.Refusals.{Conditions, verdict_of, and_then, refusal, done
 use Rattle.model.specs.WriteList.{Plan, one_target, emit, groups_for, closed, list_length, Decision, is_planned, plan_conditions, decided, list_after}
 use Rattle.model.specs.Read.{longest_transfer, read_count, size_named, read_conditions, read_plan, read_planned, read_decision, not_read, read_of, read_answer, read_gives, read_output, read_list}
 use Rattle.model.specs.Lent.{read_idle, read_begun, read_lent}
+use Rattle.model.specs.Results.{verdict_for, read_in}
+use Rattle.model.specs.declared.Refusal.{Refusal}
+use Rattle.model.specs.declared.ReadBytes.{ReadBytes}
 use Rattle.laws.proofs.Booleans.{or-none}
 use Rattle.laws.proofs.Bytes.{put-nil}
 use Rattle.laws.proofs.Named.{short-name}
 use Rattle.laws.proofs.WriteList.{emit-nil, plan-needs}
 use Rattle.commit.proofs.Decided.{edition-is, same-refusal, decided-judged, decided-own}
-use Rattle.reading.specs.Given.{access_size, lent_verdict, file_verdict, planned, file_decision, file_read}
-use Rattle.reading.proofs.Verdicts.{file-enough, lent-last, access-needs, planned-refused, planned-done, size_is}
+use Rattle.reading.specs.Given.{asked_verdict, access_size, lent_verdict, file_verdict, planned, file_decision, file_read}
+use Rattle.reading.proofs.Verdicts.{refusing, passed, file-enough, lent-last, access-needs, planned-refused, planned-done, size_is}
 
 -- the answer and the list that a decision comes to, of file i
 abbrev pub ReadAs : List ℕ → List ℕ → ℕ → ℕ → ℕ → Decision → BytesRead → List ℕ → Type 0
@@ -47,27 +48,27 @@ read-needs : (d : Disk) (i time : ℕ) → list_length (groups_for d (read_plann
 unfolding read_plan read_planned
 read-needs d i time = access-needs d (lacks_reserve (catalogue_of d)) (read_plan (catalogue_of d) d i time) (plan-needs d (read_plan (catalogue_of d) d i time))
 
--- bytes are given only where nothing refuses: bytes of the file, and no more than there is room for
-count_by : (v : Verdict) (b : Bool) (n l : ℕ) → eqb v.number 0 ≡ b → ((cond b (record { verdict = v; count = n; length = l }) (not_read v)).count ≡ 0 → ⊥)
+-- where nothing refuses, bytes of the file are given, and no more than there is room for
+given-by : (v : Verdict) (b : Bool) (n l : ℕ) → eqb v.number 0 ≡ b → 0 ≡ (cond b (record { verdict = v; count = n; length = l }) (not_read v)).verdict.number
     → (v.number ≡ 0) × ((cond b (record { verdict = v; count = n; length = l }) (not_read v)).count ≡ n)
-count_by v true n l e h = (eqb-true v.number 0 e, refl)
-count_by v false n l e h = absurd (h refl)
+given-by v true n l e h = (eqb-true v.number 0 e, refl)
+given-by v false n l e h = absurd (eqb-false v.number 0 e (sym h))
 
-pub file-count : (d : Disk) (i offset asked time room space : ℕ) (r : BytesRead) → r ≡ file_read (file_decision d i offset asked time room space) d i offset asked
-    → (r.count ≡ 0 → ⊥) → (offset + r.count ≤ (entry_of (catalogue_of d) i).size) × (r.count ≤ room)
+pub file-count : (d : Disk) (i offset asked time room space : ℕ) (r : ReadBytes) → read_in (Ok r) ≡ file_read (file_decision d i offset asked time room space) d i offset asked
+    → (offset + r.count ≤ (entry_of (catalogue_of d) i).size) × (r.count ≤ room)
 unfolding file_read
-file-count d i offset asked time room space r e h =
+file-count d i offset asked time room space r e =
     let size = (entry_of (catalogue_of d) i).size in
     let x = file_decision d i offset asked time room space in
-    let k = count_by x.verdict _ (read_count size offset asked) (list_length (groups_for d x.plan)) refl (rw e at h) in
+    let k = given-by x.verdict _ (read_count size offset asked) (list_length (groups_for d x.plan)) refl (ap (λ (z : BytesRead). z.verdict.number) e) in
     let f = file-enough size offset asked room (access_size (lacks_reserve (catalogue_of d))) space k.0 in
     let n : r.count ≡ read_count size offset asked = ap (λ (z : BytesRead). z.count) e ∙ k.1 in
     (omega (arith, n, f.0), omega (arith, n, f.1))
 
--- a read of no bytes
-pub nothing-given : (c : Catalogue) (d : Disk) (out : List ℕ) (i offset n : ℕ) → n ≡ 0 → out ≡ put out 0 (file_bytes c d i offset n)
+-- a read that is refused
+pub nothing-given : (c : Catalogue) (d : Disk) (out : List ℕ) (i offset : ℕ) → out ≡ put out 0 (file_bytes c d i offset 0)
 unfolding file_bytes tabulate
-nothing-given c d out i offset n e = rw e (sym (put-nil out 0))
+nothing-given c d out i offset = sym (put-nil out 0)
 
 -- ---- of an occupied entry
 
@@ -133,6 +134,13 @@ good-arguments edition name asked time h =
     let l = or-none b (ltb longest_transfer asked) (or-none (bad_time edition time) (b || ltb longest_transfer asked) h).1 in
     (short-name edition name l.0, ltb-false longest_transfer asked l.1)
 
+-- 8 and 9 stand before the other conditions
+asked-first : (bad there : Bool) (later x : Verdict) → ((cond bad (refusal 8) (cond (not there) (refusal 9) done)).number ≡ 0 → ⊥)
+    → cond bad (refusal 8) (cond (not there) (refusal 9) done) ≡ and_then (cond bad (refusal 8) (cond (not there) (refusal 9) later)) x
+asked-first true there later x h = refl
+asked-first false false later x h = refl
+asked-first false true later x h = absurd (h refl)
+
 -- the list's 14 stands last
 file-last : (a b e l : Bool) (p : Plan) → cond a (refusal 12) (cond b (refusal 14) (cond e (refusal 14) done))
     ≡ and_then (cond a (refusal 12) (cond b (refusal 14) done)) (cond (is_planned (cond l none (some p)) && l) (refusal 13) (cond e (refusal 14) done))
@@ -177,9 +185,12 @@ module _ (len : ℕ) (img list name : List ℕ) (offset asked time room : ℕ) w
         → Reads len img list name offset asked time room (not_read v) list
     own-refused v h e = read_as (record { verdict = v; plan = none }) (read-own v e ∙ planned-refused v plan h) (refused_as img list place offset asked v h)
 
+    -- 12 and 14, and with 9 before them
+    abbrev last : Verdict
+    last = cond (ltb (size_named c name) offset) (refusal 12) (cond (ltb room (read_count (size_named c name) offset asked)) (refusal 14) done)
+
     abbrev rest : Verdict
-    rest = cond (not (is_at (file_named c name))) (refusal 9)
-        (cond (ltb (size_named c name) offset) (refusal 12) (cond (ltb room (read_count (size_named c name) offset asked)) (refusal 14) done))
+    rest = cond (not (is_at (file_named c name))) (refusal 9) last
 
     read-tests : verdict_of cs ≡ cond (is_bad g.edition name asked time) (refusal 8) rest
     unfolding verdict_of read_conditions
@@ -187,14 +198,21 @@ module _ (len : ℕ) (img list name : List ℕ) (offset asked time room : ℕ) w
         same-refusal (bad_time c.geometry.edition time) (bad_name c.geometry.edition name || ltb longest_transfer asked) (refusal 8) rest
         ∙ ap (λ (n : ℕ). cond (is_bad n name asked time) (refusal 8) rest) (edition-is img g is)
 
-    pub read-bad : is_bad g.edition name asked time ≡ true → Reads len img list name offset asked time room (not_read (refusal 8)) list
-    read-bad h = own-refused (refusal 8) (λ (e : ◌≡◌ {A = ℕ} 8 0). omega arith) (rw (read-tests, h))
+    -- 8 and 9
+    pub read-refused : (e : Refusal) → verdict_for e ≡ asked_verdict c g.edition name asked time → Reads len img list name offset asked time room (not_read (verdict_for e)) list
+    read-refused e v =
+        let plans = verdict_of (plan_conditions (view img) plan (length list)) in
+        own-refused (verdict_for e) (refusing e)
+        (v ∙ asked-first (is_bad g.edition name asked time) (is_at (file_named c name)) last plans (λ h. refusing e (ap (λ (w : Verdict). w.number) v ∙ h))
+        ∙ ap (λ (w : Verdict). and_then w plans) (sym read-tests))
 
-    module _ (good : is_bad g.edition name asked time ≡ false) where
-      pub read-missing : file_named c name ≡ Nowhere → Reads len img list name offset asked time room (not_read (refusal 9)) list
-      read-missing h = own-refused (refusal 9) (λ (e : ◌≡◌ {A = ℕ} 9 0). omega arith) (rw (read-tests, good, h))
+    module _ (let_pass : done ≡ asked_verdict c g.edition name asked time) where
+      good : is_bad g.edition name asked time ≡ false
+      good =
+          (passed (is_bad g.edition name asked time) 7 (cond (not (is_at (file_named c name))) (refusal 9) done)
+          (ap (λ (w : Verdict). w.number) (sym let_pass))).0
 
-      module _ (i : ℕ) (found : file_named c name ≡ At i) where
+      module _ (i : ℕ) (found : file_named c name ≡ Some i) where
         size-named : size_named c name ≡ (entry_of c i).size
         unfolding size_named
         size-named = ap (λ (p : Lowest). (entry_of c (index_of p)).size) found
@@ -234,9 +252,9 @@ module _ (len : ℕ) (img out list name : List ℕ) (offset asked time : ℕ) wh
   pub gives_none : (v : Verdict) → Reads len img list name offset asked time (length out) (not_read v) list → Gives len img out list name offset asked time (not_read v) out list
   gives_none v h =
       let i = index_of (file_named (catalogue_of (view img)) name) in
-      gives i refl h (nothing-given (catalogue_of (view img)) (view img) out i offset 0 refl)
+      gives i refl h (nothing-given (catalogue_of (view img)) (view img) out i offset)
 
-  pub gives_found : {r : BytesRead} {o l : List ℕ} (i : ℕ) → file_named (catalogue_of (view img)) name ≡ At i → Reads len img list name offset asked time (length out) r l
+  pub gives_found : {r : BytesRead} {o l : List ℕ} (i : ℕ) → file_named (catalogue_of (view img)) name ≡ Some i → Reads len img list name offset asked time (length out) r l
       → o ≡ put out 0 (file_bytes (catalogue_of (view img)) (view img) i offset r.count) → Gives len img out list name offset asked time r o l
   gives_found i found h e = gives i (ap index_of found) h e
 
@@ -257,7 +275,7 @@ module _ (len : ℕ) (img list name : List ℕ) (offset asked time room : ℕ) w
   unfolding read_lent read_begun
   begins-none v h = rw (← h.0) (refl, h.1)
 
-  pub begins-found : {r : BytesRead} {l : List ℕ} (i : ℕ) → file_named (catalogue_of (view img)) name ≡ At i → Reads len img list name offset asked time room r l
+  pub begins-found : {r : BytesRead} {l : List ℕ} (i : ℕ) → file_named (catalogue_of (view img)) name ≡ Some i → Reads len img list name offset asked time room r l
       → Begins len img list name offset asked time room (read_begun (catalogue_of (view img)) i offset r) l
   unfolding read_lent
   begins-found i found h = rw (found, ← h.0) (refl, h.1)

@@ -9,7 +9,7 @@ use lib.Arith.{mod-mul}
 use lib.Dec.{eqb, leb, ltb}
 use lib.ListN.{length}
 use borrow.Author.Tests.{eqb-true, ltb-true, leb-true, eq-eqb, ne_eqb}
-use Rattle.model.specs.declared.BytesRead.{BytesRead}
+use Rattle.model.specs.Answers.{BytesRead}
 use Rattle.model.specs.declared.Geometry.{Geometry}
 use Rattle.model.specs.declared.Reading.{Reading}
 use Rattle.model.specs.Bytes.{bytes_from, put}

@@ -6,10 +6,10 @@ use mathlib.Core.List.{List}
 use mathlib.Core.Option.{Option, none, some}
 use native.Mathlib.Omega.{arith}
 use lib.Dec.{ltb}
-use borrow.Author.Tests.{ltb-false, eq-eqb, ne_eqb}
+use borrow.Author.Tests.{ltb-false, eqb-false, eq-eqb, ne_eqb}
 use Rattle.model.specs.declared.Geometry.{Geometry}
-use Rattle.model.specs.declared.Lowest.TheVariants.{At, Nowhere}
-use Rattle.model.specs.declared.Verdict.{Verdict}
+use Rattle.std.specs.Prelude.{Some, None}
+use Rattle.model.specs.Answers.{Verdict}
 use Rattle.model.specs.Bytes.{number_in}
 use Rattle.model.specs.Search.{is_at}
 use Rattle.model.specs.Geometry.{superblock_at, entry_at}
@@ -21,7 +21,10 @@ use Rattle.model.specs.Refusals.{verdict_of, and_then, refusal, done}
 use Rattle.model.specs.WriteList.{Plan, record_size, groups_for, list_length, is_planned}
 use Rattle.model.specs.Find.{name_conditions}
 use Rattle.model.specs.Read.{read_count}
+use Rattle.model.specs.Results.{verdict_for}
+use Rattle.model.specs.declared.Refusal.{Refusal}
 use Rattle.laws.proofs.Named.{edition_on, entry-on}
+use Rattle.laws.proofs.Results.{refused}
 use Rattle.reading.specs.Given.{access_size, lent_verdict, file_verdict, planned}
 
 -- ---- find: its conditions are tests of the code's
@@ -35,16 +38,19 @@ module _ (d : Disk) (name : List ℕ) where
   pub find-bad : bad_name (edition_on d) name ≡ true → verdict_of (name_conditions (catalogue_of d) name) ≡ refusal 8
   find-bad h = find-tests ∙ rw h
 
-  pub find-missing : bad_name (edition_on d) name ≡ false → file_named (catalogue_of d) name ≡ Nowhere → verdict_of (name_conditions (catalogue_of d) name) ≡ refusal 9
+  pub find-missing : bad_name (edition_on d) name ≡ false → file_named (catalogue_of d) name ≡ None → verdict_of (name_conditions (catalogue_of d) name) ≡ refusal 9
   find-missing h n = find-tests ∙ rw (h, n)
 
-  pub find-done : (i : ℕ) → bad_name (edition_on d) name ≡ false → file_named (catalogue_of d) name ≡ At i → verdict_of (name_conditions (catalogue_of d) name) ≡ done
+  pub find-done : (i : ℕ) → bad_name (edition_on d) name ≡ false → file_named (catalogue_of d) name ≡ Some i → verdict_of (name_conditions (catalogue_of d) name) ≡ done
   find-done i h n = find-tests ∙ rw (h, n)
 
 -- ---- list and read, once the entry is found
 
+pub refusing : (e : Refusal) → (verdict_for e).number ≡ 0 → ⊥
+refusing e = eqb-false (verdict_for e).number 0 (refused e)
+
 -- a test that did not refuse
-passed : (b : Bool) (n : ℕ) (v : Verdict) → (cond b (refusal (n + 1)) v).number ≡ 0 → (b ≡ false) × (v.number ≡ 0)
+pub passed : (b : Bool) (n : ℕ) (v : Verdict) → (cond b (refusal (n + 1)) v).number ≡ 0 → (b ≡ false) × (v.number ≡ 0)
 passed true n v e = let z : n + 1 ≡ 0 = e in absurd (omega arith)
 passed false n v e = (refl, e)
 

@@ -1,15 +1,23 @@
--- What list and read come to once the entry is found: the part of their conditions that is left, and the plan where none of it holds.
-use Rattle.std.specs.Prelude.{ℕ, ◌*◌, Bool, cond, [], ◌∷◌, ltb, length}
+-- What names the file of a read; and what list and read come to once the entry is found: the part of their conditions that is left, and the plan
+-- where none of it holds.
+use Rattle.std.specs.Prelude.{ℕ, ◌*◌, Bool, cond, not, ◌||◌, List, [], ◌∷◌, ltb, length}
 use Rattle.std.proofs.Math.Option.{Option, none}
-use Rattle.model.specs.declared.BytesRead.{BytesRead}
-use Rattle.model.specs.declared.Verdict.{Verdict}
+use Rattle.model.specs.Answers.{BytesRead, Verdict}
 use Rattle.model.specs.Geometry.{FileNumber}
 use Rattle.model.specs.Disk.{Disk}
-use Rattle.model.specs.Catalogue.{catalogue_of, lacks_reserve, entry_of}
-use Rattle.model.specs.Refusals.{verdict_of, is_done, given, refusal}
+use Rattle.model.specs.Search.{is_at}
+use Rattle.model.specs.Edition.{bad_time}
+use Rattle.model.specs.Entry.{bad_name}
+use Rattle.model.specs.Catalogue.{Catalogue, catalogue_of, file_named, lacks_reserve, entry_of}
+use Rattle.model.specs.Refusals.{verdict_of, is_done, given, refusal, done}
 use Rattle.model.specs.WriteList.{Plan, record_size, groups_for, list_length, Decision}
 use Rattle.model.specs.Listing.{list_planned}
-use Rattle.model.specs.Read.{read_count, not_read, read_planned}
+use Rattle.model.specs.Read.{longest_transfer, read_count, not_read, read_planned}
+
+-- 8 and 9 of a read, by the edition that the code reads by
+abbrev pub asked_verdict : Catalogue → ℕ → List ℕ → ℕ → ℕ → Verdict
+asked_verdict c edition name asked time =
+    cond (bad_time edition time || (bad_name edition name || ltb longest_transfer asked)) (refusal 8) (cond (not (is_at (file_named c name))) (refusal 9) done)
 
 -- the bytes that the access time's one target takes in the list; none where the reserve lacks (T-12)
 abbrev pub access_size : Bool → ℕ

@@ -1,7 +1,7 @@
 // What find, list and read give, and the access times that list and read set, on a volume that the refusals 1 to 7 let pass.
 #![tactic(auto)]
 
-ghost use Rattle.std.specs.Prelude.{◌≡◌, true, cond, not, ◌||◌, ◌+◌, ◌*◌, ◌≤◌, ◌<◌, ◌^◌, eqb, ltb, length};
+ghost use Rattle.std.specs.Prelude.{◌≡◌, true, cond, ◌||◌, ◌+◌, ◌*◌, ◌≤◌, ◌<◌, ◌^◌, eqb, ltb, length, is_none, Some, IfSome, IfOk, Ok};
 ghost use Rattle.std.proofs.Math.Option.{none, some};
 ghost use Rattle.model.specs.Bytes.{number_in, put};
 ghost use Rattle.model.specs.Geometry.{superblock_at, entry_at, volume_sectors};
@@ -9,130 +9,75 @@ ghost use Rattle.model.specs.Disk.{view};
 ghost use Rattle.model.specs.Superblock.{geometry_in};
 ghost use Rattle.model.specs.Table.{free_file};
 ghost use Rattle.model.specs.Edition.{layout_of, bad_time};
-ghost use Rattle.model.specs.Entry.{entry_field, name_in, no_fields, is_occupied, bad_name};
-ghost use Rattle.model.specs.Catalogue.{catalogue_of, file_bytes};
+ghost use Rattle.model.specs.Entry.{entry_field, name_in, is_occupied, bad_name};
+ghost use Rattle.model.specs.Catalogue.{catalogue_of, file_named, file_bytes};
 ghost use Rattle.model.specs.Refusals.{verdict_of};
 ghost use Rattle.model.specs.WriteList.{barrier_number, one_target, emit, groups_for, closed, list_after};
-ghost use Rattle.model.specs.Find.{not_found, name_conditions, found_by};
-ghost use Rattle.model.specs.Listing.{not_listed, listed_of, copied_of, list_answer, list_output, listing_list};
-ghost use Rattle.model.specs.Read.{longest_transfer, not_read, read_answer, read_output, read_list};
+ghost use Rattle.model.specs.Find.{name_conditions, found_by};
+ghost use Rattle.model.specs.Listing.{listed_of, copied_of, list_answer, list_output, listing_list};
+ghost use Rattle.model.specs.Read.{longest_transfer, read_count, read_answer, read_output, read_list};
 ghost use Rattle.model.specs.Lent.{read_idle, read_asking, read_begun, read_lent, takes_read, read_step, read_step_output};
 ghost use Rattle.model.specs.Opened.{Opened, in_volume, Accepted};
+ghost use Rattle.model.specs.Results.{verdict_in, found_in, listed_in, read_in};
 ghost use Rattle.commit.specs.Commit.{StagesOf};
-ghost use Rattle.reading.specs.Given.{access_size, lent_verdict, file_verdict, entry_decision, file_decision, file_read};
+ghost use Rattle.reading.specs.Given.{asked_verdict, access_size, lent_verdict, file_verdict, entry_decision, file_decision, file_read};
 
-use model::{
-    BytesRead, Fields, FileIndex, Found, Geometry, Listed, Lowest, Reading, Sector, Verdict,
-};
+use model::{FileIndex, FoundFile, Geometry, ListedFile, ReadBytes, Reading, Refusal, Sector};
 
-fn no_fields() -> Fields
-    ensures { result ≡ no_fields }
-{
-    Fields {
-        size: 0,
-        version: 0,
-        id: 0,
-        mode: 0,
-        access_time: 0,
-        change_time: 0,
-        name_length: 0,
-    }
-}
-
-pub fn not_found(v: Verdict) -> Found
-    ensures { result ≡ not_found v }
-{
-    let fields = no_fields();
-    Found {
-        verdict: v,
-        index: FileIndex(0),
-        fields,
-    }
-}
-
-pub fn not_listed(v: Verdict) -> Listed
-    ensures { result ≡ not_listed v }
-{
-    let fields = no_fields();
-    Listed {
-        verdict: v,
-        fields,
-        length: 0,
-    }
-}
-
-pub fn not_read(v: Verdict) -> BytesRead
-    ensures { result ≡ not_read v }
-{
-    BytesRead {
-        verdict: v,
-        count: 0,
-        length: 0,
-    }
-}
-
-pub fn find_in(img: &[u8], name: &[u8]) -> Found
+pub fn find_in(img: &[u8], name: &[u8]) -> Result<FoundFile, Refusal>
     requires { Accepted img.now }
-    ensures { result ≡ found_by (verdict_of (name_conditions (catalogue_of (view img.now)) name.now)) (catalogue_of (view img.now)) name.now }
+    ensures { found_in result ≡ found_by (verdict_of (name_conditions (catalogue_of (view img.now)) name.now)) (catalogue_of (view img.now)) name.now }
 {
     let g = volume::geometry_in(img);
     if directory::bad_name(g.edition, name) {
-        return not_found(volume::refusal(8));
+        return Err(Refusal::BadArgument);
     }
-    if let Lowest::At(i) = directory::file_named(img, g, name) {
-        let index = FileIndex(i as u64);
-        let fields = directory::fields_at(img, g.edition, index);
-        let verdict = volume::refusal(0);
-        return Found {
-            verdict,
-            index,
-            fields,
-        };
-    }
-    not_found(volume::refusal(9))
+    let Some(i) = directory::file_named(img, g, name) else {
+        return Err(Refusal::NotFound);
+    };
+    let index = FileIndex(i as u64);
+    let fields = directory::fields_at(img, g.edition, index);
+    Ok(FoundFile { index, fields })
 }
 
 // 14 where the output is shorter than what is given, or the list than what stands in it.
-fn lent_verdict(needed: usize, room: usize, listed: usize, space: usize) -> Verdict
-    ensures { result ≡ lent_verdict needed room listed space }
+fn lent_verdict(needed: usize, room: usize, listed: usize, space: usize) -> Result<(), Refusal>
+    ensures { verdict_in result ≡ lent_verdict needed room listed space }
 {
-    if room < needed {
-        return volume::refusal(14);
+    if room < needed || space < listed {
+        return Err(Refusal::TooShort);
     }
-    if space < listed {
-        return volume::refusal(14);
-    }
-    volume::refusal(0)
+    Ok(())
 }
 
 // ---- the access time: one target, where the reserve is there
 
-fn access_size(there: bool) -> usize
-    ensures { result ≡ access_size (not there) }
+fn access_size(staging: Option<[u64; 5]>) -> usize
+    ensures { result ≡ access_size (is_none staging) }
 {
-    if there {
-        return commit::ONE_TARGET_SIZE;
+    if staging.is_some() {
+        commit::ONE_TARGET_SIZE
+    } else {
+        0
     }
-    0
 }
 
 fn put_access(
     list: &mut [u8],
     img: &[u8],
     g: Geometry,
-    stages: &[u64],
-    there: bool,
+    staging: Option<[u64; 5]>,
     target: Sector,
     s: [u8; 512],
 )
-    requires stages_of { there ≡ true → StagesOf g (view img.now) stages.now }
-    requires there_in_bounds { access_size (not there) ≤ length list.old }
+    requires stages_of { IfSome staging (λ stages. StagesOf g (view img.now) stages) }
+    requires staging_in_bounds { access_size (is_none staging) ≤ length list.old }
     requires opened { Opened img.now g }
-    ensures { list.new ≡ emit list.old 0 (closed (groups_for (view img.now) (cond (not there) none (some (one_target target.0 s))))) }
+    ensures { list.new ≡ emit list.old 0
+        (closed (groups_for (view img.now) (cond (is_none staging) none (some (one_target target.0 s))))) }
 {
-    if there {
-        commit::put_one_target(list, img, g, stages, target, s);
-        return;
+    if let Some(stages) = staging {
+        commit::put_one_target(list, img, g, &stages, target, s);
     }
 }
 
@@ -155,11 +100,11 @@ fn list_entry(
     time: u64,
     out: &mut [u8],
     list: &mut [u8],
-) -> Listed
+) -> Result<ListedFile, Refusal>
     requires opened { Opened img.now g }
     requires i_lt_files { (i.0 < g.files) × (is_occupied (view img.now (entry_at i.0)) ≡ true)
         × (number_in (view img.now (entry_at i.0)) (layout_of g.edition).name_length ≤ (layout_of g.edition).longest_name) }
-    ensures value { result ≡ listed_of (entry_decision (view img.now) i.0 time (length out.old) (length list.old)) (view img.now) i.0 }
+    ensures value { listed_in result ≡ listed_of (entry_decision (view img.now) i.0 time (length out.old) (length list.old)) (view img.now) i.0 }
     ensures out_after { out.new ≡ put out.old 0
         (copied_of (entry_decision (view img.now) i.0 time (length out.old) (length list.old)) (view img.now) i.0) }
     ensures list_after { list.new ≡ list_after (view img.now)
@@ -167,41 +112,39 @@ fn list_entry(
 {
     let fields = directory::fields_at(img, g.edition, i);
     let n = fields.name_length as usize;
-    let mut stages = [0u64; 5];
-    let there = table::staging(img, g, &mut stages);
-    let listed = access_size(there);
-    let verdict = lent_verdict(n, out.len(), listed, list.len());
-    if verdict.number == 0 {
-        copy_name(img, g.edition, i, out, n);
-        let root = directory::accessed_root(img, g.edition, time);
-        put_access(list, img, g, &stages, there, Sector::ROOT, root);
-        return Listed {
-            verdict,
-            fields,
-            length: listed as u64,
-        };
-    }
-    not_listed(verdict)
+    let staging = table::staging(img, g);
+    let listed = access_size(staging);
+    lent_verdict(n, out.len(), listed, list.len())?;
+    copy_name(img, g.edition, i, out, n);
+    let root = directory::accessed_root(img, g.edition, time);
+    put_access(list, img, g, staging, Sector::ROOT, root);
+    Ok(ListedFile {
+        fields,
+        length: listed as u64,
+    })
 }
 
-pub fn list_in(img: &[u8], index: u64, time: u64, out: &mut [u8], list: &mut [u8]) -> Listed
+pub fn list_in(
+    img: &[u8],
+    index: u64,
+    time: u64,
+    out: &mut [u8],
+    list: &mut [u8],
+) -> Result<ListedFile, Refusal>
     requires { Accepted img.now }
-    ensures value { result ≡ in_volume list_answer img.now index time (length out.old) (length list.old) }
+    ensures value { listed_in result ≡ in_volume list_answer img.now index time (length out.old) (length list.old) }
     ensures out_after { out.new ≡ in_volume list_output img.now index time out.old (length list.old) }
     ensures list_after { list.new ≡ in_volume listing_list img.now index time (length out.old) list.old }
 {
     let g = volume::geometry_in(img);
-    if layout::edition::bad_time(g.edition, time) {
-        return not_listed(volume::refusal(8));
+    if layout::edition::bad_time(g.edition, time) || g.files <= index {
+        return Err(Refusal::BadArgument);
     }
-    if index < g.files {
-        let i = FileIndex(index);
-        if directory::is_occupied(img, i) {
-            return list_entry(img, g, i, time, out, list);
-        }
-        return not_listed(volume::refusal(9));
+    let i = FileIndex(index);
+    if !directory::is_occupied(img, i) {
+        return Err(Refusal::NotFound);
     }
-    not_listed(volume::refusal(8))
+    list_entry(img, g, i, time, out, list)
 }
 
 // ---- read
@@ -209,32 +152,51 @@ pub fn list_in(img: &[u8], index: u64, time: u64, out: &mut [u8], list: &mut [u8
 fn bad_argument(edition: u64, name: &[u8], asked: u64, time: u64) -> bool
     ensures { result ≡ (bad_time edition time || (bad_name edition name.now || ltb longest_transfer asked)) }
 {
-    if layout::edition::bad_time(edition, time) {
-        return true;
-    }
-    if directory::bad_name(edition, name) {
-        return true;
-    }
-    model::LONGEST_TRANSFER < asked
+    layout::edition::bad_time(edition, time)
+        || directory::bad_name(edition, name)
+        || model::LONGEST_TRANSFER < asked
 }
 
-// 12, or 14 for either buffer.
-fn file_verdict(
+// The file that a read names: 8 or 9.
+fn file_asked(
+    img: &[u8],
+    g: Geometry,
+    name: &[u8],
+    asked: u64,
+    time: u64,
+) -> Result<FileIndex, Refusal>
+    requires { Opened img.now g }
+    ensures verdict { verdict_in result ≡ asked_verdict (catalogue_of (view img.now)) g.edition name.now asked time }
+    ensures file { IfOk result (λ i. (file_named (catalogue_of (view img.now)) name.now ≡ Some i.0) × (asked ≤ longest_transfer)) }
+{
+    if bad_argument(g.edition, name, asked, time) {
+        return Err(Refusal::BadArgument);
+    }
+    let Some(i) = directory::file_named(img, g, name) else {
+        return Err(Refusal::NotFound);
+    };
+    Ok(FileIndex(i as u64))
+}
+
+// How many bytes are given: 12, or 14 for either buffer.
+fn read_count(
     size: u64,
     offset: u64,
     asked: u64,
     room: usize,
     listed: usize,
     space: usize,
-) -> Verdict
+) -> Result<u64, Refusal>
     requires { asked ≤ longest_transfer }
-    ensures { result ≡ file_verdict size offset asked room listed space }
+    ensures verdict { verdict_in result ≡ file_verdict size offset asked room listed space }
+    ensures count { IfOk result (λ n. n ≡ read_count size offset asked) }
 {
     if size < offset {
-        return volume::refusal(12);
+        return Err(Refusal::PastEnd);
     }
-    let count = fields::least(asked, size - offset);
-    lent_verdict(count as usize, room, listed, space)
+    let count = asked.min(size - offset);
+    lent_verdict(count as usize, room, listed, space)?;
+    Ok(count)
 }
 
 // What a read of file i comes to but for its bytes: refusals 12 and 14, or the list of its access time. `room` is the output's length.
@@ -247,29 +209,23 @@ fn decide_read(
     time: u64,
     room: u64,
     list: &mut [u8],
-) -> BytesRead
+) -> Result<ReadBytes, Refusal>
     requires opened { Opened img.now g }
     requires i_lt_files { (i.0 < g.files) × (is_occupied (view img.now (entry_at i.0)) ≡ true) × (asked ≤ longest_transfer) }
-    ensures value { result ≡ file_read (file_decision (view img.now) i.0 offset asked time room (length list.old)) (view img.now) i.0 offset asked }
+    ensures value { read_in result ≡ file_read (file_decision (view img.now) i.0 offset asked time room (length list.old)) (view img.now) i.0 offset asked }
     ensures list_after { list.new ≡ list_after (view img.now) (file_decision (view img.now) i.0 offset asked time room (length list.old)) list.old }
 {
     let size = directory::size_at(img, i);
-    let mut stages = [0u64; 5];
-    let there = table::staging(img, g, &mut stages);
-    let listed = access_size(there);
-    let v = file_verdict(size, offset, asked, room as usize, listed, list.len());
-    if v.number == 0 {
-        let count = fields::least(asked, size - offset);
-        let entry = directory::accessed_entry(img, g.edition, i, time);
-        let target = i.sector();
-        put_access(list, img, g, &stages, there, target, entry);
-        return BytesRead {
-            verdict: v,
-            count,
-            length: listed as u64,
-        };
-    }
-    not_read(v)
+    let staging = table::staging(img, g);
+    let listed = access_size(staging);
+    let count = read_count(size, offset, asked, room as usize, listed, list.len())?;
+    let entry = directory::accessed_entry(img, g.edition, i, time);
+    let target = i.sector();
+    put_access(list, img, g, staging, target, entry);
+    Ok(ReadBytes {
+        count,
+        length: listed as u64,
+    })
 }
 
 // Reads of file i and sets its access time, where the image holds the data area.
@@ -282,22 +238,19 @@ fn read_file(
     time: u64,
     out: &mut [u8],
     list: &mut [u8],
-) -> BytesRead
+) -> Result<ReadBytes, Refusal>
     requires opened { Opened img.now g }
     requires g_in_bounds { 512 * volume_sectors g ≤ length img.now }
     requires i_lt_files { (i.0 < g.files) × (is_occupied (view img.now (entry_at i.0)) ≡ true) × (number_in (view img.now (entry_at i.0)) entry_field.size < 2 ^ 62) × (asked ≤ longest_transfer) }
-    ensures value { result ≡ file_read
+    ensures value { read_in result ≡ file_read
         (file_decision (view img.now) i.0 offset asked time (length out.old) (length list.old)) (view img.now) i.0 offset asked }
-    ensures out_after { out.new ≡ put out.old 0 (file_bytes (catalogue_of (view img.now)) (view img.now) i.0 offset result.count) }
+    ensures out_after { out.new ≡ put out.old 0 (file_bytes (catalogue_of (view img.now)) (view img.now) i.0 offset (read_in result).count) }
     ensures list_after { list.new ≡ list_after (view img.now)
         (file_decision (view img.now) i.0 offset asked time (length out.old) (length list.old)) list.old }
 {
-    let r = decide_read(img, g, i, offset, asked, time, out.len() as u64, list);
-    if r.count == 0 {
-        return r;
-    }
+    let r = decide_read(img, g, i, offset, asked, time, out.len() as u64, list)?;
     spans::read_span(img, g, i, offset, out, 0, r.count as usize);
-    r
+    Ok(r)
 }
 
 pub fn read_in(
@@ -308,48 +261,58 @@ pub fn read_in(
     time: u64,
     out: &mut [u8],
     list: &mut [u8],
-) -> BytesRead
+) -> Result<ReadBytes, Refusal>
     requires accepted { Accepted img.now }
     requires superblock_at_in_bounds { 512 * volume_sectors (geometry_in (view img.now superblock_at)) ≤ length img.now }
-    ensures value { result ≡ in_volume read_answer img.now name.now offset asked time (length out.old) (length list.old) }
+    ensures value { read_in result ≡ in_volume read_answer img.now name.now offset asked time (length out.old) (length list.old) }
     ensures out_after { out.new ≡ in_volume read_output img.now name.now offset asked time out.old (length list.old) }
     ensures list_after { list.new ≡ in_volume read_list img.now name.now offset asked time (length out.old) list.old }
 {
     let g = volume::geometry_in(img);
-    if bad_argument(g.edition, name, asked, time) {
-        return not_read(volume::refusal(8));
-    }
-    if let Lowest::At(i) = directory::file_named(img, g, name) {
-        return read_file(img, g, FileIndex(i as u64), offset, asked, time, out, list);
-    }
-    not_read(volume::refusal(9))
+    let i = file_asked(img, g, name, asked, time)?;
+    read_file(img, g, i, offset, asked, time, out, list)
 }
 
 // ---- read without the data area (T-11): its sectors are asked for, one after the other
 
+// C reads a `Reading` too, so a refusal stands in it by its numbers.
+const IDLE: Reading = Reading {
+    code: 0,
+    fault: 0,
+    place: 0,
+    count: 0,
+    length: 0,
+    wanted: 0,
+    skip: 0,
+    done: 0,
+    edge: 0,
+    next: 0,
+};
+
 // A read that asks for nothing.
-pub fn idle(a: BytesRead) -> Reading
-    ensures { result ≡ read_idle a }
+pub fn idle(a: Result<ReadBytes, Refusal>) -> Reading
+    ensures { result ≡ read_idle (read_in a) }
 {
-    Reading {
-        code: a.verdict.number,
-        fault: a.verdict.fault,
-        place: a.verdict.place,
-        count: a.count,
-        length: a.length,
-        wanted: 0,
-        skip: 0,
-        done: 0,
-        edge: 0,
-        next: 0,
+    match a {
+        Ok(bytes) => Reading {
+            count: bytes.count,
+            length: bytes.length,
+            ..IDLE
+        },
+        Err(refusal) => Reading {
+            code: refusal.number(),
+            fault: refusal.fault(),
+            place: refusal.place(),
+            ..IDLE
+        },
     }
 }
 
 // A read of file i that asks for the sector of its first byte.
-fn asking(img: &[u8], g: Geometry, i: FileIndex, offset: u64, a: BytesRead) -> Reading
+fn asking(img: &[u8], g: Geometry, i: FileIndex, offset: u64, bytes: ReadBytes) -> Reading
     requires opened { Opened img.now g }
     requires i_lt_free_file { i.0 < free_file }
-    ensures { result ≡ read_asking (catalogue_of (view img.now)) i.0 offset a }
+    ensures { result ≡ read_asking (catalogue_of (view img.now)) i.0 offset (read_in (Ok bytes)) }
 {
     let e = 512 * (g.extent_sectors as u64);
     let o = offset / e;
@@ -357,16 +320,13 @@ fn asking(img: &[u8], g: Geometry, i: FileIndex, offset: u64, a: BytesRead) -> R
     let start = g.extent_at(table::extent_of(img, g, i, o));
     let next = g.extent_at(table::extent_of(img, g, i, o + 1));
     Reading {
-        code: a.verdict.number,
-        fault: a.verdict.fault,
-        place: a.verdict.place,
-        count: a.count,
-        length: a.length,
+        count: bytes.count,
+        length: bytes.length,
         wanted: start.0 + within / 512,
         skip: offset % 512,
-        done: 0,
         edge: e - within,
         next: next.0,
+        ..IDLE
     }
 }
 
@@ -387,10 +347,10 @@ fn begin_read(
     ensures list_after { list.new ≡ list_after (view img.now) (file_decision (view img.now) i.0 offset asked time room (length list.old)) list.old }
 {
     let a = decide_read(img, g, i, offset, asked, time, room, list);
-    if a.count == 0 {
-        return idle(a);
+    match a {
+        Ok(bytes) if bytes.count != 0 => asking(img, g, i, offset, bytes),
+        _ => idle(a),
     }
-    asking(img, g, i, offset, a)
 }
 
 pub fn read_lent_in(
@@ -407,27 +367,17 @@ pub fn read_lent_in(
     ensures list_after { list.new ≡ in_volume read_list img.now name.now offset asked time room list.old }
 {
     let g = volume::geometry_in(img);
-    if bad_argument(g.edition, name, asked, time) {
-        return idle(not_read(volume::refusal(8)));
+    match file_asked(img, g, name, asked, time) {
+        Ok(i) => begin_read(img, g, i, offset, asked, time, room, list),
+        Err(refusal) => idle(Err(refusal)),
     }
-    if let Lowest::At(i) = directory::file_named(img, g, name) {
-        return begin_read(img, g, FileIndex(i as u64), offset, asked, time, room, list);
-    }
-    idle(not_read(volume::refusal(9)))
 }
 
 // A data sector is asked for, these are the bytes of one, and the output has room for the whole span.
 fn takes_read(r: Reading, n: usize, room: usize) -> bool
     ensures { result ≡ takes_read r n room }
 {
-    if volume::is_asked(r.wanted, n) {
-        if r.skip < 512 {
-            if r.done < r.count {
-                return r.count <= room as u64;
-            }
-        }
-    }
-    false
+    volume::is_asked(r.wanted, n) && r.skip < 512 && r.done < r.count && r.count <= room as u64
 }
 
 // What is asked for once n bytes of the span are there.
@@ -449,34 +399,18 @@ pub fn read_step(r: Reading, bytes: &[u8], out: &mut [u8]) -> Reading
     ensures value { result ≡ read_step r (length bytes.now) (length out.old) }
     ensures out_after { out.new ≡ read_step_output r bytes.now out.old }
 {
-    if takes_read(r, bytes.len(), out.len()) {
-        let part = fields::least(512 - r.skip, r.count - r.done);
-        let n = r.done + part;
-        let wanted = wanted_after(r, n);
-        fields::move_bytes(bytes, r.skip as usize, out, r.done as usize, part as usize);
-        return Reading {
-            code: 0,
-            fault: r.fault,
-            place: r.place,
-            count: r.count,
-            length: r.length,
-            wanted,
-            skip: 0,
-            done: n,
-            edge: r.edge,
-            next: r.next,
-        };
+    if !takes_read(r, bytes.len(), out.len()) {
+        return Reading { code: 8, ..r };
     }
+    let part = (512 - r.skip).min(r.count - r.done);
+    let n = r.done + part;
+    let wanted = wanted_after(r, n);
+    fields::copy_bytes(bytes, r.skip as usize, out, r.done as usize, part as usize);
     Reading {
-        code: 8,
-        fault: r.fault,
-        place: r.place,
-        count: r.count,
-        length: r.length,
-        wanted: r.wanted,
-        skip: r.skip,
-        done: r.done,
-        edge: r.edge,
-        next: r.next,
+        code: 0,
+        wanted,
+        skip: 0,
+        done: n,
+        ..r
     }
 }

@@ -4,3 +4,4 @@ pub mod Answer
 pub mod Rising
 pub mod Slice
 pub mod Lent
+pub mod Areas

@@ -6,11 +6,10 @@ use mathlib.Core.List.{List}
 use mathlib.Core.Option.{Option, some}
 use native.Mathlib.Omega.{arith}
 use lib.ListN.{length}
-use Rattle.model.specs.declared.Changed.{Changed}
+use Rattle.model.specs.Answers.{Changed}
 use Rattle.model.specs.declared.Geometry.{Geometry}
-use Rattle.model.specs.declared.Lowest.{Lowest}
-use Rattle.model.specs.declared.Lowest.TheVariants.{At, Nowhere}
-use Rattle.model.specs.Search.{is_at, index_of, equal_bytes}
+use Rattle.std.specs.Prelude.{Some, None}
+use Rattle.model.specs.Search.{Lowest, is_at, index_of, equal_bytes}
 use Rattle.model.specs.Disk.{view}
 use Rattle.model.specs.Edition.{bad_time}
 use Rattle.model.specs.Entry.{bad_name, bad_new_name}
@@ -26,8 +25,8 @@ use Rattle.rename.specs.Renaming.{plan_for, RenamesTo}
 -- ---- where the new name is
 
 pub place-below : {img : List ℕ} {g : Geometry} (place : Lowest) (name : List ℕ) → Opened img g → place ≡ file_named (catalogue_of (view img)) name → index_of place < g.files
-place-below Nowhere name o e = omega (arith, o.bounded.files-low)
-place-below {img} {g} (At j) name o e = let low = (named-at (view img) name j e).0 in let f = ap (λ (x : Geometry). x.files) o.is in omega arith
+place-below None name o e = omega (arith, o.bounded.files-low)
+place-below {img} {g} (Some j) name o e = let low = (named-at (view img) name j e).0 in let f = ap (λ (x : Geometry). x.files) o.is in omega arith
 
 -- ---- rename's answer and list, test by test
 
@@ -58,18 +57,18 @@ module _ (img list old new : List ℕ) (time : ℕ) (ok : (judged (volume_length
   bad : is_bad ≡ true → refusal 8 ≡ verdict_of cs
   bad h = sym (own-tests ∙ rw h)
 
-  missing : is_bad ≡ false → file_named c old ≡ Nowhere → refusal 9 ≡ verdict_of cs
+  missing : is_bad ≡ false → file_named c old ≡ None → refusal 9 ≡ verdict_of cs
   missing h n = sym (own-tests ∙ rw (h, n))
 
   pub rename-bad : is_bad ≡ true → Comes img list old new time (record { verdict = refusal 8; length = 0 }) list
   unfolding rename_answer rename_list rename_decision
   rename-bad h = refused-by-own (volume_length (view img)) (view img) cs planned list ok (refusal 8) (bad h) (λ (e : ◌≡◌ {A = ℕ} 8 0). omega arith)
 
-  pub rename-missing : is_bad ≡ false → file_named c old ≡ Nowhere → Comes img list old new time (record { verdict = refusal 9; length = 0 }) list
+  pub rename-missing : is_bad ≡ false → file_named c old ≡ None → Comes img list old new time (record { verdict = refusal 9; length = 0 }) list
   unfolding rename_answer rename_list rename_decision
   rename-missing h n = refused-by-own (volume_length (view img)) (view img) cs planned list ok (refusal 9) (missing h n) (λ (e : ◌≡◌ {A = ℕ} 9 0). omega arith)
 
-  module _ (i : ℕ) (good : is_bad ≡ false) (found : file_named c old ≡ At i) where
+  module _ (i : ℕ) (good : is_bad ≡ false) (found : file_named c old ≡ Some i) where
     own : done ≡ verdict_of cs
     own = sym (own-tests ∙ rw (good, found))
 

@@ -8,8 +8,8 @@ use native.Mathlib.Omega.{arith}
 use lib.Dec.{ltb}
 use lib.ListN.{length, length-append}
 use Rattle.model.specs.declared.Geometry.{Geometry}
-use Rattle.model.specs.declared.Lowest.{Lowest}
-use Rattle.model.specs.declared.Lowest.TheVariants.{At, Nowhere}
+use Rattle.model.specs.Search.{Lowest}
+use Rattle.std.specs.Prelude.{Some, None}
 use Rattle.model.specs.Bytes.{zero_sector}
 use Rattle.model.specs.Geometry.{superblock_at, root_at, entry_at}
 use Rattle.model.specs.Disk.{Disk, view}
@@ -51,8 +51,8 @@ module _ (img : List ℕ) (g : Geometry) (is : g ≡ geometry_in (view img super
       ap (λ (x : Geometry). both_entries img i j name time ++ freed_sectors (owned_in img j 0) x (view img)) (geometry-of (view img) g is)
 
   length-renaming : (place : Lowest) (name : List ℕ) (time : ℕ) → length (renaming img i place name time) ≡ renaming_count img g place
-  length-renaming Nowhere name time = refl
-  length-renaming (At j) name time =
+  length-renaming None name time = refl
+  length-renaming (Some j) name time =
       ap length (replacing-is j name time) ∙ length-append (both_entries img i j name time) (freed_sectors (owned_in img j 0) g (view img))
       ∙ omega (
         arith,

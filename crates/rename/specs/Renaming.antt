@@ -1,10 +1,9 @@
 -- A rename in an image, by where the new name is: nowhere, or at a file that is replaced.
-use Rattle.std.specs.Prelude.{ℕ, ◌+◌, cond, List, [], ◌∷◌, ltb, length}
+use Rattle.std.specs.Prelude.{ℕ, ◌+◌, cond, List, [], ◌∷◌, ltb, length, Some, None}
 use Rattle.std.proofs.Math.Option.{some}
-use Rattle.model.specs.declared.Changed.{Changed}
+use Rattle.model.specs.Answers.{Changed}
 use Rattle.model.specs.declared.Geometry.{Geometry}
-use Rattle.model.specs.declared.Lowest.{Lowest}
-use Rattle.model.specs.declared.Lowest.TheVariants.{At, Nowhere}
+use Rattle.model.specs.Search.{Lowest}
 use Rattle.model.specs.Bytes.{zero_sector}
 use Rattle.model.specs.Geometry.{FileNumber, entry_at}
 use Rattle.model.specs.Disk.{view}
@@ -17,8 +16,8 @@ use Rattle.table.specs.Owned.{owned_in}
 
 -- how many targets stand behind the root
 abbrev pub renaming_count : List ℕ → Geometry → Lowest → ℕ
-renaming_count img g Nowhere = 1
-renaming_count img g (At j) = 2 + sectors_holding (owned_in img j 0) g
+renaming_count img g None = 1
+renaming_count img g (Some j) = 2 + sectors_holding (owned_in img j 0) g
 
 module _ (img : List ℕ) (i : FileNumber) where
   abbrev c : Catalogue

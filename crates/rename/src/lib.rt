@@ -12,12 +12,13 @@ ghost use Rattle.model.specs.Entry.{bad_name, bad_new_name};
 ghost use Rattle.model.specs.Table.{sectors_holding};
 ghost use Rattle.model.specs.WriteList.{sector_write, record_size, record_count, groups_for, closed, Emitted};
 ghost use Rattle.model.specs.Rename.{rename_answer, rename_list};
+ghost use Rattle.model.specs.Results.{changed_in};
 ghost use Rattle.model.specs.Opened.{Bounded, Opened, in_volume, Accepted};
 ghost use Rattle.commit.specs.Commit.{Stages, StagesOf, Added};
 ghost use Rattle.table.specs.Owned.{owned_in};
 ghost use Rattle.rename.specs.Renaming.{renaming_count, renamed_entry, both_entries, replacing, renaming, plan_for, RenamesTo};
 
-use model::{Changed, FileIndex, Geometry, Lowest, Sector};
+use model::{FileIndex, Geometry, Refusal, Sector};
 
 // ---- refusal 8
 
@@ -25,10 +26,7 @@ use model::{Changed, FileIndex, Geometry, Lowest, Sector};
 fn bad_argument(edition: u64, old: &[u8], new: &[u8], time: u64) -> bool
     ensures { result ≡ (bad_time edition time || bad_name edition old.now || bad_new_name edition new.now) }
 {
-    if directory::bad_name_or_time(edition, old, time) {
-        return true;
-    }
-    directory::bad_new_name(edition, new)
+    directory::bad_name_or_time(edition, old, time) || directory::bad_new_name(edition, new)
 }
 
 // ---- the entries
@@ -145,7 +143,7 @@ fn put_renaming(
     g: Geometry,
     stages: &[u64],
     i: FileIndex,
-    place: Lowest,
+    place: Option<usize>,
     name: &[u8],
     time: u64,
 ) -> usize
@@ -159,7 +157,7 @@ fn put_renaming(
     ensures value { (result ≡ k + renaming_count img.now g place) × (result ≤ k + 2 + table_sectors g) }
 {
     match place {
-        Lowest::At(j) => put_replacing(
+        Some(j) => put_replacing(
             list,
             k,
             numbers,
@@ -171,24 +169,22 @@ fn put_renaming(
             name,
             time,
         ),
-        Lowest::Nowhere => put_renamed(list, k, numbers, img, g, stages, i, name, time),
+        None => put_renamed(list, k, numbers, img, g, stages, i, name, time),
     }
 }
 
 // ---- the list
 
 // How many records it has, by where the new name is.
-fn rename_count(img: &[u8], g: Geometry, place: Lowest) -> usize
+fn rename_count(img: &[u8], g: Geometry, place: Option<usize>) -> usize
     requires opened { Opened img.now g }
     requires place_bound { index_of place < g.files }
     ensures value { result ≡ record_count 0 (1 + renaming_count img.now g place) }
     ensures upper_bound { result ≤ 2048 }
 {
     match place {
-        Lowest::At(j) => commit::records_for(
-            3 + table::sectors_from(img, g, FileIndex(j as u64), 0),
-        ),
-        Lowest::Nowhere => commit::records_for(2),
+        Some(j) => commit::records_for(3 + table::sectors_from(img, g, FileIndex(j as u64), 0)),
+        None => commit::records_for(2),
     }
 }
 
@@ -198,7 +194,7 @@ fn put_rename(
     g: Geometry,
     stages: &[u64],
     i: FileIndex,
-    place: Lowest,
+    place: Option<usize>,
     name: &[u8],
     time: u64,
     list: &mut [u8],
@@ -227,42 +223,43 @@ fn rename_file(
     name: &[u8],
     time: u64,
     list: &mut [u8],
-) -> Changed
+) -> Result<u64, Refusal>
     requires opened { Opened img.now g }
     requires i_lt_files { (i.0 < g.files) × (length name.now ≤ (layout_of g.edition).longest_name) }
-    ensures { RenamesTo img.now i.0 name.now time list.old result list.new }
+    ensures { RenamesTo img.now i.0 name.now time list.old (changed_in result) list.new }
 {
-    let mut stages = [0u64; 5];
-    if table::staging(img, g, &mut stages) {
-        let place = directory::file_named(img, g, name);
-        let needed = lists::RECORD_SIZE * rename_count(img, g, place);
-        if needed <= list.len() {
-            put_rename(img, g, &stages, i, place, name, time, list);
-            let verdict = volume::refusal(0);
-            return Changed {
-                verdict,
-                length: needed as u64,
-            };
-        }
-        return commit::refused(volume::refusal(14));
+    let Some(stages) = table::staging(img, g) else {
+        return Err(Refusal::VolumeFull);
+    };
+    let place = directory::file_named(img, g, name);
+    let needed = lists::RECORD_SIZE * rename_count(img, g, place);
+    if list.len() < needed {
+        return Err(Refusal::TooShort);
     }
-    commit::refused(volume::refusal(13))
+    put_rename(img, g, &stages, i, place, name, time, list);
+    Ok(needed as u64)
 }
 
-pub fn rename_in(img: &[u8], old: &[u8], new: &[u8], time: u64, list: &mut [u8]) -> Changed
+pub fn rename_in(
+    img: &[u8],
+    old: &[u8],
+    new: &[u8],
+    time: u64,
+    list: &mut [u8],
+) -> Result<u64, Refusal>
     requires { Accepted img.now }
-    ensures value { result ≡ in_volume rename_answer img.now old.now new.now time (length list.old) }
+    ensures value { changed_in result ≡ in_volume rename_answer img.now old.now new.now time (length list.old) }
     ensures list_after { list.new ≡ in_volume rename_list img.now old.now new.now time list.old }
 {
     let g = volume::geometry_in(img);
     if bad_argument(g.edition, old, new, time) {
-        return commit::refused(volume::refusal(8));
+        return Err(Refusal::BadArgument);
     }
-    if let Lowest::At(i) = directory::file_named(img, g, old) {
-        if fields::is_same(old, new) {
-            return commit::refused(volume::refusal(0));
-        }
-        return rename_file(img, g, FileIndex(i as u64), new, time, list);
+    let Some(i) = directory::file_named(img, g, old) else {
+        return Err(Refusal::NotFound);
+    };
+    if fields::is_same(old, new) {
+        return Ok(0);
     }
-    commit::refused(volume::refusal(9))
+    rename_file(img, g, FileIndex(i as u64), new, time, list)
 }

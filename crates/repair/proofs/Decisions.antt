@@ -7,21 +7,22 @@ use mathlib.Core.List.{List}
 use mathlib.Core.Option.{Option, none, some}
 use native.Mathlib.Omega.{arith}
 use lib.ListN.{length}
-use borrow.Author.Tests.{ne_eqb, eq-eqb, eqb-true}
+use borrow.Author.Tests.{eq-eqb, eqb-true}
 use Rattle.model.specs.declared.Geometry.{Geometry}
-use Rattle.model.specs.declared.Lowest.{Lowest}
-use Rattle.model.specs.declared.Lowest.TheVariants.{Nowhere}
-use Rattle.model.specs.declared.Soundness.TheVariants.{Sound}
-use Rattle.model.specs.declared.Verdict.{Verdict}
-use Rattle.model.specs.declared.Changed.{Changed}
-use Rattle.model.specs.declared.Repaired.{Repaired}
-use Rattle.model.specs.Search.{first, count_below}
+use Rattle.std.specs.Prelude.{None, Result, Ok, Err, ⊤}
+use Rattle.std.specs.Result.{result_and}
+use Rattle.model.specs.declared.Fault.{Fault}
+use Rattle.model.specs.declared.Refusal.{Refusal}
+use Rattle.model.specs.declared.Repair.{Repair}
+use Rattle.model.specs.Answers.{Soundness, Sound, Verdict, Changed, Repaired}
+use Rattle.model.specs.Search.{Lowest, first, count_below}
 use Rattle.model.specs.Disk.{Disk}
 use Rattle.model.specs.Superblock.{geometry_in, state_on}
 use Rattle.model.specs.Table.{sectors_holding}
 use Rattle.model.specs.Catalogue.{Catalogue, catalogue_of, lacks_reserve}
 use Rattle.model.specs.Faults.{fault21, fault22, fault23, fault24, fault25, fault26, or_else, faults_in}
-use Rattle.model.specs.Refusals.{and_then, is_done, refusal, image_verdict, state_number}
+use Rattle.model.specs.Refusals.{and_then, done, is_done, refusal, image_verdict, state_number}
+use Rattle.model.specs.Results.{verdict_for, soundness_in}
 use Rattle.model.specs.WriteList.{Plan, Decision, Emitted, closed, record_size, record_count, groups_for, list_length, list_after}
 use Rattle.model.specs.Repair.{is_stray, strays, repaired, repair_plan, repair_planned, repair_verdict, repair_decision, done_but, not_repaired, repair_answer, repair_list}
 use Rattle.model.specs.Opened.{volume_length}
@@ -29,17 +30,18 @@ use Rattle.laws.proofs.Search.{first-none}
 use Rattle.laws.proofs.Refusals.{image-done, own-done}
 use Rattle.laws.proofs.WriteList.{emit-nil}
 use Rattle.laws.proofs.Repaired.{fault25-repaired}
+use Rattle.laws.proofs.Results.{refused}
 use Rattle.soundness.specs.Directory.{directory_fault}
+use Rattle.soundness.proofs.Laws.{directory-found, directory-none}
 use Rattle.commit.specs.Decided.{fitted, ComesTo}
 use Rattle.commit.proofs.Decided.{fitted_none, fitted-full, fitted_short, fitted-done}
-use Rattle.repair.specs.declared.Mended.{Mended}
-use Rattle.repair.specs.Mending.{Mends}
+use Rattle.repair.specs.Mending.{Mends, changed, lacking}
 use Rattle.repair.proofs.Planned.{geometry-is, repair-needs, planned-none, planned-some}
 
 -- ---- behind the refusals 1 to 6
 
 module _ (d : Disk) (g : Geometry) (is : g ≡ geometry_in (d 0)) (list : List ℕ) (n : ℕ) (counted : n ≡ count_below (is_stray (catalogue_of d)) g.extents)
-    (lacking : Lowest) (lacks : lacking ≡ first (fault26 (repaired (catalogue_of d))) g.files) where
+    (rest : Result ⊤ Fault) (left : soundness_in rest ≡ or_else 26 (first (fault26 (repaired (catalogue_of d))) g.files) Sound) where
   abbrev c : Catalogue
   c = catalogue_of d
 
@@ -47,17 +49,16 @@ module _ (d : Disk) (g : Geometry) (is : g ≡ geometry_in (d 0)) (list : List �
   unfolding strays
   freed-are = counted ∙ ap (λ (x : Geometry). count_below (is_stray (catalogue_of d)) x.extents) (sym (geometry-is d g is))
 
-  lacking-is : lacking ≡ first (fault26 (repaired (catalogue_of d))) (catalogue_of d).geometry.files
-  lacking-is = lacks ∙ ap (λ (x : Geometry). first (fault26 (repaired (catalogue_of d))) x.files) (sym (geometry-is d g is))
+  lacking-is : soundness_in rest ≡ lacking d
+  lacking-is = left ∙ ap (λ (x : Geometry). or_else 26 (first (fault26 (repaired (catalogue_of d))) x.files) Sound) (sym (geometry-is d g is))
 
   comes : {o : Option Plan} {a : Changed} {after : List ℕ} → repair_planned (catalogue_of d) d ≡ o → ComesTo d (fitted d o (length list)) list a after
       → ComesTo d (fitted d (repair_planned (catalogue_of d) d) (length list)) list a after
   comes q h = rw q h
 
   -- nothing is freed
-  pub mends-none : n ≡ 0 → Mends d list (record { number = 0; freed = 0; length = 0; lacking = lacking }) list
-  mends-none z =
-      record { comes = comes (planned-none d g is (sym counted ∙ z)) (fitted_none d list); freed = λ e. sym z ∙ freed-are; lacking = lacking-is }
+  pub mends-none : n ≡ 0 → Mends d list (Ok (record { freed = n; length = 0; remaining = rest })) list
+  mends-none z = record { comes = comes (planned-none d g is (sym counted ∙ z)) (fitted_none d list); finds = (freed-are, lacking-is) }
 
   module _ (more : n ≢ 0) where
     abbrev plan : Plan
@@ -72,24 +73,15 @@ module _ (d : Disk) (g : Geometry) (is : g ≡ geometry_in (d 0)) (list : List �
 
     pub mends-some : {after : List ℕ} {j : ℕ} (k : ℕ) → lacks_reserve (catalogue_of d) ≡ false → k ≡ needed → k ≤ length list
         → Emitted list 0 (closed (groups_for d (some (repair_plan (catalogue_of d) d)))) after j
-        → Mends d list (record { number = 0; freed = n; length = k; lacking = lacking }) after
-    mends-some k has q room e = record {
-      comes = comes planned (fitted-done d plan list has (q ∙ sym (repair-needs d g is)) room e);
-      freed = λ _. freed-are;
-      lacking = lacking-is;
-    }
+        → Mends d list (Ok (record { freed = n; length = k; remaining = rest })) after
+    mends-some k has q room e =
+        record { comes = comes planned (fitted-done d plan list has (q ∙ sym (repair-needs d g is)) room e); finds = (freed-are, lacking-is) }
 
-    pub mends-short : lacks_reserve (catalogue_of d) ≡ false → length list < needed
-        → Mends d list (record { number = 14; freed = 0; length = 0; lacking = lacking }) list
-    mends-short has room = record {
-      comes = comes planned (fitted_short d plan list has (omega (arith, repair-needs d g is)));
-      freed = λ h. absurd (omega (arith, h));
-      lacking = lacking-is;
-    }
+    pub mends-short : lacks_reserve (catalogue_of d) ≡ false → length list < needed → Mends d list (Err Refusal.TooShort) list
+    mends-short has room = record { comes = comes planned (fitted_short d plan list has (omega (arith, repair-needs d g is))); finds = tt }
 
-    pub mends-frozen : lacks_reserve (catalogue_of d) ≡ true → Mends d list (record { number = 13; freed = 0; length = 0; lacking = lacking }) list
-    mends-frozen lack =
-        record { comes = comes planned (fitted-full d plan list lack); freed = λ h. absurd (omega (arith, h)); lacking = lacking-is }
+    pub mends-frozen : lacks_reserve (catalogue_of d) ≡ true → Mends d list (Err Refusal.VolumeFull) list
+    mends-frozen lack = record { comes = comes planned (fitted-full d plan list lack); finds = tt }
 
 -- ---- the first fault that remains
 
@@ -97,16 +89,21 @@ module _ (d : Disk) (g : Geometry) (is : g ≡ geometry_in (d 0)) where
   abbrev k : Catalogue
   k = catalogue_of d
 
-  no-25 : first (fault25 (repaired (catalogue_of d))) (catalogue_of d).geometry.extents ≡ Nowhere
+  no-25 : first (fault25 (repaired (catalogue_of d))) (catalogue_of d).geometry.extents ≡ None
   no-25 = first-none (fault25 (repaired k)) k.geometry.extents (λ e l. fault25-repaired k e)
 
   -- the directory's, then a file that lacks an extent
-  pub remains : faults_in (fault21 d) (repaired (catalogue_of d)) ≡ directory_fault g d (or_else 26 (first (fault26 (repaired (catalogue_of d))) (catalogue_of d).geometry.files) Sound)
+  remains : faults_in (fault21 d) (repaired (catalogue_of d)) ≡ directory_fault g d (lacking d)
   unfolding repaired fault22 fault23 fault24
   remains =
       ap (λ (r : Lowest). let n = k.geometry.files in or_else 21 (first (fault21 d) n) (or_else 22 (first (fault22 k) n) (or_else 23 (first (fault23 k) n) (or_else 24 (first (fault24 k) n)
       (or_else 25 r (or_else 26 (first (fault26 (repaired k)) n) Sound)))))) no-25
       ∙ ap (λ (x : Geometry). directory_fault x d (or_else 26 (first (fault26 (repaired k)) k.geometry.files) Sound)) (geometry-is d g is)
+
+  pub all-remaining : (a b : Result ⊤ Fault) → soundness_in a ≡ directory_fault g d Sound → soundness_in b ≡ lacking d
+      → soundness_in (result_and a b) ≡ faults_in (fault21 d) (repaired (catalogue_of d))
+  all-remaining (Ok x) b h later = later ∙ directory-none d g (lacking d) (sym h) ∙ sym remains
+  all-remaining (Err f) b h later = directory-found d g (lacking d) _ _ (sym h) ∙ sym remains
 
 -- ---- the call
 
@@ -134,15 +131,17 @@ module _ (len : ℕ) (d : Disk) (list : List ℕ) where
   verdict-is = then-then (image_verdict len d) (refusal (state_number (state_on d))) later.verdict
 
   -- a clean volume's image passed 1 to 3
-  pub clean-image : early.number ≡ 0 → (image_verdict len d).number ≡ 0
-  clean-image h = go (is_done (image_verdict len d)) refl
+  pub clean-image : done ≡ early → (image_verdict len d).number ≡ 0
+  clean-image q = go (is_done (image_verdict len d)) refl
     where
       go : (b : Bool) → is_done (image_verdict len d) ≡ b → (image_verdict len d).number ≡ 0
       go true t = eqb-true (image_verdict len d).number 0 t
-      go false t = ap (λ (b : Bool). (cond b (refusal (state_number (state_on d))) (image_verdict len d)).number) (sym t) ∙ h
+      go false t = ap (λ (b : Bool). (cond b (refusal (state_number (state_on d))) (image_verdict len d)).number) (sym t) ∙ ap (λ (v : Verdict). v.number) (sym q)
 
-  pub clean-state : early.number ≡ 0 → state_number (state_on d) ≡ 0
-  clean-state h = ap (λ (b : Bool). (cond b (refusal (state_number (state_on d))) (image_verdict len d)).number) (sym (eq-eqb (image_verdict len d).number 0 (clean-image h))) ∙ h
+  pub clean-state : done ≡ early → state_number (state_on d) ≡ 0
+  clean-state q =
+      ap (λ (b : Bool). (cond b (refusal (state_number (state_on d))) (image_verdict len d)).number) (sym (eq-eqb (image_verdict len d).number 0 (clean-image q)))
+      ∙ ap (λ (v : Verdict). v.number) (sym q)
 
   pub clean-both : (image_verdict len d).number ≡ 0 → state_number (state_on d) ≡ 0 → early.number ≡ 0
   clean-both i s = ap (λ (b : Bool). (cond b (refusal (state_number (state_on d))) (image_verdict len d)).number) (eq-eqb (image_verdict len d).number 0 i) ∙ s
@@ -161,9 +160,11 @@ module _ (len : ℕ) (d : Disk) (list : List ℕ) where
   unfolding repair_answer repair_list repair_decision groups_for
   refused-by w e n = (rw (e, n), rw (e, n) (sym (emit-nil list 0)))
 
-  pub repair-early : {w : Verdict} → w ≡ early → w.number ≢ 0 → Comes len d list (not_repaired w) list
-  repair-early {w} q n =
-      refused-by w (verdict-is ∙ ap (λ (x : Verdict). and_then x later.verdict) (sym q) ∙ ap (λ (b : Bool). cond b later.verdict w) (ne_eqb w.number 0 n)) (ne_eqb w.number 0 n)
+  pub repair-early : (e : Refusal) → verdict_for e ≡ early → Comes len d list (not_repaired (verdict_for e)) list
+  repair-early e q =
+      refused-by (verdict_for e)
+      (verdict-is ∙ ap (λ (x : Verdict). and_then x later.verdict) (sym q) ∙ ap (λ (b : Bool). cond b later.verdict (verdict_for e)) (refused e))
+      (refused e)
 
   module _ (clean : early.number ≡ 0) where
     from-later : repair_decision len d (length list) ≡ later
@@ -172,22 +173,22 @@ module _ (len : ℕ) (d : Disk) (list : List ℕ) where
         ap (λ (w : Verdict). let p = repair_planned (catalogue_of d) d in record { verdict = w; plan = cond (is_done w) p none })
         (verdict-is ∙ ap (λ (b : Bool). cond b later.verdict early) (eq-eqb early.number 0 clean))
 
-    module _ {r : Mended} {after : List ℕ} (m : Mends d list r after) where
+    module _ (r : Result Repair Refusal) {after : List ℕ} (m : Mends d list r after) where
       leaves : after ≡ repair_list len d list
       unfolding repair_list
       leaves = m.comes.1 ∙ ap (λ (x : Decision). list_after d x list) (sym from-later)
 
-      verdict-was : (repair_decision len d (length list)).verdict ≡ refusal r.number
+      verdict-was : (repair_decision len d (length list)).verdict ≡ (changed r).verdict
       verdict-was = ap (λ (x : Decision). x.verdict) from-later ∙ sym (ap (λ (a : Changed). a.verdict) m.comes.0)
 
-      pub repair-refused : r.number ≢ 0 → Comes len d list (not_repaired (refusal r.number)) after
-      unfolding repair_answer
-      repair-refused n = (rw (verdict-was, ne_eqb r.number 0 n), leaves)
+      length-was : (changed r).length ≡ list_length (groups_for d (repair_decision len d (length list)).plan)
+      length-was = ap (λ (a : Changed). a.length) m.comes.0 ∙ ap (λ (x : Decision). list_length (groups_for d x.plan)) (sym from-later)
 
-      pub repair-done : (w : Verdict) → r.number ≡ 0 → w ≡ done_but (faults_in (fault21 d) (repaired (catalogue_of d)))
-          → Comes len d list (record { verdict = w; freed = r.freed; length = r.length }) after
-      unfolding repair_answer
-      repair-done w z q =
-          let k : r.length ≡ list_length (groups_for d (repair_decision len d (length list)).plan)
-          = ap (λ (a : Changed). a.length) m.comes.0 ∙ ap (λ (x : Decision). list_length (groups_for d x.plan)) (sym from-later) in
-          (rw (verdict-was, z, q, m.freed z, k), leaves)
+    pub repair-refused : {e : Refusal} {after : List ℕ} → Mends d list (Err e) after → Comes len d list (not_repaired (verdict_for e)) after
+    unfolding repair_answer
+    repair-refused {e} m = (rw (verdict-was (Err e) m, refused e), leaves (Err e) m)
+
+    pub repair-done : {a : Repair} {after : List ℕ} (s : Soundness) → Mends d list (Ok a) after → s ≡ faults_in (fault21 d) (repaired (catalogue_of d))
+        → Comes len d list (record { verdict = done_but s; freed = a.freed; length = a.length }) after
+    unfolding repair_answer
+    repair-done {a} s m q = (rw (verdict-was (Ok a) m, q, m.finds.0, length-was (Ok a) m), leaves (Ok a) m)

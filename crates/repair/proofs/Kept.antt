@@ -23,6 +23,7 @@ use Rattle.model.specs.Table.{free_file, table_file, table_offset}
 use Rattle.model.specs.Catalogue.{catalogue_of, is_part}
 use Rattle.model.specs.Faults.{holds_of, exact, fault26}
 use Rattle.model.specs.Repair.{is_stray, repaired}
+use Rattle.model.specs.Opened.{Bounded}
 use Rattle.laws.proofs.Booleans.{and-false, or-none}
 use Rattle.laws.proofs.Search.{count_below-ext, count_below-more}
 use Rattle.laws.proofs.Count.{count_below-le}
@@ -87,7 +88,13 @@ count-all p (suc n) = go (p n) (all_below p n) (count-all p n)
 
 -- ---- a file's
 
-module _ (d : Disk) (g : Geometry) (is : g ≡ geometry_in (d 0)) (wide : 0 < extent_sectors g) (i : ℕ) (l : i < g.files) (few : i < free_file) where
+module _ (d : Disk) (g : Geometry) (is : g ≡ geometry_in (d 0)) (bounded : Bounded g) (i : ℕ) (l : i < g.files) where
+  wide : 0 < extent_sectors g
+  wide = omega (arith, bounded.extent-low)
+
+  few : i < free_file
+  few = omega (arith, bounded.files-high)
+
   abbrev z : ℕ
   z = number_in (d (entry_at i)) entry_field.size
 
@@ -170,13 +177,6 @@ module _ (d : Disk) (g : Geometry) (is : g ≡ geometry_in (d 0)) (wide : 0 < ex
   pub lacking-free : is_occupied (d (entry_at i)) ≡ false → false ≡ fault26 (repaired (catalogue_of d)) i
   lacking-free o = sym (fault-is ∙ ap (λ (b : Bool). b && not (exact (repaired (catalogue_of d)) i (extents_for (catalogue_of d).geometry said.size))) o)
 
-  module _ (o : is_occupied (d (entry_at i)) ≡ true) where
-    lacking-on : fault26 (repaired (catalogue_of d)) i ≡ not (eqb (count_below q g.extents) (extents_for g z))
-    lacking-on =
-        fault-is ∙ ap (λ (b : Bool). b && not (exact (repaired (catalogue_of d)) i (extents_for (catalogue_of d).geometry said.size))) o ∙ ap not (exactly o)
-
-    pub lacking-none : count_below q g.extents ≡ extents_for g z → false ≡ fault26 (repaired (catalogue_of d)) i
-    lacking-none h = sym (lacking-on ∙ ap not (eq-eqb (count_below q g.extents) (extents_for g z) h))
-
-    pub lacking-some : count_below q g.extents ≢ extents_for g z → true ≡ fault26 (repaired (catalogue_of d)) i
-    lacking-some h = sym (lacking-on ∙ ap not (ne_eqb (count_below q g.extents) (extents_for g z) h))
+  pub lacking-on : is_occupied (d (entry_at i)) ≡ true → fault26 (repaired (catalogue_of d)) i ≡ not (eqb (count_below q g.extents) (extents_for g z))
+  lacking-on o =
+      fault-is ∙ ap (λ (b : Bool). b && not (exact (repaired (catalogue_of d)) i (extents_for (catalogue_of d).geometry said.size))) o ∙ ap not (exactly o)

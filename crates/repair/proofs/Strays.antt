@@ -1,9 +1,9 @@
 -- Which extents are freed: entries of one file and offset are of one bucket, and an extent's test in the terms that the code tests. Rests
 -- on the crate `laws`.
-use Prim.Native.Nat.{ℕ, ◌*◌, ◌≤◌, ◌<◌}
+use Prim.Native.Nat.{ℕ, ◌+◌, ◌*◌, ◌≤◌, ◌<◌}
 use mathlib.Core.Path.{◌≡◌, refl, sym, ap, ◌∙◌, fun_ext}
 use mathlib.Core.Logic.{◌≢◌}
-use mathlib.Core.Bool.{Bool, true, false, not, ◌&&◌, ◌||◌}
+use mathlib.Core.Bool.{Bool, true, false, cond, not, ◌&&◌, ◌||◌}
 use mathlib.Core.List.{List}
 use native.Mathlib.Omega.{arith}
 use lib.Dec.{eqb, leb, ltb}
@@ -11,7 +11,8 @@ use lib.ListN.{get_or}
 use borrow.Author.Tests.{eqb-true, eq-eqb, ne_eqb, ltb-true, lt-ltb, le-ltb, ltb-false, le-leb, lt-leb}
 use Rattle.model.specs.declared.Geometry.{Geometry}
 use Rattle.model.specs.Bytes.{number_in}
-use Rattle.model.specs.Search.{any_below}
+use Rattle.std.specs.Int.{from_bool}
+use Rattle.model.specs.Search.{any_below, count_below}
 use Rattle.model.specs.Geometry.{entry_at, extent_sectors, extent_bytes}
 use Rattle.model.specs.Disk.{Disk}
 use Rattle.model.specs.Superblock.{geometry_in}
@@ -19,7 +20,9 @@ use Rattle.model.specs.Entry.{entry_field, is_occupied}
 use Rattle.model.specs.Table.{free_file, table_file, table_offset}
 use Rattle.model.specs.Catalogue.{catalogue_of}
 use Rattle.model.specs.Repair.{is_stray}
+use Rattle.model.specs.Opened.{Bounded}
 use Rattle.laws.proofs.Booleans.{and-true, and_yes}
+use Rattle.laws.proofs.Search.{count_below-more}
 use Rattle.laws.proofs.Repair.{past-count, stray-is}
 use Rattle.table.specs.Owned.{is_marked, Marks}
 use Rattle.table.proofs.Laws.{marks-are}
@@ -80,8 +83,8 @@ module _ (d : Disk) (g : Geometry) (is : g ≡ geometry_in (d 0)) where
   stray-past e h = rw (le-ltb e (geometry_in (d 0)).extents (rw is at h))
 
   -- a free one isn't freed
-  pub stray-free : 0 < extent_sectors g → (e : ℕ) → e < g.extents → table_file g d e ≡ free_file → false ≡ is_stray (catalogue_of d) e
-  stray-free w e l z = sym (stray-on w e l ∙ ap (λ (b : Bool).
+  pub stray-free : Bounded g → (e : ℕ) → e < g.extents → table_file g d e ≡ free_file → false ≡ is_stray (catalogue_of d) e
+  stray-free bounded e l z = sym (stray-on (omega (arith, bounded.extent-low)) e l ∙ ap (λ (b : Bool).
       not b && (not (ltb (table_file g d e) g.files && is_occupied (d (entry_at (table_file g d e))))
       || leb (number_in (d (entry_at (table_file g d e))) entry_field.size) (table_offset g d e * extent_bytes g) || any_below (same_part g d e) e)) (eq-eqb (table_file g d e) free_file z))
 
@@ -98,11 +101,11 @@ module _ (d : Disk) (g : Geometry) (is : g ≡ geometry_in (d 0)) where
 
   -- ---- an extent that isn't free, test by test
 
-  module _ (wide : 0 < extent_sectors g) (e : ℕ) (l : e < g.extents) (taken : eqb (table_file g d e) free_file ≡ false) where
+  module _ (bounded : Bounded g) (e : ℕ) (l : e < g.extents) (taken : eqb (table_file g d e) free_file ≡ false) where
     by_tests : (x y p : Bool) → ltb (table_file g d e) g.files ≡ x → is_occupied (d (entry_at (table_file g d e))) ≡ y
         → leb (number_in (d (entry_at (table_file g d e))) entry_field.size) (table_offset g d e * extent_bytes g) ≡ p
         → is_stray (catalogue_of d) e ≡ (not (x && y) || p || any_below (same_part g d e) e)
-    by_tests x y p ex ey ep = stray-on wide e l ∙ (λ i. not (taken i) && (not (ex i && ey i) || ep i || any_below (same_part g d e) e))
+    by_tests x y p ex ey ep = stray-on (omega (arith, bounded.extent-low)) e l ∙ (λ i. not (taken i) && (not (ex i && ey i) || ep i || any_below (same_part g d e) e))
 
     module _ (n : ℕ) (q : n ≡ table_file g d e) where
       pub stray-outside : g.files ≤ n → true ≡ is_stray (catalogue_of d) e
@@ -126,3 +129,15 @@ module _ (d : Disk) (g : Geometry) (is : g ≡ geometry_in (d 0)) where
 
           pub stray-repeated : o * extent_bytes g < z → any_below (same_part g d e) e ≡ is_stray (catalogue_of d) e
           stray-repeated h = sym (counted false (lt-leb z (o * extent_bytes g) h))
+
+-- ---- counts
+
+pub bit-is : (b : Bool) → from_bool b ≡ cond b 1 0
+bit-is true = refl
+bit-is false = refl
+
+-- one more is counted, or not
+pub counted-next : (p : ℕ → Bool) (i : ℕ) {n r : ℕ} {b : Bool} → n ≡ count_below p i → r ≡ from_bool b → b ≡ p i → n + r ≡ count_below p (i + 1)
+counted-next p i {n} {r} {b} e q h =
+    let one : from_bool b ≡ cond (p i) 1 0 = bit-is b ∙ ap (λ (b : Bool). cond b 1 0) h in
+    omega (arith, e, q, one, count_below-more p i)

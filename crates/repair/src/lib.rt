@@ -10,19 +10,21 @@ ghost use Rattle.model.specs.Disk.{view, on_image};
 ghost use Rattle.model.specs.Superblock.{state_on};
 ghost use Rattle.model.specs.Table.{free_file, table_file, table_offset, holds_any, sectors_holding};
 ghost use Rattle.model.specs.Catalogue.{catalogue_of};
-ghost use Rattle.model.specs.Faults.{fault21, fault26, faults_in};
+ghost use Rattle.model.specs.Answers.{Sound};
+ghost use Rattle.model.specs.Faults.{fault26, or_else};
 ghost use Rattle.model.specs.Refusals.{state_number};
 ghost use Rattle.model.specs.WriteList.{record_size, record_count, groups_for, closed, Emitted};
 ghost use Rattle.model.specs.Opened.{Bounded, Opened, in_volume, Readable};
 ghost use Rattle.model.specs.Lent.{on_lent};
 ghost use Rattle.model.specs.Freeing.{freed_sector, freed_sectors};
-ghost use Rattle.model.specs.Repair.{is_stray, repaired, done_but, repair_answer, repair_list};
+ghost use Rattle.model.specs.Repair.{is_stray, repaired, repair_answer, repair_list};
+ghost use Rattle.model.specs.Results.{soundness_in, repaired_in};
 ghost use Rattle.commit.specs.Commit.{Stages, StagesOf, Added};
 ghost use Rattle.table.specs.Owned.{is_marked};
 ghost use Rattle.repair.specs.Strays.{bucket_of, Linked, same_part, Kept};
 ghost use Rattle.repair.specs.Mending.{plan_for, Mends};
 
-use model::{Extent, FileIndex, Geometry, Lowest, Repaired, Soundness, Verdict};
+use model::{Extent, Fault, FileIndex, Geometry, Refusal, Repair};
 
 // ---- which extents are freed
 
@@ -44,10 +46,8 @@ fn is_same_part(img: &[u8], g: Geometry, e: Extent, k: Extent) -> bool
     requires e_lt_extents { (e.0 < g.extents) × (k.0 < g.extents) }
     ensures { result ≡ same_part g (view img.now) e.0 k.0 }
 {
-    if table::table_file(img, g, k) == table::table_file(img, g, e) {
-        return table::table_offset(img, g, k) == table::table_offset(img, g, e);
-    }
-    false
+    table::table_file(img, g, k) == table::table_file(img, g, e)
+        && table::table_offset(img, g, k) == table::table_offset(img, g, e)
 }
 
 // An extent below e has its file and offset. `b` is the bucket of both.
@@ -60,6 +60,7 @@ fn is_repeated(img: &[u8], g: Geometry, e: usize, b: usize, chains: &[u32]) -> b
     ensures { result ≡ any_below (same_part g (view img.now) e) e }
 {
     let mut j = (chains[b] / 65536) as usize;
+    // Kept as a loop by hand: it goes from link to link, not from number to number.
     while j != 0 {
         if is_same_part(img, g, Extent(e as u64), Extent((j - 1) as u64)) {
             return true;
@@ -79,18 +80,11 @@ fn is_needless(img: &[u8], g: Geometry, e: Extent, again: bool) -> bool
     ensures { result ≡ is_stray (catalogue_of (view img.now)) e.0 }
 {
     let f = table::table_file(img, g, e);
-    if f < g.files {
-        let i = FileIndex(f);
-        if directory::is_occupied(img, i) {
-            let before = table::table_offset(img, g, e) * (512 * (g.extent_sectors as u64));
-            if directory::size_at(img, i) <= before {
-                return true;
-            }
-            return again;
-        }
+    if f >= g.files || !directory::is_occupied(img, FileIndex(f)) {
         return true;
     }
-    true
+    let before = table::table_offset(img, g, e) * (512 * u64::from(g.extent_sectors));
+    directory::size_at(img, FileIndex(f)) <= before || again
 }
 
 // Whether extent e is freed. Where it isn't free it has joined its chain.
@@ -120,14 +114,11 @@ fn mark_strays(img: &[u8], g: Geometry, chains: &mut [u32], marks: &mut [u8]) ->
     ensures marks_after { is_marked marks.new ≡ is_stray (catalogue_of (view img.now)) }
     ensures value { result ≡ count_below (is_stray (catalogue_of (view img.now))) g.extents }
 {
-    let n = g.extents as usize;
-    let mut found: u64 = 0;
-    let mut e: usize = 0;
-    while e < n {
-        let one = fields::bit(is_stray(img, g, e, chains));
-        marks[e] = one;
-        found += one as u64;
-        e += 1;
+    let mut found = 0;
+    for e in 0..g.extents as usize {
+        let freed = is_stray(img, g, e, chains);
+        marks[e] = u8::from(freed);
+        found += u64::from(freed);
     }
     found
 }
@@ -140,14 +131,7 @@ fn holds_marked(marks: &[u8], t: u64) -> bool
     ensures { result ≡ holds_any (is_marked marks.now) t }
 {
     let from = (128 * t) as usize;
-    let mut k: usize = 0;
-    while k < 128 {
-        if marks[from + k] == 1 {
-            return true;
-        }
-        k += 1;
-    }
-    false
+    (0..128).any(|k| marks[from + k] == 1)
 }
 
 // How many table sectors hold one.
@@ -157,12 +141,9 @@ fn marked_sectors(marks: &[u8], g: Geometry) -> u64
     ensures value { result ≡ sectors_holding (is_marked marks.now) g }
     ensures upper_bound { result ≤ table_sectors g }
 {
-    let n = g.table_sectors();
-    let mut found: u64 = 0;
-    let mut t: u64 = 0;
-    while t < n {
-        found += fields::bit(holds_marked(marks, t)) as u64;
-        t += 1;
+    let mut found = 0;
+    for t in 0..g.table_sectors() {
+        found += u64::from(holds_marked(marks, t));
     }
     found
 }
@@ -185,12 +166,12 @@ fn put_marked_sector(
     ensures { Added g stages.now numbers.old list.old k
         (freed_sector (is_marked marks.now) g (view img.now) t) numbers.new list.new result }
 {
-    if holds_marked(marks, t) {
-        let from = (128 * t) as usize;
-        let part = &marks[from..from + 128];
-        return freeing::put_freed_sector(list, k, numbers, img, g, stages, t, part);
+    if !holds_marked(marks, t) {
+        return k;
     }
-    k
+    let from = (128 * t) as usize;
+    let part = &marks[from..from + 128];
+    freeing::put_freed_sector(list, k, numbers, img, g, stages, t, part)
 }
 
 // The copies of all such table sectors, from record 0 on.
@@ -210,12 +191,9 @@ fn put_marked(
         (freed_sectors (is_marked marks.now) g (view img.now)) numbers.new list.new result }
     ensures value { (result ≡ sectors_holding (is_marked marks.now) g) × (result ≤ table_sectors g) }
 {
-    let n = g.table_sectors();
-    let mut j: usize = 0;
-    let mut t: u64 = 0;
-    while t < n {
+    let mut j = 0;
+    for t in 0..g.table_sectors() {
         j = put_marked_sector(list, j, numbers, img, g, stages, marks, t);
-        t += 1;
     }
     j
 }
@@ -248,8 +226,7 @@ fn count_extent(img: &[u8], g: Geometry, e: usize, marks: &[u8], kept: &mut [u32
     }
     let f = table::table_file(img, g, Extent(e as u64)) as usize;
     if f < g.files as usize {
-        kept[f] = kept[f] + 1;
-        return;
+        kept[f] += 1;
     }
 }
 
@@ -259,12 +236,9 @@ fn count_kept(img: &[u8], g: Geometry, marks: &[u8], kept: &mut [u32])
     requires extents_in_bounds { (g.extents ≤ length marks.now) × (g.files ≤ length kept.old) }
     ensures { Kept g (view img.now) (is_marked marks.now) g.extents kept.new }
 {
-    fields::clear(kept);
-    let n = g.extents as usize;
-    let mut e: usize = 0;
-    while e < n {
+    kept.fill(0);
+    for e in 0..g.extents as usize {
         count_extent(img, g, e, marks, kept);
-        e += 1;
     }
 }
 
@@ -276,54 +250,34 @@ fn is_lacking(img: &[u8], g: Geometry, i: usize, kept: &[u32]) -> bool
     ensures { result ≡ fault26 (repaired (catalogue_of (view img.now))) i }
 {
     let index = FileIndex(i as u64);
-    if directory::is_occupied(img, index) {
-        let needed = table::extents_for(g, directory::size_at(img, index));
-        if kept[i] as u64 == needed {
-            return false;
-        }
-        return true;
-    }
-    false
+    directory::is_occupied(img, index)
+        && u64::from(kept[i]) != table::extents_for(g, directory::size_at(img, index))
 }
 
-// The lowest such file.
-fn first_lacking(img: &[u8], g: Geometry, kept: &[u32]) -> Lowest
+// The fault of the lowest such file. No other is one of the table's then, as every entry is free or a file's.
+fn table_fault(img: &[u8], g: Geometry, kept: &[u32]) -> Result<(), Fault>
     requires opened { Opened img.now g }
     requires files_in_bounds { g.files ≤ length kept.now }
     requires kept { Kept g (view img.now) (is_stray (catalogue_of (view img.now))) g.extents kept.now }
-    ensures { result ≡ first (fault26 (repaired (catalogue_of (view img.now)))) g.files }
+    ensures { soundness_in result ≡ or_else 26 (first (fault26 (repaired (catalogue_of (view img.now)))) g.files) Sound }
 {
-    let n = g.files as usize;
-    let mut i: usize = 0;
-    while i < n {
-        if is_lacking(img, g, i, kept) {
-            return Lowest::At(i);
-        }
-        i += 1;
+    match (0..g.files as usize).find(|&i| is_lacking(img, g, i, kept)) {
+        Some(i) => Err(Fault::WrongExtents(FileIndex(i as u64))),
+        None => Ok(()),
     }
-    Lowest::Nowhere
 }
 
 // ---- a repair of a clean volume
 
-#[derive(Clone, Copy)]
-struct Mended {
-    // 13 or 14, or 0
-    number: u64,
-    freed: u64,
-    length: u64,
-    // the lowest file that lacks an extent
-    lacking: Lowest,
-}
-
-// By way of arrays that are lent, all 0. The marks are as many as the table has entries, padding included.
+// What remains is the table's alone. By way of arrays that are lent, all 0. The marks are as many as the table has entries, padding
+// included.
 fn mend_in(
     img: &[u8],
     g: Geometry,
     list: &mut [u8],
     numbers: &mut [u32],
     marks: &mut [u8],
-) -> Mended
+) -> Result<Repair, Refusal>
     requires opened { Opened img.now g }
     requires numbers_len_bound { (length numbers.old ≤ 65536) × (g.extents ≤ length numbers.old) × (g.files ≤ length numbers.old) }
     requires g_in_bounds { 128 * table_sectors g ≤ length marks.old }
@@ -334,177 +288,87 @@ fn mend_in(
     let freed = mark_strays(img, g, numbers, marks);
     let sectors = marked_sectors(marks, g);
     count_kept(img, g, marks, numbers);
-    let lacking = first_lacking(img, g, numbers);
+    let remaining = table_fault(img, g, numbers);
     if freed == 0 {
-        return Mended {
-            number: 0,
-            freed: 0,
+        return Ok(Repair {
+            freed,
             length: 0,
-            lacking,
-        };
+            remaining,
+        });
     }
-    let mut stages = [0u64; 5];
-    if table::staging(img, g, &mut stages) {
-        let needed = lists::RECORD_SIZE * commit::records_for(sectors);
-        if needed <= list.len() {
-            put_repair(img, g, &stages, marks, list);
-            return Mended {
-                number: 0,
-                freed,
-                length: needed as u64,
-                lacking,
-            };
-        }
-        return Mended {
-            number: 14,
-            freed: 0,
-            length: 0,
-            lacking,
-        };
+    let Some(stages) = table::staging(img, g) else {
+        return Err(Refusal::VolumeFull);
+    };
+    let needed = lists::RECORD_SIZE * commit::records_for(sectors);
+    if list.len() < needed {
+        return Err(Refusal::TooShort);
     }
-    Mended {
-        number: 13,
-        freed: 0,
-        length: 0,
-        lacking,
-    }
+    put_repair(img, g, &stages, marks, list);
+    Ok(Repair {
+        freed,
+        length: needed as u64,
+        remaining,
+    })
 }
 
-fn mend_few(img: &[u8], g: Geometry, list: &mut [u8]) -> Mended
+// By way of N numbers and N bytes of its own. They stay out of the frames of its callers, so that a volume takes stack only for those
+// that it uses.
+#[inline(never)]
+fn mend_of<const N: usize>(img: &[u8], g: Geometry, list: &mut [u8]) -> Result<Repair, Refusal>
     requires opened { Opened img.now g }
-    requires files_bound { (g.files ≤ 1024) × (g.extents ≤ 1024) }
+    requires files_bound { (g.files ≤ N) × (128 * table_sectors g ≤ N) × (N ≤ 65536) }
     ensures { Mends (view img.now) list.old result list.new }
 {
-    let mut numbers = [0u32; 1024];
-    let mut marks = [0u8; 1024];
+    let mut numbers = [0u32; N];
+    let mut marks = [0u8; N];
     mend_in(img, g, list, &mut numbers, &mut marks)
 }
 
-fn mend_more(img: &[u8], g: Geometry, list: &mut [u8]) -> Mended
-    requires opened { Opened img.now g }
-    requires files_bound { (g.files ≤ 8192) × (g.extents ≤ 8192) }
-    ensures { Mends (view img.now) list.old result list.new }
-{
-    let mut numbers = [0u32; 8192];
-    let mut marks = [0u8; 8192];
-    mend_in(img, g, list, &mut numbers, &mut marks)
-}
-
-fn mend_many(img: &[u8], g: Geometry, list: &mut [u8]) -> Mended
+fn mend(img: &[u8], g: Geometry, list: &mut [u8]) -> Result<Repair, Refusal>
     requires { Opened img.now g }
     ensures { Mends (view img.now) list.old result list.new }
 {
-    let mut numbers = [0u32; 65536];
-    let mut marks = [0u8; 65536];
-    mend_in(img, g, list, &mut numbers, &mut marks)
-}
-
-// The larger of F and N.
-fn most(g: Geometry) -> u64
-    requires { Bounded g }
-    ensures { (g.files ≤ result) × (g.extents ≤ result) × (result ≤ 65535) }
-{
-    if g.files <= g.extents {
-        return g.extents;
+    let most = g.files.max(g.extents);
+    if most <= 1024 {
+        return mend_of::<1024>(img, g, list);
     }
-    g.files
-}
-
-// By way of arrays for `room` files and extents, or for 8 times as many. It calls itself to keep the longer arrays out of the stack of
-// a volume that doesn't use them (docs/DECISIONS.md).
-fn mend_with(img: &[u8], g: Geometry, list: &mut [u8], room: u64) -> Mended
-    requires opened { Opened img.now g }
-    requires room_nonzero { 0 < room }
-    ensures { Mends (view img.now) list.old result list.new }
-{
-    if most(g) <= room {
-        if room <= 1024 {
-            return mend_few(img, g, list);
-        }
-        if room <= 8192 {
-            return mend_more(img, g, list);
-        }
-        return mend_many(img, g, list);
+    if most <= 8192 {
+        return mend_of::<8192>(img, g, list);
     }
-    mend_with(img, g, list, room * 8)
+    mend_of::<65536>(img, g, list)
 }
 
 // ---- the call
 
-// Done, with the first fault that remains: what is wrong with the directory stays, every table entry is then a file's, and a file may
-// lack an extent.
-fn remaining(img: &[u8], g: Geometry, lacking: Lowest) -> Verdict
-    requires opened { Opened img.now g }
-    requires lacking_value { lacking ≡ first (fault26 (repaired (catalogue_of (view img.now)))) (catalogue_of (view img.now)).geometry.files }
-    ensures { result ≡ done_but (faults_in (fault21 (view img.now)) (repaired (catalogue_of (view img.now)))) }
-{
-    if let Soundness::Faulty(n, p) = soundness::directory_fault(img, g) {
-        return Verdict {
-            number: 0,
-            fault: n,
-            place: p,
-        };
-    }
-    match lacking {
-        Lowest::At(i) => Verdict {
-            number: 0,
-            fault: 26,
-            place: i as u64,
-        },
-        Lowest::Nowhere => volume::refusal(0),
-    }
-}
-
-fn refused(verdict: Verdict) -> Repaired
-    ensures { result ≡ record { verdict = verdict; freed = 0; length = 0 } }
-{
-    Repaired {
-        verdict,
-        freed: 0,
-        length: 0,
-    }
-}
-
-// The repair of a clean volume.
-fn repair_in(img: &[u8], list: &mut [u8]) -> Repaired
+// The repair of a clean volume. What is wrong with the directory stays, and is found before what remains of the table.
+fn repair_in(img: &[u8], list: &mut [u8]) -> Result<Repair, Refusal>
     requires readable { Readable img.now }
     requires img_value { state_number (state_on (view img.now)) ≡ 0 }
-    ensures value { result ≡ in_volume repair_answer img.now (length list.old) }
+    ensures value { repaired_in result ≡ in_volume repair_answer img.now (length list.old) }
     ensures list_after { list.new ≡ in_volume repair_list img.now list.old }
 {
     let g = volume::geometry_in(img);
-    let m = mend_with(img, g, list, 1024);
-    if m.number == 0 {
-        let lacking = m.lacking;
-        let verdict = remaining(img, g, lacking);
-        return Repaired {
-            verdict,
-            freed: m.freed,
-            length: m.length,
-        };
-    }
-    refused(volume::refusal(m.number))
+    let repair = mend(img, g, list)?;
+    let remaining = soundness::directory_fault(img, g).and(repair.remaining);
+    Ok(Repair {
+        remaining,
+        ..repair
+    })
 }
 
-pub fn repair(img: &[u8], list: &mut [u8]) -> Repaired
-    ensures value { result ≡ on_image repair_answer img.now (length list.old) }
+pub fn repair(img: &[u8], list: &mut [u8]) -> Result<Repair, Refusal>
+    ensures value { repaired_in result ≡ on_image repair_answer img.now (length list.old) }
     ensures list_after { list.new ≡ on_image repair_list img.now list.old }
 {
-    let v = soundness::clean_verdict(img);
-    if v.number == 0 {
-        return repair_in(img, list);
-    }
-    refused(v)
+    soundness::clean_verdict(img)?;
+    repair_in(img, list)
 }
 
 // The same of lent sectors (T-11).
-pub fn repair_lent(front: &[u8], count: u64, list: &mut [u8]) -> Repaired
-    ensures value { result ≡ on_lent repair_answer front.now count (length list.old) }
+pub fn repair_lent(front: &[u8], count: u64, list: &mut [u8]) -> Result<Repair, Refusal>
+    ensures value { repaired_in result ≡ on_lent repair_answer front.now count (length list.old) }
     ensures list_after { list.new ≡ on_lent repair_list front.now count list.old }
 {
-    let v = soundness::clean_verdict_lent(front, count);
-    if v.number == 0 {
-        return repair_in(front, list);
-    }
-    refused(v)
+    soundness::clean_verdict_lent(front, count)?;
+    repair_in(front, list)
 }

@@ -10,10 +10,7 @@ use native.Mathlib.Omega.{arith}
 use lib.Dec.{eqb, ltb}
 use lib.ListN.{length}
 use borrow.Author.Tests.{eqb-true, not-false}
-use Rattle.model.specs.declared.Listed.{Listed}
-use Rattle.model.specs.declared.BytesRead.{BytesRead}
-use Rattle.model.specs.declared.Verdict.{Verdict}
-use Rattle.model.specs.declared.Changed.{Changed}
+use Rattle.model.specs.Answers.{Listed, BytesRead, Verdict, Changed}
 use Rattle.model.specs.Search.{is_at, index_of}
 use Rattle.model.specs.Geometry.{root_at, entry_at, journal_at}
 use Rattle.model.specs.Disk.{Disk, view}

@@ -11,7 +11,7 @@ use lib.Dec.{eqb, leb, ltb}
 use lib.ListN.{length}
 use borrow.Author.Tests.{eqb-true, eqb-false, eq-eqb, ne_eqb, leb-true, ltb-true, ltb-false, le-ltb}
 use Rattle.model.specs.declared.Geometry.{Geometry}
-use Rattle.model.specs.declared.Verdict.{Verdict}
+use Rattle.model.specs.Answers.{Verdict}
 use Rattle.model.specs.declared.State.TheVariants.{Clean, Waiting, Damaged, Unfinished}
 use Rattle.model.specs.Geometry.{superblock_at, extent_sectors, journal_at, table_at, data_at, volume_sectors, most_files, in_bounds}
 use Rattle.model.specs.Disk.{Disk, view}

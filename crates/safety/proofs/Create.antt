@@ -9,8 +9,7 @@ use native.Mathlib.Omega.{arith}
 use lib.Dec.{eqb}
 use lib.ListN.{length}
 use borrow.Author.Tests.{lt-ltb, not-false}
-use Rattle.model.specs.declared.Lowest.{Lowest}
-use Rattle.model.specs.Search.{tabulate, any_below, is_at, index_of}
+use Rattle.model.specs.Search.{Lowest, tabulate, any_below, is_at, index_of}
 use Rattle.model.specs.Geometry.{root_at, entry_at, extents_for}
 use Rattle.model.specs.Disk.{view}
 use Rattle.model.specs.Root.{root_in, updated_root_sector}

@@ -8,9 +8,8 @@ use native.Mathlib.Omega.{arith}
 use mathlib.Core.Bool.{false}
 use lib.ListN.{length}
 use borrow.Author.Tests.{not-false, lt-ltb}
-use Rattle.model.specs.declared.Lowest.{Lowest}
 use Rattle.model.specs.Bytes.{zero_sector}
-use Rattle.model.specs.Search.{is_at, index_of}
+use Rattle.model.specs.Search.{Lowest, is_at, index_of}
 use Rattle.model.specs.Geometry.{root_at, entry_at, journal_at, table_at, table_sectors}
 use Rattle.model.specs.Disk.{view}
 use Rattle.model.specs.Root.{root_in, updated_root_sector}

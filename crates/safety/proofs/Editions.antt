@@ -7,8 +7,7 @@ use mathlib.Core.List.{List, [], ◌∷◌}
 use mathlib.Core.Option.{Option}
 use lib.Dec.{eqb, ltb}
 use lib.ListN.{length}
-use Rattle.model.specs.declared.Verdict.{Verdict}
-use Rattle.model.specs.declared.Changed.{Changed}
+use Rattle.model.specs.Answers.{Verdict, Changed}
 use Rattle.model.specs.Search.{equal_bytes}
 use Rattle.model.specs.Disk.{view}
 use Rattle.model.specs.Edition.{bad_time}

@@ -11,10 +11,9 @@ use lib.Dec.{eqb, leb, ltb}
 use lib.ListN.{length, get_or, get_or-eq_default}
 use lib.Seq.{ext_get_or}
 use borrow.Author.Tests.{leb-true, ltb-true, ltb-false, eqb-true, eqb-false, eq-eqb, ne_eqb}
-use Rattle.model.specs.declared.Lowest.{Lowest}
-use Rattle.model.specs.declared.Lowest.TheVariants.{At, Nowhere}
+use Rattle.std.specs.Prelude.{Some, None}
 use Rattle.model.specs.Bytes.{bytes_from, put}
-use Rattle.model.specs.Search.{any_below, index_of, equal_bytes}
+use Rattle.model.specs.Search.{Lowest, any_below, index_of, equal_bytes}
 use Rattle.model.specs.Disk.{view}
 use Rattle.model.specs.Entry.{Entry}
 use Rattle.model.specs.Catalogue.{Catalogue, catalogue_of, has_name, file_named, entry_of, entry_or, file_byte, file_bytes}
@@ -54,7 +53,7 @@ written_into f offset bytes time =
 
 module _ (L : Ledger) (m : List ℕ) where
   -- a slot that alone has the name
-  said_at : (M : Ledger) (i : ℕ) (f : File) → M.slots i ≡ some f → slot_named M m ≡ At i → file_in M m ≡ some (record { entry = f.entry; bytes = f.bytes })
+  said_at : (M : Ledger) (i : ℕ) (f : File) → M.slots i ≡ some f → slot_named M m ≡ Some i → file_in M m ≡ some (record { entry = f.entry; bytes = f.bytes })
   unfolding file_in
   said_at M i f e q = ap (contents_in M) q ∙ ap (λ (o : Option File). some (record { entry = (file_or o).entry; bytes = (file_or o).bytes })) e
 
@@ -140,8 +139,8 @@ module _ (L : Ledger) (m new : List ℕ) (one : OneName L) (h : Found L m) (othe
 
   -- no other slot has the new name
   pub unused : (r : Lowest) → Hit (λ k. holds_name new (L.slots k)) (L.geometry.files - 0) 0 r → (k : ℕ) → k < L.geometry.files → holds_name new (slots_without L r k) ≡ false
-  unused Nowhere q k l = q k (omega arith) (omega arith)
-  unused (At j) q k l = go (eqb k j) refl
+  unused None q k l = q k (omega arith) (omega arith)
+  unused (Some j) q k l = go (eqb k j) refl
     where
       go : (b : Bool) → eqb k j ≡ b → holds_name new (cond b none (L.slots k)) ≡ false
       go true e = refl
@@ -149,8 +148,8 @@ module _ (L : Ledger) (m new : List ℕ) (one : OneName L) (h : Found L m) (othe
 
   -- nor has any the old one
   gone : (r : Lowest) (k : ℕ) → k < L.geometry.files → k ≢ at → holds_name m (slots_without L r k) ≡ false
-  gone Nowhere k l ne = one m at k h.within l ne h.has
-  gone (At j) k l ne = go (eqb k j)
+  gone None k l ne = one m at k h.within l ne h.has
+  gone (Some j) k l ne = go (eqb k j)
     where
       go : (b : Bool) → holds_name m (cond b none (L.slots k)) ≡ false
       go true = refl
@@ -281,15 +280,15 @@ unfolding file_on file_in
 said L img s n =
     ap (λ (c : Catalogue). contents_at (view img) (file_named c n)) (catalogue-is L img s) ∙ ap (contents_at (view img)) (sym (named-is L n)) ∙ go (slot_named L n) (named-hit L n)
   where
-    at_slot : (k : ℕ) (f : File) → L.slots k ≡ some f → contents_at (view img) (At k) ≡ some (record { entry = f.entry; bytes = f.bytes })
+    at_slot : (k : ℕ) (f : File) → L.slots k ≡ some f → contents_at (view img) (Some k) ≡ some (record { entry = f.entry; bytes = f.bytes })
     at_slot k f e =
         let q : entry_of (catalogue_of (view img)) k ≡ f.entry = entry-of L img s k f e in
         ap (λ (x : Entry). some (record { entry = x; bytes = file_bytes (catalogue_of (view img)) (view img) k 0 x.size })) q
         ∙ ap (λ (b : List ℕ). some (record { entry = f.entry; bytes = b })) (s.bytes k f e)
 
     go : (r : Lowest) → Hit (λ k. holds_name n (L.slots k)) (L.geometry.files - 0) 0 r → contents_at (view img) r ≡ contents_in L r
-    go Nowhere h = refl
-    go (At k) h = at_slot k (file_or (L.slots k)) (filled (L.slots k) n h.2)
+    go None h = refl
+    go (Some k) h = at_slot k (file_or (L.slots k)) (filled (L.slots k) n h.2)
 
 -- a file has as many bytes as its size says
 pub said-length : (L : Ledger) (img : List ℕ) → Says L img → (m : List ℕ) → Found L m → length (file_of L m).bytes ≡ (file_of L m).entry.size

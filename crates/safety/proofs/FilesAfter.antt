@@ -11,9 +11,8 @@ use native.Mathlib.Omega.{arith}
 use lib.Dec.{eqb, ltb}
 use lib.ListN.{length}
 use borrow.Author.Tests.{eqb-true, eqb-false}
-use Rattle.model.specs.declared.Lowest.{Lowest}
-use Rattle.model.specs.declared.Lowest.TheVariants.{At, Nowhere}
-use Rattle.model.specs.Search.{index_of, equal_bytes}
+use Rattle.std.specs.Prelude.{Some, None}
+use Rattle.model.specs.Search.{Lowest, index_of, equal_bytes}
 use Rattle.model.specs.Root.{Root}
 use Rattle.model.specs.Format.{Format}
 use Rattle.model.specs.Ledger.{Ledger, File, file_or, first_ledger, holds_name, slot_named, free_slot, is_frozen, file_of, Call, summary, check, find, list}
@@ -131,8 +130,8 @@ module _ (L : Ledger) (ok : Orderly L) where
       f = renamed_file new time (file_of L m)
 
       without : (q : Lowest) → Orderly (record { geometry = L.geometry; root = L.root; slots = slots_without L q })
-      without Nowhere = orderly-rooted L.root
-      without (At j) = orderly-freed L.root j
+      without None = orderly-rooted L.root
+      without (Some j) = orderly-freed L.root j
 
       go : (b : Bool) → equal_bytes m new ≡ b
           → Orderly (cond b L (replaced (record { geometry = L.geometry; root = L.root; slots = slots_without L r }) (updated_root time L.root) (slot_of L m) (some f)))

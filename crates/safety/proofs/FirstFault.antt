@@ -8,14 +8,11 @@ use native.Mathlib.Omega.{arith}
 use native.Mathlib.Decide.{dec_lt}
 use lib.ListN.{length}
 use borrow.Author.Tests.{eqb-true, eq-eqb}
-use Rattle.model.specs.declared.Lowest.{Lowest}
-use Rattle.model.specs.declared.Lowest.TheVariants.{At, Nowhere}
-use Rattle.model.specs.declared.Soundness.{Soundness}
-use Rattle.model.specs.declared.Soundness.TheVariants.{Sound, Faulty}
+use Rattle.std.specs.Prelude.{Some, None}
+use Rattle.model.specs.Answers.{Soundness, Sound, Faulty, Verdict}
 use Rattle.model.specs.declared.State.{State}
 use Rattle.model.specs.declared.State.TheVariants.{Clean, Waiting, Damaged, Unfinished}
-use Rattle.model.specs.declared.Verdict.{Verdict}
-use Rattle.model.specs.Search.{first}
+use Rattle.model.specs.Search.{Lowest, first}
 use Rattle.model.specs.Geometry.{superblock_at}
 use Rattle.model.specs.Disk.{Disk, view}
 use Rattle.model.specs.Superblock.{is_volume, state_on}
@@ -35,21 +32,21 @@ pub record IsLowest (t : ℕ → Bool) (n p : ℕ) : Type 0 where
   pub holds : t p ≡ true
   pub lowest : (q : ℕ) → q < p → t q ≡ false
 
-at-index : (i j : ℕ) → At i ≡ At j → i ≡ j
+at-index : (i j : ℕ) → Some i ≡ Some j → i ≡ j
 at-index i j e = cc
 
-first-lowest : (t : ℕ → Bool) (n p : ℕ) → first t n ≡ At p → IsLowest t n p
+first-lowest : (t : ℕ → Bool) (n p : ℕ) → first t n ≡ Some p → IsLowest t n p
 first-lowest t n p e =
-    let h : Hit t (n - 0) 0 (At p) = subst (Hit t (n - 0) 0) e (scan-hit t (n - 0) 0) in
+    let h : Hit t (n - 0) 0 (Some p) = subst (Hit t (n - 0) 0) e (scan-hit t (n - 0) 0) in
     let l : p < n = omega (arith, h.1) in
     record { below = l; holds = h.2; lowest = first-missed t p (go (first t p) refl (scan-hit t (p - 0) 0)) }
   where
-    go : (r : Lowest) → first t p ≡ r → Hit t (p - 0) 0 r → first t p ≡ Nowhere
-    go (At j) f k =
-        let h : Hit t (n - 0) 0 (At p) = subst (Hit t (n - 0) 0) e (scan-hit t (n - 0) 0) in
+    go : (r : Lowest) → first t p ≡ r → Hit t (p - 0) 0 r → first t p ≡ None
+    go (Some j) f k =
+        let h : Hit t (n - 0) 0 (Some p) = subst (Hit t (n - 0) 0) e (scan-hit t (n - 0) 0) in
         let q : j ≡ p = at-index j p (sym (first_found t p n j (omega (arith, h.1)) f) ∙ e) in
         absurd (omega (arith, k.1))
-    go Nowhere f k = f
+    go None f k = f
 
 -- ---- the faults in their order
 
@@ -79,8 +76,8 @@ module _ (d : Disk) where
       go : (r : Lowest) → first (fault_test d (21 + k)) (places_of d (21 + k)) ≡ r
           → (((j : ℕ) → j < suc k → NoFault d (21 + j)) → Result (suc k + m) (faults_from m (suc k)))
           → Result (k + suc m) (or_else (21 + k) r (faults_from m (suc k)))
-      go (At p) e rest = (omega arith, omega arith, first-lowest _ _ p e, λ j l. none j (omega arith))
-      go Nowhere e rest =
+      go (Some p) e rest = (omega arith, omega arith, first-lowest _ _ p e, λ j l. none j (omega arith))
+      go None e rest =
           let s : suc k + m ≡ k + suc m = omega arith in
           subst (λ (h : ℕ). Result h (faults_from m (suc k))) s (rest (λ j l. more (first-missed _ _ e) j l (dec_lt j k)))
 

@@ -12,9 +12,8 @@ use lib.Dec.{eqb, leb, ltb}
 use lib.ListN.{length, get_or, take, length-take}
 use lib.Seq.{get_or-take}
 use borrow.Author.Tests.{eqb-true, eqb-false, eq-eqb, ne_eqb, lt-ltb, le-ltb, le-leb, lt-leb, ltb-true, ltb-false}
-use Rattle.model.specs.declared.Lowest.{Lowest}
-use Rattle.model.specs.declared.Lowest.TheVariants.{At, Nowhere}
-use Rattle.model.specs.Search.{scan, first, is_at, index_of}
+use Rattle.std.specs.Prelude.{Some, None}
+use Rattle.model.specs.Search.{Lowest, scan, first, is_at, index_of}
 use Rattle.model.specs.Root.{Root}
 use Rattle.model.specs.Catalogue.{Owner, owned_from}
 use Rattle.model.specs.Ledger.{Ledger, File, file_or, position_among, holder_of, owner_from, catalogue}
@@ -26,21 +25,21 @@ use Rattle.safety.proofs.Replaced.{replaced, OthersKept}
 
 -- a place below n
 abbrev pub below : ℕ → Lowest → Lowest
-below n Nowhere = Nowhere
-below n (At o) = cond (ltb o n) (At o) Nowhere
+below n None = None
+below n (Some o) = cond (ltb o n) (Some o) None
 
 -- a search of fewer indexes
 scan-fewer : (p : ℕ → Bool) (a b i : ℕ) → scan p a i ≡ below (i + a) (scan p (a + b) i)
 unfolding scan
 scan-fewer p zero b i = go (scan p (0 + b) i) (scan-hit p (0 + b) i)
   where
-    go : (r : Lowest) → Hit p (0 + b) i r → Nowhere ≡ below (i + 0) r
-    go Nowhere h = refl
-    go (At k) h = sym (ap (λ (t : Bool). cond t (At k) Nowhere) (le-ltb k (i + 0) (omega (arith, h.0))))
+    go : (r : Lowest) → Hit p (0 + b) i r → None ≡ below (i + 0) r
+    go None h = refl
+    go (Some k) h = sym (ap (λ (t : Bool). cond t (Some k) None) (le-ltb k (i + 0) (omega (arith, h.0))))
 scan-fewer p (suc a) b i = go (p i) (scan-fewer p a b (suc i)) ∙ ap (λ m. below (i + suc a) (scan p m i)) (sym (suc-add a b))
   where
-    go : (t : Bool) → scan p a (suc i) ≡ below (suc i + a) (scan p (a + b) (suc i)) → cond t (At i) (scan p a (suc i)) ≡ below (i + suc a) (cond t (At i) (scan p (a + b) (suc i)))
-    go true h = sym (ap (λ (t : Bool). cond t (At i) Nowhere) (lt-ltb i (i + suc a) (omega arith)))
+    go : (t : Bool) → scan p a (suc i) ≡ below (suc i + a) (scan p (a + b) (suc i)) → cond t (Some i) (scan p a (suc i)) ≡ below (i + suc a) (cond t (Some i) (scan p (a + b) (suc i)))
+    go true h = sym (ap (λ (t : Bool). cond t (Some i) None) (lt-ltb i (i + suc a) (omega arith)))
     go false h = h ∙ ap (λ (m : ℕ). below m (scan p (a + b) (suc i))) (let e : suc i + a ≡ i + suc a = omega arith in e)
 
 first-fewer : (p : ℕ → Bool) (m n : ℕ) → first p (min n m) ≡ below n (first p m)
@@ -50,8 +49,8 @@ first-fewer p m n =
     ∙ go (first p m) (scan-hit p (m - 0) 0)
   where
     go : (r : Lowest) → Hit p (m - 0) 0 r → below (min n m) r ≡ below n r
-    go Nowhere h = refl
-    go (At k) h = ap (λ (t : Bool). cond t (At k) Nowhere) (same (ltb k n) refl)
+    go None h = refl
+    go (Some k) h = ap (λ (t : Bool). cond t (Some k) None) (same (ltb k n) refl)
       where
         same : (t : Bool) → ltb k n ≡ t → ltb k (min n m) ≡ ltb k n
         same true e = lt-ltb k (min n m) (let q : k < n = ltb-true k n e in omega (arith, h.1)) ∙ sym e
@@ -66,11 +65,11 @@ place-take e n es =
 
 -- a place other than i, or any where b holds
 abbrev unless : Bool → ℕ → Lowest → Lowest
-unless b i Nowhere = Nowhere
-unless b i (At j) = cond (eqb j i && not b) Nowhere (At j)
+unless b i None = None
+unless b i (Some j) = cond (eqb j i && not b) None (Some j)
 
 -- where at most one index passes, a search in which i passes only by b finds the same unless that is i
-module _ (p : ℕ → Bool) (n i : ℕ) (once : (k : ℕ) → k < n → p k ≡ true → first p n ≡ At k) where
+module _ (p : ℕ → Bool) (n i : ℕ) (once : (k : ℕ) → k < n → p k ≡ true → first p n ≡ Some k) where
   without-false : first (λ k. cond (eqb k i) false (p k)) n ≡ unless false i (first p n)
   without-false = go (first (λ k. cond (eqb k i) false (p k)) n) (first p n) (scan-hit (λ k. cond (eqb k i) false (p k)) (n - 0) 0) (scan-hit p (n - 0) 0) (λ k l h. once k l h)
     where
@@ -81,19 +80,19 @@ module _ (p : ℕ → Bool) (n i : ℕ) (once : (k : ℕ) → k < n → p k ≡ 
           by true q h = absurd (false≢true h)
           by false q h = (eqb-false k i q, h)
 
-      go : (a b : Lowest) → Hit (λ k. cond (eqb k i) false (p k)) (n - 0) 0 a → Hit p (n - 0) 0 b → ((k : ℕ) → k < n → p k ≡ true → b ≡ At k) → a ≡ unless false i b
-      go (At k) (At j) x y u =
+      go : (a b : Lowest) → Hit (λ k. cond (eqb k i) false (p k)) (n - 0) 0 a → Hit p (n - 0) 0 b → ((k : ℕ) → k < n → p k ≡ true → b ≡ Some k) → a ≡ unless false i b
+      go (Some k) (Some j) x y u =
           let q = passes k x.2 in
           let e : j ≡ k = ap index_of (u k (omega (arith, x.1)) q.1) in
-          sym (ap (λ (b : Bool). cond (b && true) Nowhere (At j)) (ne_eqb j i (λ z. q.0 (sym e ∙ z))) ∙ ap At e)
-      go (At k) Nowhere x y u = absurd (true≢false (sym (passes k x.2).1 ∙ y k (omega arith) (omega (arith, x.1))))
-      go Nowhere (At j) x y u = here (eqb j i) refl
+          sym (ap (λ (b : Bool). cond (b && true) None (Some j)) (ne_eqb j i (λ z. q.0 (sym e ∙ z))) ∙ ap Some e)
+      go (Some k) None x y u = absurd (true≢false (sym (passes k x.2).1 ∙ y k (omega arith) (omega (arith, x.1))))
+      go None (Some j) x y u = here (eqb j i) refl
         where
-          here : (b : Bool) → eqb j i ≡ b → Nowhere ≡ cond (b && true) Nowhere (At j)
+          here : (b : Bool) → eqb j i ≡ b → None ≡ cond (b && true) None (Some j)
           here true q = refl
           here false q =
               absurd (true≢false (sym (ap (λ (b : Bool). cond b false (p j)) q ∙ y.2) ∙ x j (omega arith) (omega (arith, y.1))))
-      go Nowhere Nowhere x y u = refl
+      go None None x y u = refl
 
   pub first-unless : (b : Bool) → (b ≡ true → p i ≡ true) → first (λ k. cond (eqb k i) b (p k)) n ≡ unless b i (first p n)
   first-unless false h = without-false
@@ -104,10 +103,10 @@ module _ (p : ℕ → Bool) (n i : ℕ) (once : (k : ℕ) → k < n → p k ≡ 
       by k false q = refl
 
       all : (r : Lowest) → r ≡ unless true i r
-      all Nowhere = refl
-      all (At j) = none_left (eqb j i)
+      all None = refl
+      all (Some j) = none_left (eqb j i)
         where
-          none_left : (b : Bool) → At j ≡ cond (b && false) Nowhere (At j)
+          none_left : (b : Bool) → Some j ≡ cond (b && false) None (Some j)
           none_left true = refl
           none_left false = refl
 
@@ -140,8 +139,8 @@ module _ (L : Ledger) (root : Root) (i n : ℕ) (f : Option File) (firsts : (fil
   stood-first e = go (stood e)
     where
       go : (r : Lowest) → is_at (below n r) ≡ true → is_at r ≡ true
-      go (At o) h = refl
-      go Nowhere h = h
+      go (Some o) h = refl
+      go None h = h
 
   module _ (disjoint : Disjoint L) where
     holder-freed : (e : ℕ) → holder_of M e ≡ unless (stands e) i (holder_of L e)
@@ -151,26 +150,26 @@ module _ (L : Ledger) (root : Root) (i n : ℕ) (f : Option File) (firsts : (fil
         ∙ first-unless (λ k. holds L k e) L.geometry.files i (λ k l h. disjoint k e l h) (stands e) (stood-first e)
 
     -- the holder has it
-    holder-has : (e j : ℕ) → holder_of L e ≡ At j → holds L j e ≡ true
+    holder-has : (e j : ℕ) → holder_of L e ≡ Some j → holds L j e ≡ true
     unfolding holder_of holds
-    holder-has e j q = let h : Hit (λ k. holds L k e) (L.geometry.files - 0) 0 (At j) = rw q at (scan-hit (λ k. holds L k e) (L.geometry.files - 0) 0) in h.2
+    holder-has e j q = let h : Hit (λ k. holds L k e) (L.geometry.files - 0) 0 (Some j) = rw q at (scan-hit (λ k. holds L k e) (L.geometry.files - 0) 0) in h.2
 
-    owner-kept : (e : ℕ) → owner_from M e (At i) ≡ some (record { file = i; offset = index_of (below n (stood e)) })
+    owner-kept : (e : ℕ) → owner_from M e (Some i) ≡ some (record { file = i; offset = index_of (below n (stood e)) })
     owner-kept e =
         ap (λ (b : Bool). some (record { file = i; offset = index_of (position_among e (file_or (cond b f (L.slots i))).extents) })) (eq-eqb i i refl)
         ∙ ap (λ (r : Lowest). some (record { file = i; offset = index_of r })) (place-freed e)
 
     -- file i's extent: among the first n, or beyond
     mine : (e : ℕ) (r : Lowest) → stood e ≡ r → is_at r ≡ true
-        → owner_from M e (cond (not (is_at (below n r))) Nowhere (At i)) ≡ cond (leb n (index_of r)) none (some (record { file = i; offset = index_of r }))
-    mine e Nowhere s h = absurd (false≢true h)
-    mine e (At o) s h = here (ltb o n) refl
+        → owner_from M e (cond (not (is_at (below n r))) None (Some i)) ≡ cond (leb n (index_of r)) none (some (record { file = i; offset = index_of r }))
+    mine e None s h = absurd (false≢true h)
+    mine e (Some o) s h = here (ltb o n) refl
       where
         here : (t : Bool) → ltb o n ≡ t
-            → owner_from M e (cond (not (is_at (cond t (At o) Nowhere))) Nowhere (At i)) ≡ cond (leb n o) none (some (record { file = i; offset = o }))
+            → owner_from M e (cond (not (is_at (cond t (Some o) None))) None (Some i)) ≡ cond (leb n o) none (some (record { file = i; offset = o }))
         here true l =
             owner-kept e ∙ ap (λ (r : Lowest). some (record { file = i; offset = index_of (below n r) })) s
-            ∙ ap (λ (t : Bool). some (record { file = i; offset = index_of (cond t (At o) Nowhere) })) l
+            ∙ ap (λ (t : Bool). some (record { file = i; offset = index_of (cond t (Some o) None) })) l
             ∙ sym (ap (λ (t : Bool). cond t none (some (record { file = i; offset = o }))) (lt-leb n o (ltb-true o n l)))
         here false l = sym (ap (λ (t : Bool). cond t none (some (record { file = i; offset = o }))) (le-leb n o (ltb-false o n l)))
 
@@ -180,26 +179,26 @@ module _ (L : Ledger) (root : Root) (i n : ℕ) (f : Option File) (firsts : (fil
     table-freed e = ap (owner_from M e) (holder-freed e) ∙ go (holder_of L e) refl
       where
         go : (r : Lowest) → holder_of L e ≡ r → owner_from M e (unless (stands e) i r) ≡ cond (owned_from i n (owner_from L e r)) none (owner_from L e r)
-        go Nowhere q = refl
-        go (At j) q = by (eqb j i) refl
+        go None q = refl
+        go (Some j) q = by (eqb j i) refl
           where
             by : (b : Bool) → eqb j i ≡ b
-                → owner_from M e (cond (b && not (stands e)) Nowhere (At j)) ≡ cond (b && leb n (index_of (position_among e (file_or (L.slots j)).extents))) none (owner_from L e (At j))
+                → owner_from M e (cond (b && not (stands e)) None (Some j)) ≡ cond (b && leb n (index_of (position_among e (file_or (L.slots j)).extents))) none (owner_from L e (Some j))
             by true z =
                 let s : i ≡ j = sym (eqb-true j i z) in
-                subst (λ (x : ℕ). owner_from M e (cond (not (stands e)) Nowhere (At x)) ≡ cond (leb n (index_of (position_among e (file_or (L.slots x)).extents))) none (owner_from L e (At x))) s
-                (mine e (stood e) refl (holder-has e i (q ∙ ap At (sym s))))
+                subst (λ (x : ℕ). owner_from M e (cond (not (stands e)) None (Some x)) ≡ cond (leb n (index_of (position_among e (file_or (L.slots x)).extents))) none (owner_from L e (Some x))) s
+                (mine e (stood e) refl (holder-has e i (q ∙ ap Some (sym s))))
             by false z = ap (λ (b : Bool). some (record { file = j; offset = index_of (position_among e (file_or (cond b f (L.slots j))).extents) })) z
 
     pub disjoint-freed : Disjoint M
     disjoint-freed k e l q = by (eqb k i) refl (sym (holds-freed k e) ∙ q)
       where
-        by : (b : Bool) → eqb k i ≡ b → cond b (stands e) (holds L k e) ≡ true → holder_of M e ≡ At k
+        by : (b : Bool) → eqb k i ≡ b → cond b (stands e) (holds L k e) ≡ true → holder_of M e ≡ Some k
         by true z h =
             let s : k ≡ i = eqb-true k i z in
             holder-freed e ∙ ap (unless (stands e) i) (disjoint k e l (ap (λ (x : ℕ). holds L x e) s ∙ stood-first e h))
-            ∙ ap₂ (λ (x y : Bool). cond (x && not y) Nowhere (At k)) z h
-        by false z h = holder-freed e ∙ ap (unless (stands e) i) (disjoint k e l h) ∙ ap (λ (x : Bool). cond (x && not (stands e)) Nowhere (At k)) z
+            ∙ ap₂ (λ (x y : Bool). cond (x && not y) None (Some k)) z h
+        by false z h = holder-freed e ∙ ap (unless (stands e) i) (disjoint k e l h) ∙ ap (λ (x : Bool). cond (x && not (stands e)) None (Some k)) z
 
     -- a test that no extent of file i passes is not changed
     pub others-freed : OthersKept L root i f

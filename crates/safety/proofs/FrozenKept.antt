@@ -10,9 +10,8 @@ use native.Mathlib.Omega.{arith}
 use lib.Dec.{eqb, leb, ltb}
 use lib.ListN.{length, take}
 use borrow.Author.Tests.{eqb-true, eqb-false, eq-eqb, lt-ltb, le-ltb, ltb-false, leb-false}
-use Rattle.model.specs.declared.Lowest.{Lowest}
-use Rattle.model.specs.declared.Lowest.TheVariants.{At, Nowhere}
-use Rattle.model.specs.Search.{scan, first, count_below, is_at, index_of, equal_bytes}
+use Rattle.std.specs.Prelude.{Some, None}
+use Rattle.model.specs.Search.{Lowest, scan, first, count_below, is_at, index_of, equal_bytes}
 use Rattle.model.specs.Geometry.{ExtentNumber, FileNumber, reserve_extents, extents_for, table_sectors}
 use Rattle.model.specs.Root.{Root}
 use Rattle.model.specs.Ledger.{Ledger, File, file_or, position_among, holder_of, slot_named, free_slot, unheld_extent, unheld_extents, is_frozen, file_of, needs_more}
@@ -139,8 +138,8 @@ module _ (L : Ledger) (free : is_frozen L ≡ false) where
       fewer e t = go (position_among e (file_or (L.slots i)).extents) (ap is_at (sym (place-take e (extents_for L.geometry size) (file_or (L.slots i)).extents)) ∙ t)
         where
           go : (r : Lowest) → is_at (below (extents_for L.geometry size) r) ≡ true → is_at r ≡ true
-          go Nowhere q = q
-          go (At k) q = refl
+          go None q = q
+          go (Some k) q = refl
 
   -- a write takes one extent more, or none
   kept-written : (i offset : ℕ) (bytes : List ℕ) (time : ℕ)
@@ -160,11 +159,11 @@ module _ (L : Ledger) (free : is_frozen L ≡ false) where
       among : (e : ℕ) (b : Bool) → ((b ≡ true) → e ≢ x) → is_at (position_among e (es ++ cond b (x ∷ []) [])) ≡ true → has e (L.slots i) ≡ true
       among e b ne t = by (position_among e es) b (eqb e x) refl (ap is_at (sym (place-more e es b x)) ∙ t) ne
         where
-          by : (r : Lowest) (c d : Bool) → eqb e x ≡ d → is_at (or_then r (cond (c && d) (At (length es)) Nowhere)) ≡ true → ((c ≡ true) → e ≢ x) → is_at r ≡ true
-          by (At k) c d q u n = refl
-          by Nowhere true true q u n = absurd (n refl (eqb-true e x q))
-          by Nowhere true false q u n = u
-          by Nowhere false d q u n = u
+          by : (r : Lowest) (c d : Bool) → eqb e x ≡ d → is_at (or_then r (cond (c && d) (Some (length es)) None)) ≡ true → ((c ≡ true) → e ≢ x) → is_at r ≡ true
+          by (Some k) c d q u n = refl
+          by None true true q u n = absurd (n refl (eqb-true e x q))
+          by None true false q u n = u
+          by None false d q u n = u
 
       grown : (b : Bool) → needs_more L (file_or (L.slots i)).entry.size size ≡ b → is_frozen (with_file L i (written L i offset bytes time)) ≡ false
       grown false q =
@@ -195,8 +194,8 @@ module _ (L : Ledger) (free : is_frozen L ≡ false) where
       f = some (renamed_file new time (file_of L old))
 
       fewer : (r : Lowest) (e k : ℕ) → Has e (with_slot (slots_without L r) i f k) (L.slots k)
-      fewer Nowhere e k t = has-slot L i f e (λ u. u) k t
-      fewer (At j) e k t = by (eqb k i) (eqb k j) refl t
+      fewer None e k t = has-slot L i f e (λ u. u) k t
+      fewer (Some j) e k t = by (eqb k i) (eqb k j) refl t
         where
           by : (b c : Bool) → eqb k i ≡ b → has e (cond b f (cond c none (L.slots k))) ≡ true → has e (L.slots k) ≡ true
           by true c q u = ap (λ (n : ℕ). has e (L.slots n)) (eqb-true k i q) ∙ u

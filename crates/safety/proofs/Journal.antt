@@ -10,10 +10,9 @@ use native.Mathlib.Nat.{not-suc-le-zero, add-zero}
 use lib.Dec.{eqb}
 use lib.ListN.{length, get_or, length-append}
 use borrow.Author.Tests.{eqb-true, eqb-false, ne_eqb}
-use Rattle.model.specs.declared.Lowest.{Lowest}
-use Rattle.model.specs.declared.Lowest.TheVariants.{At}
+use Rattle.std.specs.Prelude.{Some}
 use Rattle.model.specs.Bytes.{put, be_at, be_bytes}
-use Rattle.model.specs.Search.{scan, concatenated, is_at, index_of}
+use Rattle.model.specs.Search.{Lowest, scan, concatenated, is_at, index_of}
 use Rattle.model.specs.Disk.{Disk}
 use Rattle.model.specs.WriteList.{Record, sector_write, barrier, Group}
 use Rattle.model.specs.Journal.{entries_in, journal_sector}
@@ -149,7 +148,7 @@ made d source t k = cond (is_at k) (sector_write t (d (source (index_of k))) ∷
 
 module _ (d : Disk) (source target : ℕ → ℕ) (t : ℕ) where
   made-case : (b : Bool) (i : ℕ) (w : Record) (ws : Group) (rest : Lowest) → eqb w.sector t ≡ b → d (source i) ≡ w.contents
-      → made d source t rest ≡ picked ws t → made d source t (cond b (At i) rest) ≡ cond b (w ∷ []) (picked ws t)
+      → made d source t rest ≡ picked ws t → made d source t (cond b (Some i) rest) ≡ cond b (w ∷ []) (picked ws t)
   made-case true i w ws rest e c h = ap (λ (r : Record). r ∷ []) (write-path t (d (source i)) w (sym (eqb-true w.sector t e)) c)
   made-case false i w ws rest e c h = h
 
@@ -166,4 +165,4 @@ module _ (d : Disk) (source target : ℕ → ℕ) (t : ℕ) where
       made-picked ws (suc i)
       (λ k l. let f : suc i + k ≡ i + suc k = omega arith in ap target f ∙ p (suc k) (omega arith))
       (λ k l. let f : suc i + k ≡ i + suc k = omega arith in ap (λ x. d (source x)) f ∙ q (suc k) (omega arith)) in
-      ap (λ x. made d source t (cond (eqb x t) (At i) rest)) e ∙ made-case (eqb w.sector t) i w ws rest refl c ih
+      ap (λ x. made d source t (cond (eqb x t) (Some i) rest)) e ∙ made-case (eqb w.sector t) i w ws rest refl c ih

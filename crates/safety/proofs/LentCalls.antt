@@ -8,13 +8,10 @@ use mathlib.Core.Option.{Option, none, some}
 use native.Mathlib.Omega.{arith}
 use lib.Dec.{ltb}
 use lib.ListN.{length}
-use Rattle.model.specs.declared.Verdict.{Verdict}
-use Rattle.model.specs.declared.Changed.{Changed}
-use Rattle.model.specs.declared.Listed.{Listed}
-use Rattle.model.specs.declared.Lowest.{Lowest}
-use Rattle.model.specs.declared.Lowest.TheVariants.{At, Nowhere}
+use Rattle.model.specs.Answers.{Verdict, Changed, Listed}
+use Rattle.std.specs.Prelude.{Some, None}
 use Rattle.model.specs.Bytes.{zero_sector}
-use Rattle.model.specs.Search.{first, index_of, any_below, concatenated, equal_bytes}
+use Rattle.model.specs.Search.{Lowest, first, index_of, any_below, concatenated, equal_bytes}
 use Rattle.model.specs.Geometry.{superblock_at, root_at, entry_at, table_at, table_sectors, data_at, reserve_extents, extent_sectors}
 use Rattle.model.specs.Disk.{Disk, view}
 use Rattle.model.specs.Superblock.{geometry_in, journal_length, state_of}
@@ -47,8 +44,8 @@ pub found-most : (p : ℕ → Bool) (n : ℕ) → index_of (first p n) ≤ n
 found-most p n = go (first p n) (scan-hit p (n - 0) 0)
   where
     go : (r : Lowest) → Hit p (n - 0) 0 r → index_of r ≤ n
-    go (At k) h = omega (arith, h.1)
-    go Nowhere h = omega arith
+    go (Some k) h = omega (arith, h.1)
+    go None h = omega arith
 
 -- the catalogue's geometry is the superblock's
 cat-below : (d : Disk) (s : ℕ) → s < data_at (catalogue_of d).geometry → s < data_at (geometry_in (d superblock_at))
@@ -112,8 +109,8 @@ module _ (d d' : Disk) (same : Agrees d d') where
   same-renaming : (name new : List ℕ) (time : ℕ) (place : Lowest)
       → renaming_records c d' (index_of (file_named c name)) place new time ≡ renaming_records c d (index_of (file_named c name)) place new time
   unfolding replacing_records
-  same-renaming name new time Nowhere = ap (λ (r : Record). r ∷ []) (same-moved name new time)
-  same-renaming name new time (At j) =
+  same-renaming name new time None = ap (λ (r : Record). r ∷ []) (same-moved name new time)
+  same-renaming name new time (Some j) =
       ap₂ (λ (r : Record) (rs : List Record).
       cond (ltb (index_of (file_named c name)) j) (r ∷ sector_write (entry_at j) zero_sector ∷ []) (sector_write (entry_at j) zero_sector ∷ r ∷ []) ++ rs)
       (same-moved name new time) (same-freed (owns_from c j 0))

@@ -12,11 +12,9 @@ use borrow.Author.Tests.{le-leb, leb-true, lt-ltb, eq-eqb}
 use Rattle.model.specs.declared.Geometry.{Geometry}
 use Rattle.model.specs.declared.State.{State}
 use Rattle.model.specs.declared.State.TheVariants.{Clean, Waiting, Damaged, Unfinished}
-use Rattle.model.specs.declared.Soundness.{Soundness}
-use Rattle.model.specs.declared.Soundness.TheVariants.{Sound}
-use Rattle.model.specs.declared.Lowest.{Lowest}
+use Rattle.model.specs.Answers.{Soundness, Sound}
 use Rattle.model.specs.Bytes.{number_in}
-use Rattle.model.specs.Search.{first}
+use Rattle.model.specs.Search.{Lowest, first}
 use Rattle.model.specs.Geometry.{SectorNumber, superblock_at, root_at, entry_at, in_bounds, data_at, volume_sectors}
 use Rattle.model.specs.Disk.{Disk, view}
 use Rattle.model.specs.Superblock.{is_volume, geometry_in, journal_length, state_of, state_on, with_journal_length}

@@ -6,9 +6,8 @@ use mathlib.Core.List.{List, []}
 use mathlib.Core.Option.{Option, none, some}
 use lib.Dec.{ltb}
 use lib.ListN.{length}
-use Rattle.model.specs.declared.Soundness.{Soundness}
+use Rattle.model.specs.Answers.{Soundness, Verdict}
 use Rattle.model.specs.declared.State.{State}
-use Rattle.model.specs.declared.Verdict.{Verdict}
 use Rattle.model.specs.Search.{any_below}
 use Rattle.model.specs.Geometry.{superblock_at}
 use Rattle.model.specs.Disk.{Disk, view}

@@ -14,7 +14,7 @@ use lib.Seq.{ext_get_or}
 use borrow.Author.Tests.{eq-eqb, ne_eqb, ltb-true, ltb-false, lt-ltb, le-leb}
 use Rattle.model.specs.declared.Part.{Part}
 use Rattle.model.specs.declared.Writing.{Writing}
-use Rattle.model.specs.declared.Changed.{Changed}
+use Rattle.model.specs.Answers.{Changed}
 use Rattle.model.specs.Bytes.{bytes_from, put}
 use Rattle.model.specs.Search.{tabulate, index_of}
 use Rattle.model.specs.Geometry.{extent_sectors}

@@ -14,13 +14,11 @@ use lib.Dec.{eqb, leb, ltb}
 use lib.ListN.{length, get_or}
 use borrow.Author.Tests.{eqb-true, eqb-false, eq-eqb, ne_eqb, ltb-false, lt-ltb, le-leb}
 use Rattle.model.specs.declared.Geometry.{Geometry}
-use Rattle.model.specs.declared.Lowest.{Lowest}
-use Rattle.model.specs.declared.Lowest.TheVariants.{At, Nowhere}
-use Rattle.model.specs.declared.BytesRead.{BytesRead}
-use Rattle.model.specs.declared.Verdict.{Verdict}
+use Rattle.std.specs.Prelude.{Some, None}
+use Rattle.model.specs.Answers.{BytesRead, Verdict}
 use Rattle.model.specs.declared.Reading.{Reading}
 use Rattle.model.specs.Bytes.{bytes_from, put}
-use Rattle.model.specs.Search.{first, tabulate, index_of}
+use Rattle.model.specs.Search.{Lowest, first, tabulate, index_of}
 use Rattle.model.specs.Geometry.{extent_sectors, extent_bytes, extent_at, superblock_at}
 use Rattle.model.specs.Disk.{Disk, view}
 use Rattle.model.specs.Superblock.{geometry_in}
@@ -58,8 +56,8 @@ pub lowest-inside : (p : ℕ → Bool) (n : ℕ) → 0 < n → index_of (first p
 lowest-inside p n h = go (first p n) (scan-hit p (n - 0) 0)
   where
     go : (r : Lowest) → Hit p (n - 0) 0 r → index_of r < n
-    go (At k) q = omega (arith, q.1)
-    go Nowhere q = h
+    go (Some k) q = omega (arith, q.1)
+    go None q = h
 
 -- sector r of an extent of the volume
 pub extent-asked : (g : Geometry) → Bounded g → (e r : ℕ) → e < g.extents → r < extent_sectors g → (0 < extent_at g e + r) × (extent_at g e + r < barrier_number)

@@ -15,13 +15,11 @@ use borrow.Author.Tests.{eqb-true, eqb-false, eq-eqb, ne_eqb, le-leb, leb-true, 
 use Rattle.model.specs.declared.Geometry.{Geometry}
 use Rattle.model.specs.declared.State.{State}
 use Rattle.model.specs.declared.State.TheVariants.{Clean, Waiting, Damaged, Unfinished}
-use Rattle.model.specs.declared.Verdict.{Verdict}
-use Rattle.model.specs.declared.Recovered.{Recovered}
+use Rattle.model.specs.Answers.{Verdict, Recovered}
 use Rattle.model.specs.declared.Recovering.{Recovering}
-use Rattle.model.specs.declared.Lowest.{Lowest}
-use Rattle.model.specs.declared.Lowest.TheVariants.{At}
+use Rattle.std.specs.Prelude.{Some}
 use Rattle.model.specs.Bytes.{put, be_bytes, bytes_from}
-use Rattle.model.specs.Search.{first, any_below, count_below, tabulate, concatenated, is_at, index_of}
+use Rattle.model.specs.Search.{Lowest, first, any_below, count_below, tabulate, concatenated, is_at, index_of}
 use Rattle.model.specs.Geometry.{superblock_at, data_at, volume_sectors, in_bounds}
 use Rattle.model.specs.Disk.{Disk, view}
 use Rattle.model.specs.Superblock.{geometry_in, journal_length, state_of, state_on}
@@ -229,7 +227,7 @@ module _ (T : ℕ → ℕ) (n : ℕ) where
     position c b = length-filled c b ∙ below b
 
     module _ (k : ℕ) (l : k < n) (b : ℕ) (inside : T k < b) where
-      found : first (λ j. eqb (T j) (T k)) n ≡ At k
+      found : first (λ j. eqb (T j) (T k)) n ≡ Some k
       found =
           first-there (λ j. eqb (T j) (T k)) k n l (first-none (λ j. eqb (T j) (T k)) k (λ j h. ne_eqb (T j) (T k) (once j k h l)))
           (eq-eqb (T k) (T k) refl)

@@ -10,10 +10,7 @@ use lib.Dec.{eqb, leb, ltb}
 use lib.ListN.{length}
 use borrow.Author.Tests.{ne_eqb, eqb-true, leb-true, leb-false, le-leb, lt-leb, lt-ltb, eq-eqb}
 use Rattle.model.specs.declared.Geometry.{Geometry}
-use Rattle.model.specs.declared.BytesRead.{BytesRead}
-use Rattle.model.specs.declared.Changed.{Changed}
-use Rattle.model.specs.declared.Recovered.{Recovered}
-use Rattle.model.specs.declared.Verdict.{Verdict}
+use Rattle.model.specs.Answers.{BytesRead, Changed, Recovered, Verdict}
 use Rattle.model.specs.declared.Part.{Part}
 use Rattle.model.specs.declared.Reading.{Reading}
 use Rattle.model.specs.declared.Writing.{Writing}

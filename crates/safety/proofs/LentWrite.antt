@@ -12,8 +12,7 @@ use lib.ListN.{length}
 use borrow.Author.Tests.{eqb-true, eqb-false, ne_eqb, ltb-false}
 use Rattle.model.specs.declared.Part.{Part}
 use Rattle.model.specs.declared.Writing.{Writing}
-use Rattle.model.specs.declared.Changed.{Changed}
-use Rattle.model.specs.declared.Verdict.{Verdict}
+use Rattle.model.specs.Answers.{Changed, Verdict}
 use Rattle.model.specs.Search.{index_of}
 use Rattle.model.specs.Geometry.{extents_for, superblock_at, entry_at}
 use Rattle.model.specs.Disk.{Disk, view}

@@ -11,19 +11,11 @@ use lib.Dec.{eqb, leb, ltb}
 use lib.ListN.{length, length-append}
 use borrow.Author.Tests.{eqb-true, eq-eqb, le-ltb, ltb-false, leb-true}
 use Rattle.model.specs.declared.Geometry.{Geometry}
-use Rattle.model.specs.declared.Lowest.{Lowest}
-use Rattle.model.specs.declared.Lowest.TheVariants.{At, Nowhere}
+use Rattle.std.specs.Prelude.{Some, None}
 use Rattle.model.specs.declared.State.{State}
 use Rattle.model.specs.declared.State.TheVariants.{Clean, Waiting, Damaged, Unfinished}
-use Rattle.model.specs.declared.Soundness.{Soundness}
-use Rattle.model.specs.declared.Soundness.TheVariants.{Sound, Faulty}
-use Rattle.model.specs.declared.Verdict.{Verdict}
-use Rattle.model.specs.declared.Summarized.{Summarized}
-use Rattle.model.specs.declared.Found.{Found}
-use Rattle.model.specs.declared.Listed.{Listed}
-use Rattle.model.specs.declared.BytesRead.{BytesRead}
-use Rattle.model.specs.declared.Repaired.{Repaired}
-use Rattle.model.specs.Search.{any_below, all_below, is_at, index_of, equal_bytes}
+use Rattle.model.specs.Answers.{Soundness, Sound, Faulty, Verdict, Summarized, Found, Listed, BytesRead, Repaired}
+use Rattle.model.specs.Search.{Lowest, any_below, all_below, is_at, index_of, equal_bytes}
 use Rattle.model.specs.Bytes.{zero_sector}
 use Rattle.model.specs.Geometry.{superblock_at, entry_at, table_sectors, extent_sectors, reserve_extents, in_bounds, most_files, volume_sectors, extents_for, data_at}
 use Rattle.model.specs.Disk.{Disk, view}
@@ -180,8 +172,8 @@ two-of false x y = refl
 renaming-few : (c : Catalogue) (d : Disk) (i : ℕ) (place : Lowest) (name : List ℕ) (time : ℕ)
     → length (renaming_records c d i place name time) ≤ 2 + table_sectors c.geometry
 unfolding replacing_records
-renaming-few c d i Nowhere name time = omega arith
-renaming-few c d i (At j) name time =
+renaming-few c d i None name time = omega arith
+renaming-few c d i (Some j) name time =
     let this = renamed_record c d i name time in
     let that = sector_write (entry_at j) zero_sector in
     let freed = owns_from c j 0 in

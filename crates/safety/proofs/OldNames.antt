@@ -9,9 +9,8 @@ use native.Mathlib.Omega.{arith}
 use lib.Dec.{ltb}
 use borrow.Author.Tests.{le-ltb}
 use Rattle.model.specs.declared.Geometry.{Geometry}
-use Rattle.model.specs.declared.Lowest.{Lowest}
-use Rattle.model.specs.declared.Lowest.TheVariants.{At, Nowhere}
-use Rattle.model.specs.Search.{is_at, equal_bytes}
+use Rattle.std.specs.Prelude.{Some, None}
+use Rattle.model.specs.Search.{Lowest, is_at, equal_bytes}
 use Rattle.model.specs.Geometry.{reserve_extents, extent_bytes}
 use Rattle.model.specs.Edition.{bad_time}
 use Rattle.model.specs.Entry.{bad_name, bad_new_name}
@@ -44,8 +43,8 @@ unfolding file_in
 there L name x e = go (slot_named L name) e
   where
     go : (r : Lowest) → contents_in L r ≡ some x → not (is_at r) ≡ false
-    go Nowhere q = absurd (none-ne-some x q)
-    go (At i) q = refl
+    go None q = absurd (none-ne-some x q)
+    go (Some i) q = refl
 
 -- the longest list
 few-records : (L : Ledger) (img : List ℕ) → Rep L img → (old new : List ℕ) → renamed_records L old new ≤ record_count 0 515

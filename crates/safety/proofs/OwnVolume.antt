@@ -13,10 +13,9 @@ use lib.Dec.{eqb, leb, ltb}
 use lib.ListN.{length, get_or, take, length-append, length-take, get_or-append}
 use lib.Seq.{get_or_at, get_or-take}
 use borrow.Author.Tests.{eqb-true, leb-false, ltb-false}
-use Rattle.model.specs.declared.Lowest.{Lowest}
-use Rattle.model.specs.declared.Lowest.TheVariants.{At, Nowhere}
+use Rattle.std.specs.Prelude.{Some, None}
 use Rattle.model.specs.declared.Geometry.{Geometry}
-use Rattle.model.specs.Search.{first, tabulate, index_of, equal_bytes}
+use Rattle.model.specs.Search.{Lowest, first, tabulate, index_of, equal_bytes}
 use Rattle.model.specs.Geometry.{extent_sectors, most_targets, reserve_extents, usable, reserve_at, extents_for}
 use Rattle.model.specs.Disk.{view}
 use Rattle.model.specs.Catalogue.{Catalogue, Owner, catalogue_of, is_free, free_extent, free_below, free_extents, staging_extents}
@@ -50,7 +49,7 @@ lowest-low : (c : Catalogue) (k : ℕ) → k < length (free_extents c) → index
 unfolding free_extent
 lowest-low c k h =
     let r = free-rises c c.geometry.extents in
-    let e : first (free c) c.geometry.extents ≡ At (get_or (free_extents c) 0 0) = free-first c c.geometry.extents (omega arith) in
+    let e : first (free c) c.geometry.extents ≡ Some (get_or (free_extents c) 0 0) = free-first c c.geometry.extents (omega arith) in
     rw e (let m : get_or (free_extents c) 0 0 + k ≤ get_or (free_extents c) k 0 = climbs k h in omega (arith, r.below k h))
   where
     climbs : (k : ℕ) → k < length (free_extents c) → get_or (free_extents c) 0 0 + k ≤ get_or (free_extents c) k 0
@@ -119,8 +118,8 @@ module _ (L : Ledger) (low : Low L) where
       (below_more m f.extents (needs_more L f.entry.size size) (index_of (unheld_extent L)) (low i) (taken-low f.entry.size size room)))
 
   low-without : (p : Lowest) (j : ℕ) → Below m (file_or (slots_without L p j)).extents
-  low-without Nowhere = low
-  low-without (At k) = low-slot m L.slots k none low (below_none m)
+  low-without None = low
+  low-without (Some k) = low-slot m L.slots k none low (below_none m)
 
   low-renamed : (old new : List ℕ) (time : ℕ) → Low (after_rename L old new time)
   unfolding after_rename file_of

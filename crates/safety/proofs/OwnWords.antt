@@ -11,11 +11,10 @@ use native.Mathlib.Decide.{dec_le}
 use lib.Dec.{eqb, leb, ltb}
 use lib.ListN.{length, get_or}
 use borrow.Author.Tests.{eqb-true, eqb-false, ne_eqb, le-leb, lt-leb, lt-ltb, le-ltb}
-use Rattle.model.specs.declared.Lowest.{Lowest}
-use Rattle.model.specs.declared.Lowest.TheVariants.{At, Nowhere}
-use Rattle.model.specs.declared.Verdict.{Verdict}
+use Rattle.std.specs.Prelude.{Some, None}
+use Rattle.model.specs.Answers.{Verdict}
 use Rattle.model.specs.Bytes.{bytes_from}
-use Rattle.model.specs.Search.{any_below, tabulate, is_at, index_of}
+use Rattle.model.specs.Search.{Lowest, any_below, tabulate, is_at, index_of}
 use Rattle.model.specs.Geometry.{FileNumber, ExtentNumber, reserve_extents}
 use Rattle.model.specs.Edition.{first_edition, second_edition, layout_of, bad_time}
 use Rattle.model.specs.Entry.{has_zero, bad_name, is_typable, bad_new_name}
@@ -46,8 +45,8 @@ free-if none = refl
 free-if (some f) = refl
 
 unheld-if : (L : Ledger) (e : ExtentNumber) (p : Lowest) → not (is_at p) ≡ is_free (owner_from L e p)
-unheld-if L e (At i) = refl
-unheld-if L e Nowhere = refl
+unheld-if L e (Some i) = refl
+unheld-if L e None = refl
 
 entry-if : (s : Option File) → (file_or s).entry ≡ entry_or (entry_of_file s)
 entry-if none = refl

@@ -8,8 +8,7 @@ use native.Mathlib.Omega.{arith}
 use lib.Dec.{ltb}
 use lib.ListN.{length}
 use borrow.Author.Tests.{ltb-false, not-false}
-use Rattle.model.specs.declared.BytesRead.{BytesRead}
-use Rattle.model.specs.declared.Verdict.{Verdict}
+use Rattle.model.specs.Answers.{BytesRead, Verdict}
 use Rattle.model.specs.Bytes.{bytes_from}
 use Rattle.model.specs.Search.{tabulate, is_at, index_of}
 use Rattle.model.specs.Disk.{Disk, view}

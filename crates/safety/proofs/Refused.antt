@@ -7,8 +7,7 @@ use mathlib.Core.List.{List, []}
 use mathlib.Core.Option.{Option, none}
 use lib.ListN.{length}
 use borrow.Author.Tests.{ne_eqb}
-use Rattle.model.specs.declared.Verdict.{Verdict}
-use Rattle.model.specs.declared.BytesRead.{BytesRead}
+use Rattle.model.specs.Answers.{Verdict, BytesRead}
 use Rattle.model.specs.Bytes.{put}
 use Rattle.model.specs.Search.{tabulate, index_of}
 use Rattle.model.specs.Disk.{Disk, view}

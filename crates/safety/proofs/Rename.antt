@@ -7,9 +7,8 @@ use mathlib.Core.Option.{Option, none, some}
 use native.Mathlib.Omega.{arith}
 use lib.Dec.{ltb}
 use borrow.Author.Tests.{lt-ltb}
-use Rattle.model.specs.declared.Lowest.{Lowest}
-use Rattle.model.specs.declared.Lowest.TheVariants.{At, Nowhere}
-use Rattle.model.specs.Search.{is_at, index_of, equal_bytes}
+use Rattle.std.specs.Prelude.{Some, None}
+use Rattle.model.specs.Search.{Lowest, is_at, index_of, equal_bytes}
 use Rattle.model.specs.Disk.{view}
 use Rattle.model.specs.Table.{sectors_holding}
 use Rattle.model.specs.Catalogue.{Catalogue, lacks_reserve, file_named, owns_from}
@@ -51,8 +50,8 @@ module _ (L : Ledger) (img : List ℕ) (rep : Rep L img) (old new : List ℕ) (t
       go : (b : Bool) (r : Lowest) → list_length (groups_for (view img) (cond b none (some (plan_at r))))
           ≡ cond b 0 (cond (is_at r) (record_count 0 (3 + sectors_holding (owns_from (catalogue L) (index_of r) 0) L.geometry)) (record_count 0 2)) * record_size
       go true r = refl
-      go false Nowhere = plan-needs (view img) (plan_at Nowhere) ∙ ap (λ n. record_count 0 n * record_size) (count_at L img rep old new time Nowhere)
-      go false (At j) = plan-needs (view img) (plan_at (At j)) ∙ ap (λ n. record_count 0 n * record_size) (count_at L img rep old new time (At j))
+      go false None = plan-needs (view img) (plan_at None) ∙ ap (λ n. record_count 0 n * record_size) (count_at L img rep old new time None)
+      go false (Some j) = plan-needs (view img) (plan_at (Some j)) ∙ ap (λ n. record_count 0 n * record_size) (count_at L img rep old new time (Some j))
 
   planned : is_planned (rename_planned (catalogue L) (view img) old new time) ≡ ltb 0 (renamed_records L old new)
   unfolding rename_planned renamed_records freed_records

@@ -11,7 +11,7 @@ use lib.Dec.{ltb}
 use lib.ListN.{length}
 use borrow.Author.Tests.{eqb-true, eqb-false, ltb-true, ltb-false, lt-ltb}
 use Rattle.model.specs.declared.Geometry.{Geometry}
-use Rattle.model.specs.declared.Verdict.{Verdict}
+use Rattle.model.specs.Answers.{Verdict}
 use Rattle.model.specs.Search.{any_below, concatenated}
 use Rattle.model.specs.Geometry.{superblock_at, extent_sectors, table_sectors, data_at}
 use Rattle.model.specs.Disk.{Disk, view}

@@ -11,7 +11,7 @@ use lib.ListN.{length, take, length-append}
 use lib.Seq.{take-append_seam, drop-append_seam, take_all}
 use borrow.Author.Tests.{eq-eqb, eqb-false, eqb-true, le-ltb}
 use Rattle.model.specs.declared.Geometry.{Geometry}
-use Rattle.model.specs.declared.Verdict.{Verdict}
+use Rattle.model.specs.Answers.{Verdict}
 use Rattle.model.specs.Bytes.{bytes_from}
 use Rattle.model.specs.Search.{any_below, concatenated, equal_bytes, index_of}
 use Rattle.model.specs.Geometry.{superblock_at, root_at, extent_sectors, reserve_extents, data_at}

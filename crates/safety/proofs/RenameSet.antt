@@ -11,7 +11,7 @@ use lib.Dec.{eqb, ltb}
 use lib.ListN.{length}
 use borrow.Author.Tests.{ne_eqb, eq-eqb, eqb-true, eqb-false, lt-ltb, ltb-false}
 use Rattle.model.specs.declared.Geometry.{Geometry}
-use Rattle.model.specs.declared.Verdict.{Verdict}
+use Rattle.model.specs.Answers.{Verdict}
 use Rattle.model.specs.Search.{any_below, count_below, concatenated}
 use Rattle.model.specs.Geometry.{superblock_at, extent_sectors, reserve_extents, table_sectors, data_at}
 use Rattle.model.specs.Disk.{Disk, view}

@@ -12,10 +12,9 @@ use native.Mathlib.Numerals.{add-one}
 use lib.Dec.{eqb}
 use borrow.Author.Tests.{eqb-true, eqb-false, eq-eqb, ne_eqb}
 use Rattle.model.specs.declared.Geometry.{Geometry}
-use Rattle.model.specs.declared.Verdict.{Verdict}
-use Rattle.model.specs.declared.Lowest.{Lowest}
-use Rattle.model.specs.declared.Lowest.TheVariants.{At, Nowhere}
-use Rattle.model.specs.Search.{any_below, concatenated, is_at, index_of, equal_bytes}
+use Rattle.model.specs.Answers.{Verdict}
+use Rattle.std.specs.Prelude.{Some, None}
+use Rattle.model.specs.Search.{Lowest, any_below, concatenated, is_at, index_of, equal_bytes}
 use Rattle.model.specs.Geometry.{superblock_at, root_at, entry_at, table_at, table_sectors}
 use Rattle.model.specs.Disk.{Disk, view}
 use Rattle.model.specs.Superblock.{geometry_in}
@@ -51,16 +50,16 @@ eqb-sym a b = go (eqb b a) refl
     go false e = ne_eqb a b (λ q. eqb-false b a e (sym q))
 
 there-is : (r : Lowest) (q : ℕ) → is_at r ≡ true → eqb (index_of r) q ≡ is_there q r
-there-is (At j) q e = eqb-sym j q
-there-is Nowhere q e = absurd (true≢false (sym e))
+there-is (Some j) q e = eqb-sym j q
+there-is None q e = absurd (true≢false (sym e))
 
 slot_is : (r : Lowest) (q : ℕ) → is_slot r q ≡ is_there q r
-slot_is (At j) q = eqb-sym j q
-slot_is Nowhere q = refl
+slot_is (Some j) q = eqb-sym j q
+slot_is None q = refl
 
 there-own : (r : Lowest) → is_at r ≡ true → is_there (index_of r) r ≡ true
-there-own (At j) e = eq-eqb j j refl
-there-own Nowhere e = absurd (true≢false (sym e))
+there-own (Some j) e = eq-eqb j j refl
+there-own None e = absurd (true≢false (sym e))
 
 unless-same : (b z : Bool) → cond b false z ≡ (not b && z)
 unless-same true z = refl
@@ -68,8 +67,8 @@ unless-same false z = refl
 
 held-is : (b : Bool) (r : Lowest) (c : Catalogue) (t : ℕ) → cond b false (held_for r c t) ≡ (not b && is_at r && holds_any (owns_from c (index_of r) 0) t)
 held-is true r c t = refl
-held-is false Nowhere c t = refl
-held-is false (At j) c t = refl
+held-is false None c t = refl
+held-is false (Some j) c t = refl
 
 -- ---- what a part of a set comes to
 

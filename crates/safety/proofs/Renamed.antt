@@ -12,10 +12,9 @@ use lib.Dec.{eqb, ltb}
 use lib.ListN.{length}
 use borrow.Author.Tests.{eqb-true, ltb-true, ltb-false, ne_eqb, not-false}
 use Rattle.model.specs.declared.Geometry.{Geometry}
-use Rattle.model.specs.declared.Lowest.{Lowest}
-use Rattle.model.specs.declared.Lowest.TheVariants.{At, Nowhere}
+use Rattle.std.specs.Prelude.{Some, None}
 use Rattle.model.specs.Bytes.{zero_sector}
-use Rattle.model.specs.Search.{is_at, index_of, equal_bytes}
+use Rattle.model.specs.Search.{Lowest, is_at, index_of, equal_bytes}
 use Rattle.model.specs.Geometry.{root_at, entry_at, journal_at, table_at, table_sectors, most_targets}
 use Rattle.model.specs.Disk.{view}
 use Rattle.model.specs.Root.{Root, root_in, updated_root_sector}
@@ -117,8 +116,8 @@ module _ (L : Ledger) (img : List ℕ) (rep : Rep L img) (old new : List ℕ) (t
   -- how many targets it has
   pub count_at : (r : Lowest) → length (plan_at r).targets ≡ cond (is_at r) (3 + sectors_holding (owns_from (catalogue L) (index_of r) 0) L.geometry) 2
   unfolding rename_plan replacing_records catalogue
-  count_at Nowhere = refl
-  count_at (At j) = length_both (ltb i j) j
+  count_at None = refl
+  count_at (Some j) = length_both (ltb i j) j
 
   geo : UsableGeometry L.geometry
   geo = rep-geometry L img rep
@@ -151,12 +150,12 @@ module _ (L : Ledger) (img : List ℕ) (rep : Rep L img) (old new : List ℕ) (t
 
     -- ---- no file has the new name
 
-    module _ (nowhere : file_named (catalogue L) new ≡ Nowhere) where
+    module _ (nowhere : file_named (catalogue L) new ≡ None) where
       unused : (k : ℕ) → k < L.geometry.files → has_name new ((catalogue L).entries k) ≡ false
       unfolding file_named catalogue
       unused = place_none (λ k. has_name new (c.entries k)) L.geometry.files (ap is_at nowhere)
 
-      fits-new : Fits L.geometry (plan_at Nowhere).targets
+      fits-new : Fits L.geometry (plan_at None).targets
       unfolding rename_plan renamed_record catalogue
       fits-new =
           let l : i < L.geometry.files = found.0 in
@@ -168,13 +167,13 @@ module _ (L : Ledger) (img : List ℕ) (rep : Rep L img) (old new : List ℕ) (t
             whole = (whole-root, (whole-entry, tt));
           }
 
-      rep-new : (out : List ℕ) → Ready L.geometry out → Shows L.geometry (catalogue_of (view img)) (plan_at Nowhere).targets img out → Rep (after Nowhere) out
+      rep-new : (out : List ℕ) → Ready L.geometry out → Shows L.geometry (catalogue_of (view img)) (plan_at None).targets img out → Rep (after None) out
       unfolding rename_plan catalogue
       rep-new out ready shows = rep-renamed L img rep i f there new good (λ k l ne. unused k l) time fitting (catalogue_of (view img)) (free-said L img rep) out ready shows
 
     -- ---- file j has it, and is another
 
-    module _ (j : ℕ) (at : file_named (catalogue L) new ≡ At j) (other : equal_bytes old new ≡ false) where
+    module _ (j : ℕ) (at : file_named (catalogue L) new ≡ Some j) (other : equal_bytes old new ≡ false) where
       found-new : (j < L.geometry.files) × (has_name new ((catalogue L).entries j) ≡ true)
       unfolding file_named catalogue
       found-new =
@@ -230,7 +229,7 @@ module _ (L : Ledger) (img : List ℕ) (rep : Rep L img) (old new : List ℕ) (t
             whole = (whole-root, (length-zero_sector, (whole-entry, freed-whole L img j 0)));
           }
 
-      fits : Fits L.geometry (plan_at (At j)).targets
+      fits : Fits L.geometry (plan_at (Some j)).targets
       unfolding rename_plan replacing_records catalogue
       fits = fits_both (ltb i j) refl
 
@@ -301,16 +300,16 @@ module _ (L : Ledger) (img : List ℕ) (rep : Rep L img) (old new : List ℕ) (t
           sym (ap₂ (λ (r s : List ℕ). sector_write root_at (updated_root_sector L.geometry.edition time r) ∷ renamed_record (catalogue L) (λ k. s) i new time ∷ [])
           (kept root_at (omega arith) (λ e. omega arith) (λ e. omega arith)) (kept (entry_at i) (omega arith) (λ e. omega arith) (λ e. apart (omega arith))))
 
-      module _ (out : List ℕ) (ready : Ready L.geometry out) (shows : Shows L.geometry (catalogue_of (view img)) (plan_at (At j)).targets img out) where
+      module _ (out : List ℕ) (ready : Ready L.geometry out) (shows : Shows L.geometry (catalogue_of (view img)) (plan_at (Some j)).targets img out) where
         shows-last : Shows L.geometry (catalogue_of (view img)) (w1 ∷ w2 ∷ []) between out
         unfolding rename_plan replacing_records catalogue
         shows-last k o ne =
             shows k o ne
-            ∙ over-reordered (reorder (ltb i j)) (rising-own (plan_at (At j)).targets 0 fits.rising) k _
+            ∙ over-reordered (reorder (ltb i j)) (rising-own (plan_at (Some j)).targets 0 fits.rising) k _
             ∙ over-append (freeing ++ (w1 ∷ [])) (w2 ∷ []) k _ ∙ ap (over (w2 ∷ []) k) (over-append freeing (w1 ∷ []) k _)
             ∙ sym (over-append (w1 ∷ []) (w2 ∷ []) k _) ∙ ap (over (w1 ∷ w2 ∷ []) k) (sym (shows-between k o ne))
 
-        rep-both : Rep (after (At j)) out
+        rep-both : Rep (after (Some j)) out
         rep-both =
             rep-renamed M between rep-between i f has new good (λ k l ne. free-name k l) time fitting (catalogue_of (view img)) frees-between out
             ready (subst (λ (ws : Group). Shows L.geometry (catalogue_of (view img)) ws between out) same_writes shows-last)
@@ -319,16 +318,16 @@ module _ (L : Ledger) (img : List ℕ) (rep : Rep L img) (old new : List ℕ) (t
 
     module _ (other : equal_bytes old new ≡ false) where
       fits-at : (r : Lowest) → file_named (catalogue L) new ≡ r → Fits L.geometry (plan_at r).targets
-      fits-at Nowhere q = fits-new q
-      fits-at (At j) q = fits j q other
+      fits-at None q = fits-new q
+      fits-at (Some j) q = fits j q other
 
       pub renaming-fits : Fits L.geometry (plan_at (file_named (catalogue L) new)).targets
       renaming-fits = fits-at (file_named (catalogue L) new) refl
 
       rep_at : (r : Lowest) → file_named (catalogue L) new ≡ r → (out : List ℕ) → Ready L.geometry out
           → Shows L.geometry (catalogue_of (view img)) (plan_at r).targets img out → Rep (after r) out
-      rep_at Nowhere q = rep-new q
-      rep_at (At j) q = rep-both j q other
+      rep_at None q = rep-new q
+      rep_at (Some j) q = rep-both j q other
 
       -- THE IMAGE THAT SHOWS ITS WRITES
       pub rep-renaming : (out : List ℕ) → Ready L.geometry out
@@ -338,8 +337,8 @@ module _ (L : Ledger) (img : List ℕ) (rep : Rep L img) (old new : List ℕ) (t
 
       -- all that was free still is
       free-at : (r : Lowest) → file_named (catalogue L) new ≡ r → (e : ℕ) → is_free ((catalogue L).table e) ≡ true → is_free ((catalogue (after r)).table e) ≡ true
-      free-at Nowhere q e h = ap is_free (kept_table L i f (renamed_file new time f) there refl (updated_root time L.root) e) ∙ h
-      free-at (At j) q e h =
+      free-at None q e h = ap is_free (kept_table L i f (renamed_file new time f) there refl (updated_root time L.root) e) ∙ h
+      free-at (Some j) q e h =
           ap is_free (kept_table (M j q other) i f (renamed_file new time f) (has j q other) refl (updated_root time L.root) e)
           ∙ frees-between j q other e (ap is_free (rep.says.table e) ∙ h)
 

@@ -9,9 +9,8 @@ use mathlib.Core.Option.{some, Option, none, none-ne-some}
 use lib.Dec.{eqb, ltb}
 use borrow.Author.Tests.{eqb-true, lt-ltb}
 use Rattle.model.specs.declared.Geometry.{Geometry}
-use Rattle.model.specs.declared.Soundness.TheVariants.{Sound}
-use Rattle.model.specs.declared.Lowest.TheVariants.{At}
-use Rattle.model.specs.declared.Verdict.{Verdict}
+use Rattle.model.specs.Answers.{Sound, Verdict}
+use Rattle.std.specs.Prelude.{Some}
 use Rattle.model.specs.Bytes.{number_in}
 use Rattle.model.specs.Search.{first, is_at, index_of}
 use Rattle.model.specs.Geometry.{root_at, extents_for, superblock_at, entry_at}
@@ -52,7 +51,7 @@ unfoldable pub holds : Ledger → ℕ → ℕ → Bool
 holds L k e = is_at (position_among e (file_or (L.slots k)).extents)
 
 abbrev pub Disjoint : Ledger → Type 0
-Disjoint L = (k e : ℕ) → k < L.geometry.files → holds L k e ≡ true → holder_of L e ≡ At k
+Disjoint L = (k e : ℕ) → k < L.geometry.files → holds L k e ≡ true → holder_of L e ≡ Some k
 
 -- a file has as many extents as its size needs
 abbrev pub Sized : Ledger → Type 0

@@ -22,16 +22,12 @@ use lib.Dec.{ltb}
 use lib.ListN.{length, get_or}
 use borrow.Author.Tests.{eqb-true, eq-eqb, ne_eqb, ltb-true, le-ltb, not-false}
 use Rattle.model.specs.declared.Geometry.{Geometry}
-use Rattle.model.specs.declared.Lowest.{Lowest}
-use Rattle.model.specs.declared.Lowest.TheVariants.{At, Nowhere}
-use Rattle.model.specs.declared.Soundness.{Soundness}
-use Rattle.model.specs.declared.Soundness.TheVariants.{Sound, Faulty}
+use Rattle.std.specs.Prelude.{Some, None}
+use Rattle.model.specs.Answers.{Soundness, Sound, Faulty, Verdict, Checked}
 use Rattle.model.specs.declared.State.{State}
 use Rattle.model.specs.declared.State.TheVariants.{Clean, Waiting, Damaged, Unfinished}
-use Rattle.model.specs.declared.Verdict.{Verdict}
-use Rattle.model.specs.declared.Checked.{Checked}
 use Rattle.model.specs.Bytes.{bytes_from}
-use Rattle.model.specs.Search.{first, any_below, count_below, is_at}
+use Rattle.model.specs.Search.{Lowest, first, any_below, count_below, is_at}
 use Rattle.model.specs.Geometry.{superblock_at, entry_at, extent_sectors, extents_for, extent_at}
 use Rattle.model.specs.Disk.{Disk, view}
 use Rattle.model.specs.Entry.{Entry, entry_in, is_occupied}
@@ -128,7 +124,7 @@ module _ (img : List ℕ) (room : ℕ) (bytes : OfBytes img) (accepted : Repairs
 
   -- by a name: the file is where it was, and its entry and bytes are what they were
   pub keeps-named : (name : List ℕ)
-      → ((i : ℕ) (x : Entry) → file_named (catalogue_of (view img)) name ≡ At i → (catalogue_of (view img)).entries i ≡ some x → Complete (view img) i x)
+      → ((i : ℕ) (x : Entry) → file_named (catalogue_of (view img)) name ≡ Some i → (catalogue_of (view img)).entries i ≡ some x → Complete (view img) i x)
       → file_on (repaired_image img room) name ≡ file_on img name
   unfolding file_on file_named entry_of repaired
   keeps-named name complete =
@@ -140,8 +136,8 @@ module _ (img : List ℕ) (room : ℕ) (bytes : OfBytes img) (accepted : Repairs
       there (some x) e = refl
 
       go : (r : Lowest) → Hit (λ i. has_name name (c.entries i)) (c.geometry.files - 0) 0 r → file_named c name ≡ r → contents_at (view out) r ≡ contents_at (view img) r
-      go Nowhere h q = refl
-      go (At i) h q =
+      go None h q = refl
+      go (Some i) h q =
           let has = there (c.entries i) h.2 in
           ap (λ (k : Catalogue). some (record { entry = entry_or (k.entries i); bytes = file_bytes (catalogue_of (view out)) (view out) i 0 (entry_or (k.entries i)).size })) after.says
           ∙ ap (λ (b : List ℕ). some (record { entry = entry_or (c.entries i); bytes = b })) (keeps-bytes i (entry_or (c.entries i)) has (complete i (entry_or (c.entries i)) q has))

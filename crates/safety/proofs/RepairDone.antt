@@ -15,8 +15,7 @@ use borrow.Author.Tests.{eqb-true, eq-eqb, ltb-true, ltb-false}
 use Rattle.model.specs.declared.Geometry.{Geometry}
 use Rattle.model.specs.declared.State.{State}
 use Rattle.model.specs.declared.State.TheVariants.{Clean, Waiting, Damaged, Unfinished}
-use Rattle.model.specs.declared.Verdict.{Verdict}
-use Rattle.model.specs.declared.Repaired.{Repaired}
+use Rattle.model.specs.Answers.{Verdict, Repaired}
 use Rattle.model.specs.Bytes.{be_at}
 use Rattle.model.specs.Search.{first, any_below, count_below, index_of}
 use Rattle.model.specs.Geometry.{superblock_at, entry_at, extent_sectors, journal_at, table_at, data_at, table_sectors}

@@ -11,9 +11,8 @@ use native.Mathlib.Decide.{dec_lt}
 use lib.Dec.{eqb, leb, ltb}
 use borrow.Author.Tests.{eqb-true, eqb-false, eq-eqb, ne_eqb}
 use Rattle.model.specs.declared.Geometry.{Geometry}
-use Rattle.model.specs.declared.Lowest.{Lowest}
-use Rattle.model.specs.declared.Lowest.TheVariants.{At, Nowhere}
-use Rattle.model.specs.Search.{first, any_below, all_below, count_below, is_at, index_of}
+use Rattle.std.specs.Prelude.{Some, None}
+use Rattle.model.specs.Search.{Lowest, first, any_below, all_below, count_below, is_at, index_of}
 use Rattle.model.specs.Geometry.{extent_bytes, extents_for}
 use Rattle.model.specs.Root.{Root}
 use Rattle.model.specs.Entry.{Entry, bad_name}
@@ -75,12 +74,12 @@ module _ (c : Catalogue) (h : NoFaults c) (i k : ℕ) (li : i < c.geometry.files
 -- ---- whose an extent is depends on the slots' extents alone
 
 abbrev own_in : (ℕ → List ℕ) → ℕ → Lowest → Option Owner
-own_in x e Nowhere = none
-own_in x e (At i) = some (record { file = i; offset = index_of (position_among e (x i)) })
+own_in x e None = none
+own_in x e (Some i) = some (record { file = i; offset = index_of (position_among e (x i)) })
 
 own_is : (L : Ledger) (e : ℕ) (r : Lowest) → owner_from L e r ≡ own_in (λ k. (file_or (L.slots k)).extents) e r
-own_is L e (At i) = refl
-own_is L e Nowhere = refl
+own_is L e (Some i) = refl
+own_is L e None = refl
 
 module _ (L M : Ledger) (eg : M.geometry ≡ L.geometry) (same : (k : ℕ) → (file_or (M.slots k)).extents ≡ (file_or (L.slots k)).extents) where
   pub table-by : (e : ℕ) → (catalogue M).table e ≡ (catalogue L).table e

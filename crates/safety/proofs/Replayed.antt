@@ -12,11 +12,10 @@ use lib.Dec.{eqb, ltb}
 use lib.ListN.{length}
 use borrow.Author.Tests.{eqb-true, eq-eqb, ne_eqb, leb-true}
 use Rattle.model.specs.declared.Geometry.{Geometry}
-use Rattle.model.specs.declared.Lowest.{Lowest}
-use Rattle.model.specs.declared.Lowest.TheVariants.{At}
+use Rattle.std.specs.Prelude.{Some}
 use Rattle.model.specs.declared.State.TheVariants.{Waiting}
 use Rattle.model.specs.Bytes.{be_at}
-use Rattle.model.specs.Search.{first, any_below, count_below, concatenated, is_at, index_of}
+use Rattle.model.specs.Search.{Lowest, first, any_below, count_below, concatenated, is_at, index_of}
 use Rattle.model.specs.Geometry.{superblock_at, journal_at, table_sectors, data_at, volume_sectors}
 use Rattle.model.specs.Disk.{Disk}
 use Rattle.model.specs.Superblock.{state_on}
@@ -94,7 +93,7 @@ module _ (g : Geometry) (d : Disk) (n : ℕ) where
     target_once k l =
         not_yes (any_below (λ j. eqb (target_at g d j) (target_at g d k)) k) (and_right (is_data g (source_at g d k) && is_metadata g (target_at g d k)) _ (good k l))
 
-    target_found : (k : ℕ) → k < n → first (λ j. eqb (target_at g d j) (target_at g d k)) n ≡ At k
+    target_found : (k : ℕ) → k < n → first (λ j. eqb (target_at g d j) (target_at g d k)) n ≡ Some k
     target_found k l =
         first-there (λ j. eqb (target_at g d j) (target_at g d k)) k n l
         (first-none (λ j. eqb (target_at g d j) (target_at g d k)) k (none-at _ k (target_once k l))) (eq-eqb (target_at g d k) _ refl)

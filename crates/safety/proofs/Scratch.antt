@@ -7,9 +7,7 @@ use lib.Dec.{ltb}
 use borrow.Author.Tests.{lt-ltb, le-ltb}
 use Rattle.model.specs.declared.State.{State}
 use Rattle.model.specs.declared.State.TheVariants.{Clean, Waiting, Damaged, Unfinished}
-use Rattle.model.specs.declared.Soundness.{Soundness}
-use Rattle.model.specs.declared.Soundness.TheVariants.{Sound, Faulty}
-use Rattle.model.specs.declared.Verdict.{Verdict}
+use Rattle.model.specs.Answers.{Soundness, Sound, Faulty, Verdict}
 use Rattle.model.specs.Geometry.{superblock_at}
 use Rattle.model.specs.Disk.{Disk}
 use Rattle.model.specs.Superblock.{is_volume, geometry_in, state_on}

@@ -22,7 +22,7 @@ use Rattle.model.specs.Refusals.{verdict_of, and_then, is_done, refusal, done, i
 use Rattle.model.specs.WriteList.{Group, list_length}
 use Rattle.model.specs.Recovery.{bad_journal, replay_groups, recovery_groups, recovery_verdict, recovery_listed, recovery_answer}
 use Rattle.model.specs.Recovery.{sliced_groups, slice_groups, slice_verdict, slice_listed, slice_answer}
-use Rattle.model.specs.declared.Verdict.{Verdict}
+use Rattle.model.specs.Answers.{Verdict}
 use Rattle.laws.proofs.Booleans.{and_left, and_right}
 use Rattle.laws.proofs.Bytes.{length-put, length-be_bytes, number_same, number-other, bytes-other, put-put}
 

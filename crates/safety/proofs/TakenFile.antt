@@ -13,9 +13,8 @@ use lib.ListN.{length, get_or, length-append, get_or-append}
 use lib.Seq.{get_or-append_seam}
 use borrow.Author.Tests.{eqb-true, eqb-false, eq-eqb, ne_eqb, lt-leb, leb-false, not-true}
 use Rattle.model.specs.declared.Geometry.{Geometry}
-use Rattle.model.specs.declared.Lowest.{Lowest}
-use Rattle.model.specs.declared.Lowest.TheVariants.{At, Nowhere}
-use Rattle.model.specs.Search.{scan, first, all_below, count_below, is_at, index_of}
+use Rattle.std.specs.Prelude.{Some, None}
+use Rattle.model.specs.Search.{Lowest, scan, first, all_below, count_below, is_at, index_of}
 use Rattle.model.specs.Root.{Root}
 use Rattle.model.specs.Catalogue.{Owner, is_free, is_part, owned_from}
 use Rattle.model.specs.Faults.{exact}
@@ -31,8 +30,8 @@ use Rattle.safety.proofs.Extents.{owner, free-none, count_below-none}
 
 -- where the first search finds nothing, the second
 abbrev pub or_then : Lowest → Lowest → Lowest
-or_then (At k) r = At k
-or_then Nowhere r = r
+or_then (Some k) r = Some k
+or_then None r = r
 
 scan-more : (p : ℕ → Bool) (a b i : ℕ) → scan p (a + b) i ≡ or_then (scan p a i) (scan p b (i + a))
 unfolding scan
@@ -40,21 +39,21 @@ scan-more p zero b i = ap₂ (scan p) (zero-add b) (let e : i ≡ i + 0 = omega 
 scan-more p (suc a) b i = ap (λ m. scan p m i) (suc-add a b) ∙ go (p i) (scan-more p a b (suc i))
   where
     go : (t : Bool) → scan p (a + b) (suc i) ≡ or_then (scan p a (suc i)) (scan p b (suc i + a))
-        → cond t (At i) (scan p (a + b) (suc i)) ≡ or_then (cond t (At i) (scan p a (suc i))) (scan p b (i + suc a))
+        → cond t (Some i) (scan p (a + b) (suc i)) ≡ or_then (cond t (Some i) (scan p a (suc i))) (scan p b (i + suc a))
     go true h = refl
     go false h = h ∙ ap (λ m. or_then (scan p a (suc i)) (scan p b m)) (let e : suc i + a ≡ i + suc a = omega arith in e)
 
 -- the only index that passes is found
-pub first-only : (p : ℕ → Bool) (n i : ℕ) → i < n → p i ≡ true → ((k : ℕ) → k < n → p k ≡ true → k ≡ i) → first p n ≡ At i
+pub first-only : (p : ℕ → Bool) (n i : ℕ) → i < n → p i ≡ true → ((k : ℕ) → k < n → p k ≡ true → k ≡ i) → first p n ≡ Some i
 first-only p n i l h only = go (first p n) (scan-hit p (n - 0) 0)
   where
-    go : (r : Lowest) → Hit p (n - 0) 0 r → r ≡ At i
-    go (At k) t = ap At (only k (omega (arith, t.1)) t.2)
-    go Nowhere t = absurd (true≢false (sym h ∙ t i (omega arith) (omega arith)))
+    go : (r : Lowest) → Hit p (n - 0) 0 r → r ≡ Some i
+    go (Some k) t = ap Some (only k (omega (arith, t.1)) t.2)
+    go None t = absurd (true≢false (sym h ∙ t i (omega arith) (omega arith)))
 
-or_then-nowhere : (r : Lowest) → or_then r Nowhere ≡ r
-or_then-nowhere (At k) = refl
-or_then-nowhere Nowhere = refl
+or_then-nowhere : (r : Lowest) → or_then r None ≡ r
+or_then-nowhere (Some k) = refl
+or_then-nowhere None = refl
 
 swapped : (a b : ℕ) → eqb a b ≡ eqb b a
 swapped a b = go (eqb b a) refl
@@ -65,7 +64,7 @@ swapped a b = go (eqb b a) refl
 
 -- an extent among others and perhaps one more
 pub place-more : (e : ℕ) (es : List ℕ) (b : Bool) (x : ℕ)
-    → position_among e (es ++ cond b (x ∷ []) []) ≡ or_then (position_among e es) (cond (b && eqb e x) (At (length es)) Nowhere)
+    → position_among e (es ++ cond b (x ∷ []) []) ≡ or_then (position_among e es) (cond (b && eqb e x) (Some (length es)) None)
 unfolding position_among scan
 place-more e es false x = ap (position_among e) (append-nil es) ∙ sym (or_then-nowhere (position_among e es))
 place-more e es true x = longer
@@ -76,13 +75,13 @@ place-more e es true x = longer
     last : p (length es) ≡ eqb e x
     last = ap (λ y. eqb y e) (get_or-append_seam es x [] 0) ∙ swapped x e
 
-    longer : position_among e (es ++ (x ∷ [])) ≡ or_then (position_among e es) (cond (eqb e x) (At (length es)) Nowhere)
+    longer : position_among e (es ++ (x ∷ [])) ≡ or_then (position_among e es) (cond (eqb e x) (Some (length es)) None)
     longer =
         ap (λ m. scan p m 0) (sub-zero (length (es ++ (x ∷ []))) ∙ length-append es (x ∷ [])) ∙ scan-more p (length es) 1 0
         ∙ ap₂ or_then
         (ap (λ m. scan p m 0) (sym (sub-zero (length es)))
         ∙ first-ext p (λ k. eqb (get_or es k 0) e) (length es) (λ k l. ap (λ y. eqb y e) (get_or-append es (x ∷ []) 0 k l)))
-        (ap (λ m. cond (p m) (At m) Nowhere) (zero-add (length es)) ∙ ap (λ (t : Bool). cond t (At (length es)) Nowhere) last)
+        (ap (λ m. cond (p m) (Some m) None) (zero-add (length es)) ∙ ap (λ (t : Bool). cond t (Some (length es)) None) last)
 
 -- ---- whose an extent is depends on where it stands among each slot's extents
 
@@ -90,12 +89,12 @@ abbrev places : Ledger → ℕ → ℕ → Lowest
 places L e k = position_among e (file_or (L.slots k)).extents
 
 abbrev owner_at : (ℕ → Lowest) → Lowest → Option Owner
-owner_at p Nowhere = none
-owner_at p (At j) = owner j (index_of (p j))
+owner_at p None = none
+owner_at p (Some j) = owner j (index_of (p j))
 
 owner-is : (L : Ledger) (e : ℕ) (r : Lowest) → owner_from L e r ≡ owner_at (places L e) r
-owner-is L e (At j) = refl
-owner-is L e Nowhere = refl
+owner-is L e (Some j) = refl
+owner-is L e None = refl
 
 module _ (L M : Ledger) (eg : M.geometry ≡ L.geometry) (e : ℕ) (same : (k : ℕ) → places M e k ≡ places L e k) where
   holder-same : holder_of M e ≡ holder_of L e
@@ -106,9 +105,9 @@ module _ (L M : Ledger) (eg : M.geometry ≡ L.geometry) (e : ℕ) (same : (k : 
   unfolding catalogue
   table_same = owner-is M e (holder_of M e) ∙ ap₂ owner_at (fun_ext same) holder-same ∙ sym (owner-is L e (holder_of L e))
 
-is-nowhere : (r : Lowest) → is_at r ≡ false → r ≡ Nowhere
-is-nowhere (At k) e = absurd (true≢false e)
-is-nowhere Nowhere e = refl
+is-nowhere : (r : Lowest) → is_at r ≡ false → r ≡ None
+is-nowhere (Some k) e = absurd (true≢false e)
+is-nowhere None e = refl
 
 -- an owner that is not beyond n is not at n, nor beyond more
 part-beyond : (i n : ℕ) (t : Option Owner) → owned_from i n t ≡ false → is_part i n t ≡ false
@@ -148,7 +147,7 @@ module _ (L : Ledger) (root : Root) (i : ℕ) (f : File) (has : L.slots i ≡ so
   abbrev takes : ℕ → Bool
   takes e = b && eqb e x
 
-  place_here : (e : ℕ) → position_among e y.extents ≡ or_then (position_among e f.extents) (cond (takes e) (At n) Nowhere)
+  place_here : (e : ℕ) → position_among e y.extents ≡ or_then (position_among e f.extents) (cond (takes e) (Some n) None)
   place_here e = ap (position_among e) more ∙ place-more e f.extents b x
 
   -- every other extent stands where it stood
@@ -157,7 +156,7 @@ module _ (L : Ledger) (root : Root) (i : ℕ) (f : File) (has : L.slots i ≡ so
     where
       go : (q : Bool) → eqb k i ≡ q → position_among e (file_or (cond q (some y) (L.slots k))).extents ≡ position_among e (file_or (L.slots k)).extents
       go true q =
-          place_here e ∙ ap (λ (u : Bool). or_then (position_among e f.extents) (cond u (At n) Nowhere)) t ∙ or_then-nowhere (position_among e f.extents)
+          place_here e ∙ ap (λ (u : Bool). or_then (position_among e f.extents) (cond u (Some n) None)) t ∙ or_then-nowhere (position_among e f.extents)
           ∙ sym (ap (λ (o : Option File). position_among e (file_or o).extents) (ap L.slots (eqb-true k i q) ∙ has))
       go false q = refl
 
@@ -173,11 +172,11 @@ module _ (L : Ledger) (root : Root) (i : ℕ) (f : File) (has : L.slots i ≡ so
       go true q = absurd (false≢true (sym (ap (λ (r : Lowest). is_free (owner_from L e r)) (disjoint k e l q)) ∙ taken_free e t))
       go false q = q
 
-  place-taken : (e : ℕ) → takes e ≡ true → places M e i ≡ At n
+  place-taken : (e : ℕ) → takes e ≡ true → places M e i ≡ Some n
   place-taken e t =
-      let z : position_among e f.extents ≡ Nowhere = is-nowhere _ (sym (ap (λ (o : Option File). is_at (position_among e (file_or o).extents)) has) ∙ none-held e t i within) in
+      let z : position_among e f.extents ≡ None = is-nowhere _ (sym (ap (λ (o : Option File). is_at (position_among e (file_or o).extents)) has) ∙ none-held e t i within) in
       ap (λ (q : Bool). position_among e (file_or (cond q (some y) (L.slots i))).extents) (eq-eqb i i refl)
-      ∙ place_here e ∙ ap₂ (λ (r : Lowest) (q : Bool). or_then r (cond q (At n) Nowhere)) z t
+      ∙ place_here e ∙ ap₂ (λ (r : Lowest) (q : Bool). or_then r (cond q (Some n) None)) z t
 
   only_here : (e : ℕ) → takes e ≡ true → (k : ℕ) → k < L.geometry.files → is_at (places M e k) ≡ true → k ≡ i
   only_here e t k l h = go (eqb k i) refl h
@@ -186,7 +185,7 @@ module _ (L : Ledger) (root : Root) (i : ℕ) (f : File) (has : L.slots i ≡ so
       go true q z = eqb-true k i q
       go false q z = absurd (false≢true (sym (none-held e t k l) ∙ z))
 
-  holder-taken : (e : ℕ) → takes e ≡ true → holder_of M e ≡ At i
+  holder-taken : (e : ℕ) → takes e ≡ true → holder_of M e ≡ Some i
   unfolding holder_of
   holder-taken e t = first-only (λ k. is_at (places M e k)) L.geometry.files i within (ap is_at (place-taken e t)) (only_here e t)
 
@@ -203,8 +202,8 @@ module _ (L : Ledger) (root : Root) (i : ℕ) (f : File) (has : L.slots i ≡ so
   unfolding holds
   disjoint-taken k e l h = go (takes e) refl
     where
-      go : (q : Bool) → takes e ≡ q → holder_of M e ≡ At k
-      go true t = holder-taken e t ∙ ap At (sym (only_here e t k l h))
+      go : (q : Bool) → takes e ≡ q → holder_of M e ≡ Some k
+      go true t = holder-taken e t ∙ ap Some (sym (only_here e t k l h))
       go false t = holder-same L M refl e (places-kept e t) ∙ disjoint k e l (ap is_at (sym (places-kept e t k)) ∙ h)
 
   -- a test that no extent of file i passes is not changed

@@ -11,9 +11,8 @@ use lib.Dec.{eqb, ltb}
 use lib.ListN.{length, length-append}
 use borrow.Author.Tests.{ltb-true, ltb-false}
 use Rattle.model.specs.declared.Geometry.{Geometry}
-use Rattle.model.specs.declared.Lowest.{Lowest}
 use Rattle.model.specs.Bytes.{bytes_from, put}
-use Rattle.model.specs.Search.{is_at, index_of}
+use Rattle.model.specs.Search.{Lowest, is_at, index_of}
 use Rattle.model.specs.Geometry.{extent_bytes, extents_for, reserve_extents}
 use Rattle.model.specs.Catalogue.{Catalogue, is_free, free_extent, free_extents, entry_of, entry_or, extent_of}
 use Rattle.model.specs.Faults.{exact}

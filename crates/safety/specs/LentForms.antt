@@ -1,9 +1,7 @@
 -- T-11: "Show that answers, lists and bytes read equal those of the whole-image calls if the sectors lent and supplied and the count are an image's." The
 -- lent forms of `model`'s `Lent`, each step supplied with the sector that it asks for; what is claimed of them; and demand 3 of a run whose calls are made so.
 use Rattle.std.specs.Prelude.{ℕ, zero, suc, ◌*◌, ◌/◌, ◌<◌, ◌≤◌, ◌≡◌, ◌≢◌, true, cond, not, ◌&&◌, List, [], ◌∷◌, eqb, leb, length}
-use Rattle.model.specs.declared.BytesRead.{BytesRead}
-use Rattle.model.specs.declared.Changed.{Changed}
-use Rattle.model.specs.declared.Recovered.{Recovered}
+use Rattle.model.specs.Answers.{BytesRead, Changed, Recovered}
 use Rattle.model.specs.declared.Reading.{Reading}
 use Rattle.model.specs.declared.Writing.{Writing}
 use Rattle.model.specs.declared.Recovering.{Recovering}

@@ -1,9 +1,7 @@
 -- Which files a call names to change them, and what an image, or the ledger, says of the file of a name.
-use Rattle.std.specs.Prelude.{ℕ, ◌<◌, ◌≡◌, ◌≢◌, true, false, cond, List, [], ◌∷◌, eqb}
+use Rattle.std.specs.Prelude.{ℕ, ◌<◌, ◌≡◌, ◌≢◌, true, false, cond, List, [], ◌∷◌, eqb, Some, None}
 use Rattle.std.proofs.Math.Option.{Option, none, some}
-use Rattle.model.specs.declared.Lowest.{Lowest}
-use Rattle.model.specs.declared.Lowest.TheVariants.{At, Nowhere}
-use Rattle.model.specs.Search.{index_of}
+use Rattle.model.specs.Search.{Lowest, index_of}
 use Rattle.model.specs.Geometry.{FileNumber}
 use Rattle.model.specs.Disk.{Disk, view}
 use Rattle.model.specs.Entry.{Entry}
@@ -30,8 +28,8 @@ pub record Contents : Type 0 where
   pub bytes : List ℕ
 
 abbrev pub contents_at : Disk → Lowest → Option Contents
-contents_at d Nowhere = none
-contents_at d (At i) =
+contents_at d None = none
+contents_at d (Some i) =
     let c = catalogue_of d in
     some (record { entry = entry_of c i; bytes = file_bytes c d i 0 (entry_of c i).size })
 
@@ -40,8 +38,8 @@ unfoldable pub file_on : List ℕ → List ℕ → Option Contents
 file_on img name = contents_at (view img) (file_named (catalogue_of (view img)) name)
 
 abbrev pub contents_in : Ledger → Lowest → Option Contents
-contents_in L Nowhere = none
-contents_in L (At i) = let f = file_or (L.slots i) in some (record { entry = f.entry; bytes = f.bytes })
+contents_in L None = none
+contents_in L (Some i) = let f = file_or (L.slots i) in some (record { entry = f.entry; bytes = f.bytes })
 
 -- what the ledger says of it
 unfoldable pub file_in : Ledger → List ℕ → Option Contents

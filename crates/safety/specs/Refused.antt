@@ -1,7 +1,6 @@
 -- WHAT THE CALLS ANSWER WHERE CHECK REFUSES: its verdict, "all other result numbers are then 0 (except with 7), .., and no buffer changes".
 use Rattle.std.specs.Prelude.{ℕ, ◌≡◌, List, length}
-use Rattle.model.specs.declared.Verdict.{Verdict}
-use Rattle.model.specs.declared.Changed.{Changed}
+use Rattle.model.specs.Answers.{Verdict, Changed}
 use Rattle.model.specs.Disk.{view}
 use Rattle.model.specs.Summary.{check_answer}
 use Rattle.model.specs.Find.{not_found, find_answer}

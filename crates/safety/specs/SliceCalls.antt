@@ -1,7 +1,7 @@
 -- T-05: "On a waiting volume with d differing entries, budget b, no refusal and no cut, recovery is finished after d / b rounded up, plus 1,
 -- calls; the last reports 1, the others together d."
 use Rattle.std.specs.Prelude.{ℕ, zero, suc, ◌+◌, ◌-◌, ◌/◌, ◌≤◌, ◌≡◌, List, length}
-use Rattle.model.specs.declared.Sliced.{Sliced}
+use Rattle.model.specs.Answers.{Sliced}
 use Rattle.model.specs.declared.State.TheVariants.{Clean, Waiting}
 use Rattle.model.specs.Search.{count_below}
 use Rattle.model.specs.Disk.{view}

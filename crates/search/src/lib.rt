@@ -7,8 +7,6 @@ ghost use Rattle.model.specs.Opened.{Readable};
 ghost use Rattle.model.specs.Catalogue.{catalogue_of, free_extent};
 ghost use Rattle.search.specs.Numbers.{extent_numbers, free_extent_numbers};
 
-use model::Lowest;
-
 #[repr(C)]
 #[derive(Clone, Copy)]
 pub struct FreeExtentResult {
@@ -21,15 +19,15 @@ fn search_in(img: &[u8]) -> FreeExtentResult
     ensures { result ≡ extent_numbers (free_extent (catalogue_of (view img.now))) }
 {
     let g = volume::geometry_in(img);
-    if let Lowest::At(e) = table::free_extent(img, g) {
-        return FreeExtentResult {
+    match table::free_extent(img, g) {
+        Some(e) => FreeExtentResult {
             code: 0,
             extent: e as u64,
-        };
-    }
-    FreeExtentResult {
-        code: 13,
-        extent: 0,
+        },
+        None => FreeExtentResult {
+            code: 13,
+            extent: 0,
+        },
     }
 }
 
@@ -38,12 +36,11 @@ fn search_in(img: &[u8]) -> FreeExtentResult
 pub extern "C" fn goofs_free_extent(img: &[u8]) -> FreeExtentResult
     ensures { result ≡ on_image free_extent_numbers img.now }
 {
-    let v = volume::image_verdict(img);
-    if v.number == 0 {
-        return search_in(img);
-    }
-    FreeExtentResult {
-        code: v.number,
-        extent: 0,
+    match volume::image_verdict(img) {
+        Ok(()) => search_in(img),
+        Err(refusal) => FreeExtentResult {
+            code: refusal.number(),
+            extent: 0,
+        },
     }
 }

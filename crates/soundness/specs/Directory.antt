@@ -1,6 +1,6 @@
 -- The faults in their order, those of the directory first.
 use Rattle.model.specs.declared.Geometry.{Geometry}
-use Rattle.model.specs.declared.Soundness.{Soundness}
+use Rattle.model.specs.Answers.{Soundness}
 use Rattle.model.specs.Search.{first}
 use Rattle.model.specs.Disk.{Disk}
 use Rattle.model.specs.Catalogue.{catalogue_of}

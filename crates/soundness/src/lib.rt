@@ -6,112 +6,85 @@ ghost use Rattle.std.specs.Prelude.{◌≡◌, ◌≤◌, length};
 ghost use Rattle.model.specs.Disk.{view, on_image};
 ghost use Rattle.model.specs.Faults.{first_fault};
 ghost use Rattle.model.specs.Superblock.{state_on};
-ghost use Rattle.model.specs.Refusals.{and_then, refusal, image_verdict, state_number, fault_verdict, sound_verdict, judged};
+ghost use Rattle.model.specs.Refusals.{and_then, refusal, image_verdict, state_number, sound_verdict, judged};
+ghost use Rattle.model.specs.Answers.{Sound};
+ghost use Rattle.model.specs.Results.{verdict_in, soundness_in};
 ghost use Rattle.model.specs.Scratch.{scratch_numbers, sound_verdict_with, judged_with, ScratchAfter};
 ghost use Rattle.model.specs.Lent.{on_lent};
 ghost use Rattle.model.specs.Opened.{Opened, Readable};
 ghost use Rattle.soundness.specs.Directory.{directory_fault};
 
-use model::{Geometry, Lowest, Soundness, Verdict};
+use model::{Fault, FileIndex, Geometry, Refusal};
 
 // The first of the faults 21 to 24. Each test may rest on the earlier faults' not being there.
-pub fn directory_fault(img: &[u8], g: Geometry) -> Soundness
+pub fn directory_fault(img: &[u8], g: Geometry) -> Result<(), Fault>
     requires { Opened img.now g }
-    ensures { result ≡ directory_fault g (view img.now) Soundness.Sound }
+    ensures { soundness_in result ≡ directory_fault g (view img.now) Sound }
 {
-    if let Lowest::At(i) = directory::fault21(img, g) {
-        return Soundness::Faulty(21, i as u64);
+    if let Some(i) = directory::fault21(img, g) {
+        return Err(Fault::BadMark(FileIndex(i as u64)));
     }
-    if let Lowest::At(i) = directory::fault22(img, g) {
-        return Soundness::Faulty(22, i as u64);
+    if let Some(i) = directory::fault22(img, g) {
+        return Err(Fault::BadEntry(FileIndex(i as u64)));
     }
-    if let Lowest::At(i) = duplicates::fault23(img, g) {
-        return Soundness::Faulty(23, i as u64);
+    if let Some(i) = duplicates::fault23(img, g) {
+        return Err(Fault::RepeatedName(FileIndex(i as u64)));
     }
-    if let Lowest::At(i) = duplicates::fault24(img, g) {
-        return Soundness::Faulty(24, i as u64);
+    if let Some(i) = duplicates::fault24(img, g) {
+        return Err(Fault::BadId(FileIndex(i as u64)));
     }
-    Soundness::Sound
+    Ok(())
 }
 
 // Lowest number first, then lowest place.
-fn first_fault(img: &[u8], g: Geometry) -> Soundness
+fn first_fault(img: &[u8], g: Geometry) -> Result<(), Fault>
     requires { Opened img.now g }
-    ensures { result ≡ first_fault (view img.now) }
+    ensures { soundness_in result ≡ first_fault (view img.now) }
 {
-    if let Soundness::Faulty(n, p) = directory_fault(img, g) {
-        return Soundness::Faulty(n, p);
-    }
+    directory_fault(img, g)?;
     allocation::faults(img, g)
 }
 
-fn fault_verdict(s: Soundness) -> Verdict
-    ensures { result ≡ fault_verdict s }
-{
-    match s {
-        Soundness::Sound => volume::refusal(0),
-        Soundness::Faulty(n, p) => Verdict {
-            number: 7,
-            fault: n,
-            place: p,
-        },
-    }
-}
-
 // The refusals 1 to 6.
-pub fn clean_verdict(img: &[u8]) -> Verdict
-    ensures { result ≡ and_then (on_image image_verdict img.now) (refusal (state_number (state_on (view img.now)))) }
+pub fn clean_verdict(img: &[u8]) -> Result<(), Refusal>
+    ensures { verdict_in result ≡ and_then (on_image image_verdict img.now) (refusal (state_number (state_on (view img.now)))) }
 {
-    let v = volume::image_verdict(img);
-    if v.number == 0 {
-        return volume::refusal(volume::state_number(volume::state_on(img)));
-    }
-    v
+    volume::image_verdict(img)?;
+    volume::state_verdict(volume::state_on(img))
 }
 
-pub fn clean_verdict_lent(front: &[u8], count: u64) -> Verdict
-    ensures { result ≡ and_then (on_lent image_verdict front.now count) (refusal (state_number (state_on (view front.now)))) }
+pub fn clean_verdict_lent(front: &[u8], count: u64) -> Result<(), Refusal>
+    ensures { verdict_in result ≡ and_then (on_lent image_verdict front.now count) (refusal (state_number (state_on (view front.now)))) }
 {
-    let v = volume::front_verdict(front, count);
-    if v.number == 0 {
-        return volume::refusal(volume::state_number(volume::state_on(front)));
-    }
-    v
+    volume::front_verdict(front, count)?;
+    volume::state_verdict(volume::state_on(front))
 }
 
 // The refusals 4 to 7.
-fn sound_verdict(img: &[u8]) -> Verdict
+fn sound_verdict(img: &[u8]) -> Result<(), Refusal>
     requires { Readable img.now }
-    ensures { result ≡ sound_verdict (view img.now) }
+    ensures { verdict_in result ≡ sound_verdict (view img.now) }
 {
-    let n = volume::state_number(volume::state_on(img));
-    if n == 0 {
-        let g = volume::geometry_in(img);
-        return fault_verdict(first_fault(img, g));
-    }
-    volume::refusal(n)
+    volume::state_verdict(volume::state_on(img))?;
+    let g = volume::geometry_in(img);
+    first_fault(img, g)?;
+    Ok(())
 }
 
 // The refusals 1 to 7.
-pub fn judge(img: &[u8]) -> Verdict
-    ensures { result ≡ on_image judged img.now }
+pub fn judge(img: &[u8]) -> Result<(), Refusal>
+    ensures { verdict_in result ≡ on_image judged img.now }
 {
-    let v = volume::image_verdict(img);
-    if v.number == 0 {
-        return sound_verdict(img);
-    }
-    v
+    volume::image_verdict(img)?;
+    sound_verdict(img)
 }
 
 // Of lent sectors (T-11).
-pub fn judge_lent(front: &[u8], count: u64) -> Verdict
-    ensures { result ≡ on_lent judged front.now count }
+pub fn judge_lent(front: &[u8], count: u64) -> Result<(), Refusal>
+    ensures { verdict_in result ≡ on_lent judged front.now count }
 {
-    let v = volume::front_verdict(front, count);
-    if v.number == 0 {
-        return sound_verdict(front);
-    }
-    v
+    volume::front_verdict(front, count)?;
+    sound_verdict(front)
 }
 
 // ---- the same by way of lent scratch
@@ -124,62 +97,54 @@ fn scratch_numbers(g: Geometry) -> u64
     4 * g.files + g.extents
 }
 
-fn first_fault_with(img: &[u8], g: Geometry, scratch: &mut [u32]) -> Soundness
+fn first_fault_with(img: &[u8], g: Geometry, scratch: &mut [u32]) -> Result<(), Fault>
     requires opened { Opened img.now g }
     requires g_in_bounds { scratch_numbers g ≤ length scratch.old }
-    ensures { result ≡ first_fault (view img.now) }
+    ensures { soundness_in result ≡ first_fault (view img.now) }
 {
-    if let Lowest::At(i) = directory::fault21(img, g) {
-        return Soundness::Faulty(21, i as u64);
+    if let Some(i) = directory::fault21(img, g) {
+        return Err(Fault::BadMark(FileIndex(i as u64)));
     }
-    if let Lowest::At(i) = directory::fault22(img, g) {
-        return Soundness::Faulty(22, i as u64);
+    if let Some(i) = directory::fault22(img, g) {
+        return Err(Fault::BadEntry(FileIndex(i as u64)));
     }
-    if let Lowest::At(i) = duplicates::fault23_with(img, g, scratch) {
-        return Soundness::Faulty(23, i as u64);
+    if let Some(i) = duplicates::fault23_with(img, g, scratch) {
+        return Err(Fault::RepeatedName(FileIndex(i as u64)));
     }
-    if let Lowest::At(file) = duplicates::fault24_with(img, g, scratch) {
-        return Soundness::Faulty(24, file as u64);
+    if let Some(file) = duplicates::fault24_with(img, g, scratch) {
+        return Err(Fault::BadId(FileIndex(file as u64)));
     }
     allocation::faults_by(img, g, scratch)
 }
 
 // The refusals 4 to 6, 14 and 7.
-fn sound_verdict_with(img: &[u8], scratch: &mut [u32]) -> Verdict
+fn sound_verdict_with(img: &[u8], scratch: &mut [u32]) -> Result<(), Refusal>
     requires { Readable img.now }
-    ensures value { result ≡ sound_verdict_with (view img.now) (length scratch.old) }
-    ensures scratch_after { ScratchAfter result scratch.old scratch.new }
+    ensures value { verdict_in result ≡ sound_verdict_with (view img.now) (length scratch.old) }
+    ensures scratch_after { ScratchAfter (verdict_in result) scratch.old scratch.new }
 {
-    let n = volume::state_number(volume::state_on(img));
-    if n == 0 {
-        let g = volume::geometry_in(img);
-        if (scratch.len() as u64) < scratch_numbers(g) {
-            return volume::refusal(14);
-        }
-        return fault_verdict(first_fault_with(img, g, scratch));
+    volume::state_verdict(volume::state_on(img))?;
+    let g = volume::geometry_in(img);
+    if (scratch.len() as u64) < scratch_numbers(g) {
+        return Err(Refusal::TooShort);
     }
-    volume::refusal(n)
+    first_fault_with(img, g, scratch)?;
+    Ok(())
 }
 
 // The refusals 1 to 6, 14 and 7.
-pub fn judge_with(img: &[u8], scratch: &mut [u32]) -> Verdict
-    ensures value { result ≡ on_image judged_with img.now (length scratch.old) }
-    ensures scratch_after { ScratchAfter result scratch.old scratch.new }
+pub fn judge_with(img: &[u8], scratch: &mut [u32]) -> Result<(), Refusal>
+    ensures value { verdict_in result ≡ on_image judged_with img.now (length scratch.old) }
+    ensures scratch_after { ScratchAfter (verdict_in result) scratch.old scratch.new }
 {
-    let v = volume::image_verdict(img);
-    if v.number == 0 {
-        return sound_verdict_with(img, scratch);
-    }
-    v
+    volume::image_verdict(img)?;
+    sound_verdict_with(img, scratch)
 }
 
-pub fn judge_with_lent(front: &[u8], count: u64, scratch: &mut [u32]) -> Verdict
-    ensures value { result ≡ on_lent judged_with front.now count (length scratch.old) }
-    ensures scratch_after { ScratchAfter result scratch.old scratch.new }
+pub fn judge_with_lent(front: &[u8], count: u64, scratch: &mut [u32]) -> Result<(), Refusal>
+    ensures value { verdict_in result ≡ on_lent judged_with front.now count (length scratch.old) }
+    ensures scratch_after { ScratchAfter (verdict_in result) scratch.old scratch.new }
 {
-    let v = volume::front_verdict(front, count);
-    if v.number == 0 {
-        return sound_verdict_with(front, scratch);
-    }
-    v
+    volume::front_verdict(front, count)?;
+    sound_verdict_with(front, scratch)
 }

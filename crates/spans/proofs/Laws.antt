@@ -8,10 +8,9 @@ use native.Mathlib.Omega.{arith}
 use lib.Arith.{digits_div, digits_mod}
 use lib.ListN.{length, get_or}
 use Rattle.model.specs.declared.Geometry.{Geometry}
-use Rattle.model.specs.declared.Lowest.{Lowest}
-use Rattle.model.specs.declared.Lowest.TheVariants.{At, Nowhere}
+use Rattle.std.specs.Prelude.{Some, None}
 use Rattle.model.specs.Bytes.{bytes_from}
-use Rattle.model.specs.Search.{scan, tabulate, index_of}
+use Rattle.model.specs.Search.{Lowest, scan, tabulate, index_of}
 use Rattle.model.specs.Geometry.{extent_sectors, extent_bytes, extent_at, superblock_at, volume_sectors}
 use Rattle.model.specs.Disk.{view}
 use Rattle.model.specs.Superblock.{geometry_in}
@@ -60,8 +59,8 @@ span-cut img i offset n m = tabulate-split (file_byte (catalogue_of (view img)) 
 -- ---- an extent lies in the volume
 
 pub found_below : (p : ℕ → Bool) (n : ℕ) (r : Lowest) → 0 < n → Hit p n 0 r → index_of r < n
-found_below p n (At k) h q = omega (arith, q.1)
-found_below p n Nowhere h q = h
+found_below p n (Some k) h q = omega (arith, q.1)
+found_below p n None h q = h
 
 pub extent-below : (img : List ℕ) (g : Geometry) → Opened img g → (i o : ℕ) → extent_of (catalogue_of (view img)) i o < g.extents
 extent-below img g h i o =

@@ -38,7 +38,7 @@ fn read_piece(
     let e = 512 * (g.extent_sectors as u64);
     let start = g.extent_at(table::extent_of(img, g, i, offset / e));
     let within = offset % e;
-    let m = fields::least(e - within, n as u64) as usize;
+    let m = (e - within).min(n as u64) as usize;
     fields::copy_bytes(img, (512 * start.0 + within) as usize, out, at, m);
     m
 }
@@ -76,9 +76,10 @@ fn place_in(bytes: &[u8], len: u64, at: u64, n: u64) -> usize
     ensures n_value { bytes_from bytes.now result n ≡ bytes_from (span_of bytes.now len) at n }
 {
     if bytes.len() as u64 == len {
-        return at as usize;
+        at as usize
+    } else {
+        0
     }
-    0
 }
 
 // File sector s of the span, which stands at `place`: what the span doesn't cover keeps its old bytes, or is 0 where the image ends before it (T-11).
@@ -99,8 +100,8 @@ fn put_data_sector(
     ensures { Emitted list.old k (sector_write place.0 (spliced offset (span_of bytes.now len) s (view img.now place.0)) ∷ []) list.new result }
 {
     let base = 512 * s;
-    let from = fields::most(offset, base);
-    let to = fields::least(offset + len, base + 512);
+    let from = offset.max(base);
+    let to = (offset + len).min(base + 512);
     let at = place_in(bytes, len, from - offset, to - from);
     if to - from == 512 {
         return lists::put_from(list, k, place, bytes, at);
@@ -137,8 +138,7 @@ fn put_piece(
         (tabulate (λ x. sector_write (start.0 + (x - s)) (spliced offset (span_of bytes.now len) x (view img.now (start.0 + (x - s))))) s n) list.new result }
 {
     let mut at = k;
-    let mut j: u64 = 0;
-    while j < n {
+    for j in 0..n {
         at = put_data_sector(
             list,
             at,
@@ -149,7 +149,6 @@ fn put_piece(
             len,
             s + j,
         );
-        j += 1;
     }
     at
 }
@@ -161,9 +160,10 @@ fn extent_for(img: &[u8], g: Geometry, i: FileIndex, held: u64, next: Extent, o:
     ensures { result.0 ≡ cond (ltb o held) (extent_of (catalogue_of (view img.now)) i.0 o) next.0 }
 {
     if o < held {
-        return table::extent_of(img, g, i, o);
+        table::extent_of(img, g, i, o)
+    } else {
+        next
     }
-    next
 }
 
 // Where file sector s stands.
@@ -204,7 +204,7 @@ fn put_in_extent(
         (tabulate (data_sector (catalogue_of (view img.now)) i.0 (view img.now) offset (span_of bytes.now len)) s result) list.new (k + result) }
 {
     let size = g.extent_sectors as u64;
-    let m = fields::least(size - s % size, n);
+    let m = (size - s % size).min(n);
     let place = sector_at(img, g, i, held, next, s);
     put_piece(list, k, img, place, offset, bytes, len, s, m);
     m

@@ -4,14 +4,14 @@ use mathlib.Core.Path.{◌≡◌, refl, sym, ap, ◌∙◌}
 use mathlib.Core.Bool.{Bool, true, false, cond, not, ◌&&◌}
 use mathlib.Core.List.{List}
 use mathlib.Core.Option.{none, some}
-use native.Mathlib.Nat.{div-add-mod', div-lt_iff_lt-mul, mul-le-mul_left, suc-mul, mod-lt}
+use native.Mathlib.Nat.{div-add-mod', div-lt_iff_lt-mul, mul-le-mul_left, suc-mul, mod-lt, zero-add, sub-zero}
 use native.Mathlib.Omega.{arith}
 use lib.Arith.{digits_div}
 use lib.Dec.{eqb, leb}
 use borrow.Author.Tests.{le-ltb, eq-eqb, ne_eqb, eqb-true, eqb-false}
 use Rattle.model.specs.declared.Geometry.{Geometry}
 use Rattle.model.specs.Bytes.{be_at}
-use Rattle.model.specs.declared.Lowest.TheVariants.{Nowhere}
+use Rattle.std.specs.Prelude.{Option, Some, None, MatchOption}
 use Rattle.model.specs.Search.{scan, any_below, first, index_of}
 use Rattle.model.specs.Geometry.{table_at}
 use Rattle.model.specs.Disk.{Disk, view}
@@ -21,13 +21,30 @@ use Rattle.model.specs.Catalogue.{Owner, catalogue_of, is_free, is_part, owned_f
 use Rattle.laws.proofs.Disk.{be_at-view}
 use Rattle.laws.proofs.Search.{first-ext, scan-none, none-at}
 use Rattle.laws.proofs.Catalogue.{table_on, part-is}
+use Rattle.laws.proofs.Seeking.{seek-start, seek_found, seek-over}
+use Rattle.laws.proofs.Folds.{Passed}
 use Rattle.table.specs.Word.{swapped, entry_word}
 use Rattle.table.specs.Owned.{is_marked, Marks}
 
--- where the test holds of none of n indexes from i on, the search of them finds nothing
-pub nowhere-from : (p : ℕ → Bool) (i n : ℕ) → any_below (λ k. p (i + k)) n ≡ false → Nowhere ≡ scan p n i
-nowhere-from p i n e =
-    sym (scan-none p n i (λ k a b. let z : i + (k - i) ≡ k = omega arith in rw z at (none-at (λ j. p (i + j)) n e (k - i) (omega arith))))
+-- extent e of an image is free
+abbrev pub free_in : List ℕ → Geometry → ℕ → Bool
+free_in img g e = eqb (table_file g (view img) e) free_file
+
+-- where the first table sectors hold no extent that passes, the search behind them finds what the whole search does
+pub sectors-passed : (p : ℕ → Bool) (n m t : ℕ) → m ≡ n / 128 → Passed (λ j. any_below (λ k. p (128 * j + k)) 128) m t → scan p (n - 128 * t) (128 * t) ≡ first p n
+sectors-passed p n m t e h = rw (zero-add (128 * t)) at (seek-over (seek-start {p = p} {n = n}) (128 * t) (omega (arith, h.0)) none).rest
+  where
+    none : None ≡ scan p (128 * t) 0
+    none =
+        sym (scan-none p (128 * t) 0 (λ k a b.
+        let at : 128 * (k / 128) + k % 128 ≡ k = omega arith in
+        rw at at (none-at (λ j. p (128 * (k / 128) + j)) 128 (h.1 (k / 128) (omega arith)) (k % 128) (omega arith))))
+
+-- a search that ended among the first few, or else what the whole search finds
+pub found-early : (p : ℕ → Bool) (n few : ℕ) (o r : Option ℕ) {N : Type 0} → o ≡ scan p (few - 0) 0 → few ≤ n → MatchOption o N (λ k. r ≡ Some k) → (N → r ≡ first p n)
+    → r ≡ first p n
+found-early p n few (Some k) r e l h other = h ∙ seek_found (seek-start {p = p} {n = n}) few (omega arith) (rw (sub-zero few) at e)
+found-early p n few None r e l h other = other h
 
 vacant : (b : Bool) (w : Owner) → is_free (cond (not b) (some w) none) ≡ b
 vacant true w = refl

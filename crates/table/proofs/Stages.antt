@@ -3,6 +3,7 @@ use Prim.Native.Nat.{ℕ, zero, suc, ◌+◌, ◌-◌, ◌*◌, ◌/◌, ◌≤�
 use mathlib.Core.Path.{◌≡◌, refl, sym, ap, ap₂, ◌∙◌}
 use mathlib.Core.Bool.{Bool, true, false, cond}
 use mathlib.Core.List.{List, [], ◌∷◌, ◌++◌, append-nil, append_assoc}
+use Rattle.std.specs.Prelude.{Option, Some, None}
 use native.Mathlib.Nat.{div-lt_iff_lt-mul, add-zero, add-suc}
 use native.Mathlib.Omega.{arith}
 use native.Mathlib.Decide.{dec_lt}
@@ -18,10 +19,12 @@ use Rattle.model.specs.Disk.{Disk}
 use Rattle.model.specs.Catalogue.{Catalogue, catalogue_of, is_free, free_below, lacks_reserve, staging_extents}
 use Rattle.model.specs.Opened.{Bounded}
 use Rattle.laws.proofs.Booleans.{or-none}
+use Rattle.laws.proofs.Search.{any_below-no}
 use Rattle.laws.proofs.Bytes.{length-bytes_from, get_or-bytes_from, bytes_from-ext, zeros-at}
 use Rattle.laws.proofs.Staging.{free_more, staging-at}
+use Rattle.laws.proofs.Folds.{LastBelow}
 use Rattle.commit.specs.Commit.{StagesOf}
-use Rattle.table.specs.Highest.{Highest}
+use Rattle.table.specs.Highest.{IsHighest}
 
 -- the reserve has one to five extents
 pub reserve-five : (g : Geometry) → Bounded g → reserve_extents g ≤ 5
@@ -32,7 +35,7 @@ reserve-five g b =
     omega arith
 
 module _ (c : Catalogue) where
-  -- ---- one past the highest free extent
+  -- ---- the highest free extent
 
   free-none : (e n : ℕ) → any_below (λ k. is_free (c.table (e + k))) n ≡ false → free_below c (e + n) ≡ free_below c e
   unfolding any_below
@@ -47,18 +50,23 @@ module _ (c : Catalogue) where
       → free_below c bound ≡ free_below c (e - n)
   pass-over bound e n l p h = p ∙ ap (free_below c) (let q : e ≡ e - n + n = omega arith in q) ∙ free-none (e - n) n h
 
-  pub pass-one : (bound e : ℕ) → 0 < e → free_below c bound ≡ free_below c e → is_free (c.table (e - 1)) ≡ false → free_below c bound ≡ free_below c (e - 1)
-  pass-one bound e l p h =
-      let q : e ≡ suc (e - 1) = omega arith in
-      p ∙ ap (free_below c) q ∙ free_more c (e - 1)
-      ∙ ap (λ (b : Bool). free_below c (e - 1) ++ cond b ((e - 1) ∷ []) []) h
-      ∙ append-nil (free_below c (e - 1))
+  -- nothing from e to below a bound is free
+  pub passed-down : (e bound : ℕ) → e ≤ bound → ((k : ℕ) → e ≤ k → k < bound → is_free (c.table k) ≡ false) → free_below c bound ≡ free_below c e
+  passed-down e bound l h =
+      let q : bound ≡ e + (bound - e) = omega arith in
+      ap (free_below c) q ∙ free-none e (bound - e) (any_below-no (λ k. is_free (c.table (e + k))) (bound - e) (λ k m. h (e + k) (omega arith) (omega arith)))
 
-  pub highest-after : (bound e n : ℕ) → free_below c bound ≡ free_below c e → Highest c e n → Highest c bound n
-  highest-after bound e n p h = record { rest = p ∙ h.rest; hit = h.hit }
+  -- what a search from the top finds
+  pub highest-is : (p : ℕ → Bool) (bound : ℕ) (r : Option ℕ) → ((e : ℕ) → e < bound → is_free (c.table e) ≡ p e) → LastBelow p bound r → IsHighest c bound r
+  unfolding free_below concatenated
+  highest-is p bound (Some e) same h =
+      let none = passed-down (suc e) bound (omega (arith, h.0)) (λ k a b. same k b ∙ h.2 k (omega arith) b) in
+      (h.0, none ∙ free_more c e ∙ ap (λ (b : Bool). free_below c e ++ cond b (e ∷ []) []) (same e h.0 ∙ h.1))
+  highest-is p bound None same h = passed-down 0 bound (omega arith) (λ k a b. same k b ∙ h k b)
 
-  pub highest-none : (bound e : ℕ) → free_below c bound ≡ free_below c e → (0 < e → ⊥) → Highest c bound 0
-  highest-none bound e p h = record { rest = p ∙ ap (free_below c) (let q : e ≡ 0 = omega (arith, h) in q); hit = λ l. absurd (let q : 0 < 0 = l in omega arith) }
+  pub highest-after : (bound e : ℕ) (r : Option ℕ) → e ≤ bound → free_below c bound ≡ free_below c e → IsHighest c e r → IsHighest c bound r
+  highest-after bound e (Some n) l p h = (omega (arith, h.0), p ∙ h.1)
+  highest-after bound e None l p h = p ∙ h
 
 bytes_from-first : (s : List ℕ) (from n : ℕ) → bytes_from s from (suc n) ≡ get_or s from 0 ∷ bytes_from s (suc from) n
 unfolding bytes_from
@@ -92,46 +100,41 @@ module _ (g : Geometry) (c : Catalogue) (b : Bounded g) where
   }
 
   module _ {stages : List ℕ} {left e : ℕ} (S : Searching g c stages left e) where
-    pub search-more : (n : ℕ) → 0 < left → 0 < n → n ≤ e → Highest c e n → Searching g c (set stages (left - 1) (n - 1)) (left - 1) (n - 1)
-    search-more n more there below h = record {
+    pub search-more : (n : ℕ) → 0 < left → (n < e) × (free_below c e ≡ free_below c n ++ (n ∷ [])) → Searching g c (set stages (left - 1) n) (left - 1) n
+    search-more n more h = record {
       few = omega (arith, S.few);
-      within = omega (arith, S.within);
-      found = S.found ∙ ap₂ (λ (a z : List ℕ). a ++ z) (h.rest ∙ top) refl ∙ append_assoc (free_below c (n - 1)) ((n - 1) ∷ []) rest ∙ ap (λ (z : List ℕ). free_below c (n - 1) ++ z) (sym front);
-      five = length-set stages (left - 1) (n - 1) ∙ S.five;
+      within = omega (arith, S.within, h.0);
+      found = S.found ∙ ap₂ (λ (a z : List ℕ). a ++ z) h.1 refl ∙ append_assoc (free_below c n) (n ∷ []) rest ∙ ap (λ (z : List ℕ). free_below c n ++ z) (sym front);
+      five = length-set stages (left - 1) n ∙ S.five;
       inside = λ k. stays k (dec_lt k (left - 1)) (dec_lt (left - 1) k);
-      behind = λ k l. get_or-set_other stages (left - 1) k (n - 1) 0 (λ q. omega (arith, S.few)) ∙ S.behind k l;
+      behind = λ k l. get_or-set_other stages (left - 1) k n 0 (λ q. omega (arith, S.few)) ∙ S.behind k l;
     }
       where
         rest : List ℕ
         rest = bytes_from stages left (K - left)
 
-        top : free_below c n ≡ free_below c (n - 1) ++ ((n - 1) ∷ [])
-        top =
-            ap (free_below c) (let q : n ≡ suc (n - 1) = omega arith in q) ∙ free_more c (n - 1)
-            ∙ ap (λ (x : Bool). free_below c (n - 1) ++ cond x ((n - 1) ∷ []) []) (h.hit there)
-
         small : left - 1 < length stages
         small = omega (arith, S.few, S.five, reserve-five g b)
 
-        front : bytes_from (set stages (left - 1) (n - 1)) (left - 1) (K - (left - 1)) ≡ (n - 1) ∷ rest
+        front : bytes_from (set stages (left - 1) n) (left - 1) (K - (left - 1)) ≡ n ∷ rest
         front =
             let m : K - (left - 1) ≡ suc (K - left) = omega (arith, S.few) in
             let l : suc (left - 1) ≡ left = omega arith in
-            ap (λ k. bytes_from (set stages (left - 1) (n - 1)) (left - 1) k) m
-            ∙ bytes_from-first (set stages (left - 1) (n - 1)) (left - 1) (K - left)
-            ∙ ap₂ (λ (x : ℕ) (z : List ℕ). x ∷ z) (get_or-set_same stages (left - 1) (n - 1) 0 small)
-            (bytes_from-ext (set stages (left - 1) (n - 1)) stages (suc (left - 1)) left (K - left)
-            (λ i k. get_or-set_other stages (left - 1) (suc (left - 1) + i) (n - 1) 0 (λ q. omega arith) ∙ ap (λ x. get_or stages (x + i) 0) l))
+            ap (λ k. bytes_from (set stages (left - 1) n) (left - 1) k) m
+            ∙ bytes_from-first (set stages (left - 1) n) (left - 1) (K - left)
+            ∙ ap₂ (λ (x : ℕ) (z : List ℕ). x ∷ z) (get_or-set_same stages (left - 1) n 0 small)
+            (bytes_from-ext (set stages (left - 1) n) stages (suc (left - 1)) left (K - left)
+            (λ i k. get_or-set_other stages (left - 1) (suc (left - 1) + i) n 0 (λ q. omega arith) ∙ ap (λ x. get_or stages (x + i) 0) l))
 
-        other : (k : ℕ) → (k ≡ left - 1 → ⊥) → get_or (set stages (left - 1) (n - 1)) k 0 < g.extents
-        other k ne = rw (get_or-set_other stages (left - 1) k (n - 1) 0 ne) (S.inside k)
+        other : (k : ℕ) → (k ≡ left - 1 → ⊥) → get_or (set stages (left - 1) n) k 0 < g.extents
+        other k ne = rw (get_or-set_other stages (left - 1) k n 0 ne) (S.inside k)
 
-        stays : (k : ℕ) → Dec (k < left - 1) → Dec (left - 1 < k) → get_or (set stages (left - 1) (n - 1)) k 0 < g.extents
+        stays : (k : ℕ) → Dec (k < left - 1) → Dec (left - 1 < k) → get_or (set stages (left - 1) n) k 0 < g.extents
         stays k (yes l) m = other k (λ q. omega arith)
         stays k (no l) (yes m) = other k (λ q. omega arith)
         stays k (no l) (no m) =
             let q : k ≡ left - 1 = omega arith in
-            rw (q, get_or-set_same stages (left - 1) (n - 1) 0 small) (omega (arith, S.within))
+            rw (q, get_or-set_same stages (left - 1) n 0 small) (omega (arith, S.within, h.0))
 
     counted : length (free_below c g.extents) ≡ length (free_below c e) + (K - left)
     counted =
@@ -140,10 +143,10 @@ module _ (g : Geometry) (c : Catalogue) (b : Bounded g) where
 
     module _ (is : c.geometry ≡ g) where
       -- nothing more is free
-      pub search-failed : 0 < left → Highest c e 0 → lacks_reserve c ≡ true
+      pub search-failed : 0 < left → free_below c e ≡ [] → lacks_reserve c ≡ true
       unfolding lacks_reserve free_below concatenated
       search-failed more h =
-          let z : length (free_below c e) ≡ 0 = ap length h.rest in
+          let z : length (free_below c e) ≡ 0 = ap length h in
           ap (λ (h : Geometry). ltb (length (free_below c h.extents)) (reserve_extents h)) is
           ∙ lt-ltb (length (free_below c g.extents)) K (omega (arith, counted, S.few))
 

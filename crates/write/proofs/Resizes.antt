@@ -1,6 +1,6 @@
 -- The plan of a resize that shrinks, and how a resize is decided, from the tests that the code makes. Assumes nothing.
 use Prim.Native.Nat.{ℕ, suc, ◌+◌, ◌*◌, ◌-◌, ◌/◌, ◌≤◌, ◌<◌, max}
-use mathlib.Core.Path.{◌≡◌, refl, ap, ap₂, ◌∙◌}
+use mathlib.Core.Path.{◌≡◌, refl, sym, ap, ap₂, ◌∙◌}
 use mathlib.Core.Bool.{Bool, true, false, cond, not, ◌&&◌, ◌||◌}
 use mathlib.Core.List.{List, [], ◌∷◌}
 use mathlib.Core.Option.{Option, some}
@@ -9,10 +9,9 @@ use native.Mathlib.Omega.{arith}
 use lib.Dec.{ltb}
 use lib.ListN.{length}
 use borrow.Author.Tests.{lt-ltb, le-ltb}
-use Rattle.model.specs.declared.Changed.{Changed}
+use Rattle.model.specs.Answers.{Changed, Verdict}
 use Rattle.model.specs.declared.Geometry.{Geometry}
-use Rattle.model.specs.declared.Lowest.TheVariants.{At}
-use Rattle.model.specs.declared.Verdict.{Verdict}
+use Rattle.std.specs.Prelude.{Some}
 use Rattle.model.specs.Search.{is_at, index_of}
 use Rattle.model.specs.Geometry.{extent_bytes, extents_for, superblock_at, entry_at}
 use Rattle.model.specs.Disk.{view}
@@ -33,11 +32,11 @@ use Rattle.laws.proofs.Named.{edition_on}
 use Rattle.laws.proofs.Freeing.{length-freed}
 use Rattle.laws.proofs.WriteList.{plan-needs}
 use Rattle.commit.proofs.Records.{emitted-length}
-use Rattle.commit.proofs.Decided.{same-refusals, refused-as-full, refused-as-short, done-as-planned}
+use Rattle.commit.proofs.Decided.{same-refusals, decided-fitted, fitted-full, fitted_short, fitted-done}
 use Rattle.table.specs.Owned.{owned_in}
 use Rattle.table.proofs.Laws.{geometry-of}
 use Rattle.write.specs.FileWrite.{file_conditions, file_decision, FileWritesTo}
-use Rattle.write.specs.FileResize.{size_conditions, size_decision, shrink_decision, shrink_for, FileResizesTo, FileShrinksTo}
+use Rattle.write.specs.FileResize.{size_conditions, size_decision, shrink_for, FileResizesTo, FileShrinksTo}
 use Rattle.write.proofs.Laws.{decided-same, refused_by, sized, own-refusal}
 
 -- a smaller size needs no more extents
@@ -83,7 +82,7 @@ module _ (img : List ℕ) (g : Geometry) (o : Opened img g) where
       (le-ltb (extents_for (geometry_in (view img superblock_at)) size) (extents_for (geometry_in (view img superblock_at)) z)
       (extents-less (geometry_in (view img superblock_at)) (rw o.is at o.bounded) z size h))
 
-  module _ (ok : (judged (volume_length (view img)) (view img)).number ≡ 0) (list : List ℕ) where
+  module _ (list : List ℕ) where
     module _ (i z time : ℕ) where
       abbrev plan : Plan
       plan = shrink_for img i z time
@@ -106,33 +105,28 @@ module _ (img : List ℕ) (g : Geometry) (o : Opened img g) where
       shrink-count q = emitted-length (groups_for (view img) (some plan)) q ∙ needs
 
       pub shrink-full : lacks_reserve c ≡ true → Shrunk (refused_by 13) list
-      unfolding shrink_decision verdict_of
-      shrink-full f = refused-as-full (volume_length (view img)) (view img) [] (some plan) list ok done refl refl f
+      shrink-full = fitted-full (view img) plan list
 
       pub shrink-short : lacks_reserve c ≡ false → length list < needed → Shrunk (refused_by 14) list
-      unfolding shrink_decision verdict_of
-      shrink-short f l = refused-as-short (volume_length (view img)) (view img) [] (some plan) list ok done refl f refl (rw needs l)
+      shrink-short f l = fitted_short (view img) plan list f (rw needs l)
 
       pub shrink-done : {m : List ℕ} {j : ℕ} → lacks_reserve c ≡ false → needed ≤ length list
           → Emitted list 0 (closed (groups_for (view img) (some plan))) m j → Shrunk (record { verdict = done; length = j * record_size }) m
-      unfolding shrink_decision verdict_of
-      shrink-done f l q =
-          rw (emitted-length (groups_for (view img) (some plan)) q)
-          (done-as-planned (volume_length (view img)) (view img) [] (some plan) list ok done refl f refl (rw needs l) q)
+      shrink-done f l q = fitted-done (view img) plan list f (emitted-length (groups_for (view img) (some plan)) q) (rw (shrink-count q) l) q
 
-      module _ (size : ℕ) (says : size ≡ (entry_of c i).size) where
-        none-holds : z < size → verdict_of (size_conditions c i z) ≡ verdict_of []
+      module _ (ok : (judged (volume_length (view img)) (view img)).number ≡ 0) (size : ℕ) (says : size ≡ (entry_of c i).size) where
+        none-holds : z < size → done ≡ verdict_of (size_conditions c i z)
         unfolding size_conditions verdict_of no_room
-        none-holds l = rw (← says, le-ltb (size + longest_transfer) z (omega arith), shrunk i size z says (omega arith))
+        none-holds l = sym (rw (← says, le-ltb (size + longest_transfer) z (omega arith), shrunk i size z says (omega arith)))
 
         less-planned : z < size → resize_planned c (view img) i z time ≡ some plan
         unfolding resize_planned
         less-planned l = rw (← says, lt-ltb z size l)
 
         pub size-shrinks : {answer : Changed} {after : List ℕ} → z < size → Shrunk answer after → Sized answer after
-        unfolding size_decision shrink_decision
+        unfolding size_decision
         size-shrinks l r =
-            rw (decided-same (volume_length (view img)) (view img) (size_conditions c i z) [] (resize_planned c (view img) i z time) (length list) (none-holds l), less-planned l) r
+            rw (decided-fitted (volume_length (view img)) (view img) (size_conditions c i z) (resize_planned c (view img) i z time) (length list) ok (none-holds l), less-planned l) r
 
         pub size-far : size + longest_transfer < z → Sized (refused_by 8) list
         unfolding size_decision size_conditions verdict_of
@@ -202,7 +196,7 @@ module _ (img : List ℕ) (ok : (judged (volume_length (view img)) (view img)).n
       unfolding resize_answer resize_list resize_decision
       resize-missing h = own-refusal img ok list conditions planned 9 (λ (e : ◌≡◌ {A = ℕ} 9 0). omega arith) (resize-tests ∙ rw (good, h))
 
-      pub resize-found : {answer : Changed} {after : List ℕ} (i : ℕ) → At i ≡ file_named cat name
+      pub resize-found : {answer : Changed} {after : List ℕ} (i : ℕ) → Some i ≡ file_named cat name
           → FileResizesTo img i z time list answer after → Resized answer after
       unfolding resize_answer resize_list resize_decision size_decision size_conditions verdict_of
       resize-found i e r =

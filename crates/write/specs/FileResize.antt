@@ -1,7 +1,7 @@
 -- A resize of a file that was found: the part of the decision that rests on the file alone.
 use Rattle.std.specs.Prelude.{ℕ, ◌+◌, List, [], ◌∷◌, ltb, length}
 use Rattle.std.proofs.Math.Option.{some}
-use Rattle.model.specs.declared.Changed.{Changed}
+use Rattle.model.specs.Answers.{Changed}
 use Rattle.model.specs.Geometry.{FileNumber}
 use Rattle.model.specs.Disk.{Disk, view}
 use Rattle.model.specs.Catalogue.{Catalogue, catalogue_of, entry_of}
@@ -11,7 +11,7 @@ use Rattle.model.specs.WriteList.{Plan, Decision, decided}
 use Rattle.model.specs.Write.{no_room}
 use Rattle.model.specs.Resize.{shrink_plan, resize_planned}
 use Rattle.model.specs.Opened.{in_volume}
-use Rattle.commit.specs.Decided.{ComesTo}
+use Rattle.commit.specs.Decided.{fitted, ComesTo}
 
 -- 8 "a resize that grows a file by more than 65,536", 13
 unfoldable pub size_conditions : Catalogue → FileNumber → ℕ → Conditions
@@ -20,11 +20,7 @@ size_conditions c i z = (ltb ((entry_of c i).size + longest_transfer) z, refusal
 unfoldable pub size_decision : ℕ → Disk → FileNumber → ℕ → ℕ → ℕ → Decision
 size_decision len d i z time room = decided len d (size_conditions (catalogue_of d) i z) (resize_planned (catalogue_of d) d i z time) room
 
--- where the file shrinks: 13 and 14 by the plan, or the plan
-unfoldable pub shrink_decision : ℕ → Disk → FileNumber → ℕ → ℕ → ℕ → Decision
-shrink_decision len d i z time room = decided len d [] (some (shrink_plan (catalogue_of d) d i z time)) room
-
--- in an image: the plan where the file shrinks, and what both decisions come to
+-- in an image: what the decision comes to; and where the file shrinks, its plan, and what that comes to
 module _ (img : List ℕ) (i : FileNumber) (z time : ℕ) where
   abbrev pub shrink_for : Plan
   shrink_for = shrink_plan (catalogue_of (view img)) (view img) i z time
@@ -33,4 +29,4 @@ module _ (img : List ℕ) (i : FileNumber) (z time : ℕ) where
   FileResizesTo list answer after = ComesTo (view img) (in_volume size_decision img i z time (length list)) list answer after
 
   abbrev pub FileShrinksTo : List ℕ → Changed → List ℕ → Type 0
-  FileShrinksTo list answer after = ComesTo (view img) (in_volume shrink_decision img i z time (length list)) list answer after
+  FileShrinksTo list answer after = ComesTo (view img) (fitted (view img) (some shrink_for) (length list)) list answer after

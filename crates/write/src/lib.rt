@@ -2,43 +2,44 @@
 // which ask for the sectors that the span covers partly (T-11).
 #![tactic(auto)]
 
-ghost use Rattle.std.specs.Prelude.{◌≡◌, false, cond, [], ◌+◌, ◌*◌, ◌-◌, ◌/◌, ◌≤◌, ◌<◌, ◌^◌, eqb, ltb, length};
+ghost use Rattle.std.specs.Prelude.{◌≡◌, false, cond, [], ◌+◌, ◌*◌, ◌-◌, ◌/◌, ◌≤◌, ◌<◌, ◌^◌, eqb, ltb, length, is_none, IfSome, IfOk};
 ghost use Rattle.std.proofs.Math.Option.{some};
 ghost use Rattle.model.specs.Search.{index_of};
 ghost use Rattle.model.specs.Geometry.{extents_for};
 ghost use Rattle.model.specs.Disk.{view};
 ghost use Rattle.model.specs.Table.{free_file, table_sector_of, taken_in, sectors_holding};
 ghost use Rattle.model.specs.Catalogue.{catalogue_of, free_extent, lacks_reserve, entry_of};
-ghost use Rattle.model.specs.Refusals.{refusal};
+ghost use Rattle.model.specs.Refusals.{done};
+ghost use Rattle.model.specs.Results.{verdict_for, changed_in};
 ghost use Rattle.model.specs.Read.{longest_transfer};
 ghost use Rattle.model.specs.WriteList.{record_size, record_count, groups_for, closed, Emitted};
-ghost use Rattle.model.specs.Write.{touched_sectors, size_after, write_answer, write_list};
+ghost use Rattle.model.specs.Write.{touched_sectors, size_after, no_room, write_answer, write_list};
 ghost use Rattle.model.specs.Resize.{zeros, resize_answer, resize_list};
-ghost use Rattle.model.specs.Lent.{no_part, part_at, partly, partly_covered, write_asking, write_lent, resize_lent, takes_write, write_taken, write_not_taken, write_step, completed, write_step_list};
+ghost use Rattle.model.specs.Lent.{part_at, partly_covered, write_asking, write_lent, resize_lent, takes_write, write_taken, write_not_taken, write_step, completed, write_step_list};
 ghost use Rattle.model.specs.Opened.{Opened, in_volume, Accepted};
 ghost use Rattle.commit.specs.Commit.{StagesOf};
 ghost use Rattle.table.specs.Owned.{owned_in};
 ghost use Rattle.spans.specs.Touched.{Lent, Source, span_of};
-ghost use Rattle.write.specs.FileWrite.{Grown, Asked, Spans, Named, plan_for, FileWritesTo, PlanWritesTo};
+ghost use Rattle.write.specs.FileWrite.{Grown, Asked, Spans, Named, plan_for, begun_in, FileWritesTo};
 ghost use Rattle.write.specs.FileResize.{shrink_for, FileShrinksTo, FileResizesTo};
+ghost use Rattle.write.specs.Parts.{before};
 
-use model::{Changed, Extent, FileIndex, Geometry, Lowest, Part, Verdict, Writing};
+use model::{Extent, FileIndex, Geometry, Part, Refusal, Writing};
 
-// What a new size needs: the extents that the file has, whether it takes one more, whether K + 1 are free, and the lowest of these.
+// What a new size needs: the extents that the file has, whether it takes one more, and the lowest free one, which it then takes.
 #[derive(Clone, Copy)]
-pub struct Growth {
-    pub held: u64,
-    pub more: bool,
-    pub found: bool,
-    pub next: Extent,
+struct Growth {
+    held: u64,
+    more: bool,
+    next: Extent,
 }
 
-// What a write or a resize comes to. Where a list follows, `index` and `size` are of the file that it names.
+// What a write or a resize comes to that nothing refuses: the list's length in bytes, and the file, with the size that it had.
 #[derive(Clone, Copy)]
-pub struct Begun {
-    pub answer: Changed,
-    pub index: FileIndex,
-    pub size: u64,
+struct Begun {
+    length: u64,
+    index: FileIndex,
+    size: u64,
 }
 
 // The table sector of extent x, in which x is given to file i as its extent of that offset.
@@ -54,32 +55,46 @@ fn taken_sector(img: &[u8], g: Geometry, x: Extent, i: FileIndex, offset: u64) -
 
 // ---- what a write needs
 
-// What file i, whose size is given, needs for the new size z. More than K are free where the lowest is below the lowest staging extent.
-fn need_for(img: &[u8], g: Geometry, stages: &[u64], i: FileIndex, size: u64, z: u64) -> Growth
+// The extent that a file takes if it needs one more.
+fn next_extent(img: &[u8], g: Geometry) -> Extent
+    requires { Opened img.now g }
+    ensures { result.0 ≡ index_of (free_extent (catalogue_of (view img.now))) }
+{
+    Extent(table::free_extent(img, g).unwrap_or(0) as u64)
+}
+
+// What file i, whose size is given, needs for the new size z; none where that is one more extent and no more than K are free. More than K
+// are free where the lowest is below the lowest staging extent.
+fn need_for(
+    img: &[u8],
+    g: Geometry,
+    stages: &[u64],
+    i: FileIndex,
+    size: u64,
+    z: u64,
+) -> Option<Growth>
     requires stages_of { StagesOf g (view img.now) stages.now }
     requires img_value { lacks_reserve (catalogue_of (view img.now)) ≡ false }
     requires opened { Opened img.now g }
     requires size_value { size ≡ (entry_of (catalogue_of (view img.now)) i.0).size }
-    ensures grown { Grown (catalogue_of (view img.now)) i.0 z result }
-    ensures next_lt_extents { result.next.0 < g.extents }
+    ensures lacking { no_room (catalogue_of (view img.now)) i.0 z ≡ is_none result }
+    ensures grown { IfSome result (λ w. Grown (catalogue_of (view img.now)) i.0 z w × (w.next.0 < g.extents)) }
 {
     let held = table::extents_for(g, size);
     let more = held < table::extents_for(g, z);
-    if let Lowest::At(e) = table::free_extent(img, g) {
-        let next = e as u64;
-        return Growth {
-            held,
-            more,
-            found: next < stages[0],
-            next: Extent(next),
-        };
+    let next = next_extent(img, g);
+    if more && stages[0] <= next.0 {
+        return None;
     }
-    Growth {
-        held,
-        more,
-        found: false,
-        next: Extent(0),
-    }
+    Some(Growth { held, more, next })
+}
+
+// How many sectors n bytes from `offset` on touch.
+fn touched_sectors(offset: u64, n: u64) -> u64
+    requires { offset + n < 2 ^ 63 }
+    ensures { result ≡ touched_sectors offset n }
+{
+    (offset + n + 511) / 512 - offset / 512
 }
 
 // How many records the list of a write of n bytes has: data sectors, one or two targets and what goes with them.
@@ -87,11 +102,8 @@ fn records(more: bool, offset: u64, n: u64) -> usize
     requires { (offset + n < 2 ^ 63) × (n ≤ longest_transfer) }
     ensures { (result ≡ record_count (touched_sectors offset n) (cond more 2 1)) × (result ≤ 200) }
 {
-    let touched = ((offset + n + 511) / 512 - offset / 512) as usize;
-    if more {
-        return touched + 11;
-    }
-    touched + 9
+    let touched = touched_sectors(offset, n) as usize;
+    if more { touched + 11 } else { touched + 9 }
 }
 
 // ---- the list
@@ -122,7 +134,7 @@ fn put_write(
         list.new result }
 {
     let first = offset / 512;
-    let touched = (offset + len + 511) / 512 - first;
+    let touched = touched_sectors(offset, len);
     let k = spans::put_data(
         list, 0, img, g, i, w.held, w.next, offset, bytes, len, first, touched,
     );
@@ -146,40 +158,6 @@ fn put_write(
     commit::put_commit(list, k1, img, g, stages, &numbers, 1)
 }
 
-// A write that has its extents: refusal 14, or the list.
-fn put_if_room(
-    list: &mut [u8],
-    img: &[u8],
-    g: Geometry,
-    stages: &[u64],
-    i: FileIndex,
-    w: Growth,
-    offset: u64,
-    bytes: &[u8],
-    len: u64,
-    z: u64,
-    time: u64,
-) -> Changed
-    requires stages_of { StagesOf g (view img.now) stages.now }
-    requires img_value { (lacks_reserve (catalogue_of (view img.now)) ≡ false) × (0 < len) }
-    requires accepted { Accepted img.now }
-    requires opened { Opened img.now g }
-    requires grown { Grown (catalogue_of (view img.now)) i.0 z w × (w.next.0 < g.extents) }
-    requires i_lt_files { (i.0 < g.files) × (len ≤ longest_transfer) × (offset + len < 2 ^ 63) × Source bytes.now len }
-    requires z_value { z ≡ size_after (catalogue_of (view img.now)) i.0 offset len }
-    ensures { PlanWritesTo img.now i.0 offset (span_of bytes.now len) time list.old result list.new }
-{
-    if list.len() < records(w.more, offset, len) * lists::RECORD_SIZE {
-        return commit::refused(volume::refusal(14));
-    }
-    let n = put_write(list, img, g, stages, i, w, offset, bytes, len, z, time);
-    let verdict = volume::refusal(0);
-    Changed {
-        verdict,
-        length: (n * lists::RECORD_SIZE) as u64,
-    }
-}
-
 // A write of some bytes to file i, whose size is given, in it or at its end: refusals 13 and 14, or the list.
 fn write_staged(
     img: &[u8],
@@ -192,22 +170,22 @@ fn write_staged(
     len: u64,
     time: u64,
     list: &mut [u8],
-) -> Changed
+) -> Result<u64, Refusal>
     requires stages_of { StagesOf g (view img.now) stages.now }
     requires img_value { (lacks_reserve (catalogue_of (view img.now)) ≡ false) × (0 < len) × (offset ≤ size) }
     requires asked { Asked img.now g i.0 size len }
     requires source { Source bytes.now len }
-    ensures { FileWritesTo img.now i.0 offset (span_of bytes.now len) time list.old result list.new }
+    ensures { FileWritesTo img.now i.0 offset (span_of bytes.now len) time list.old (changed_in result) list.new }
 {
-    let z = fields::most(size, offset + len);
-    let w = need_for(img, g, stages, i, size, z);
-    if w.more {
-        if w.found {
-            return put_if_room(list, img, g, stages, i, w, offset, bytes, len, z, time);
-        }
-        return commit::refused(volume::refusal(13));
+    let z = size.max(offset + len);
+    let Some(w) = need_for(img, g, stages, i, size, z) else {
+        return Err(Refusal::VolumeFull);
+    };
+    if list.len() < records(w.more, offset, len) * lists::RECORD_SIZE {
+        return Err(Refusal::TooShort);
     }
-    put_if_room(list, img, g, stages, i, w, offset, bytes, len, z, time)
+    let n = put_write(list, img, g, stages, i, w, offset, bytes, len, z, time);
+    Ok((n * lists::RECORD_SIZE) as u64)
 }
 
 // A write to file i, whose size is given: refusals 12 to 14, or the list. A write of 0 bytes has an empty one.
@@ -221,39 +199,26 @@ fn write_file(
     len: u64,
     time: u64,
     list: &mut [u8],
-) -> Changed
+) -> Result<u64, Refusal>
     requires asked { Asked img.now g i.0 size len }
     requires source { Source bytes.now len }
-    ensures { FileWritesTo img.now i.0 offset (span_of bytes.now len) time list.old result list.new }
+    ensures { FileWritesTo img.now i.0 offset (span_of bytes.now len) time list.old (changed_in result) list.new }
 {
     if size < offset {
-        return commit::refused(volume::refusal(12));
+        return Err(Refusal::PastEnd);
     }
     if len == 0 {
-        return commit::refused(volume::refusal(0));
+        return Ok(0);
     }
-    let mut stages = [0u64; 5];
-    if table::staging(img, g, &mut stages) {
-        return write_staged(img, g, &stages, i, size, offset, bytes, len, time, list);
-    }
-    commit::refused(volume::refusal(13))
+    let Some(stages) = table::staging(img, g) else {
+        return Err(Refusal::VolumeFull);
+    };
+    write_staged(img, g, &stages, i, size, offset, bytes, len, time, list)
 }
 
 // ---- write
 
-// A refusal before the file is found.
-fn not_begun(number: u64) -> Begun
-    ensures { result.answer ≡ record { verdict = refusal number; length = 0 } }
-{
-    let answer = commit::refused(volume::refusal(number));
-    Begun {
-        answer,
-        index: FileIndex(0),
-        size: 0,
-    }
-}
-
-// The answer and the list of a write, and the file that it names.
+// The list of a write and the file that it names.
 fn begin_write(
     img: &[u8],
     name: &[u8],
@@ -261,31 +226,28 @@ fn begin_write(
     bytes: &[u8],
     time: u64,
     list: &mut [u8],
-) -> Begun
+) -> Result<Begun, Refusal>
     requires { Accepted img.now }
-    ensures answer_value { result.answer ≡ in_volume write_answer img.now name.now offset bytes.now time (length list.old) }
-    ensures named { Named img.now name.now (offset + length bytes.now) result }
+    ensures answer_value { begun_in result ≡ in_volume write_answer img.now name.now offset bytes.now time (length list.old) }
+    ensures named { IfOk result (Named img.now name.now (offset + length bytes.now)) }
     ensures list_after { list.new ≡ in_volume write_list img.now name.now offset bytes.now time list.old }
 {
     let g = volume::geometry_in(img);
-    if directory::bad_name_or_time(g.edition, name, time) {
-        return not_begun(8);
+    let len = bytes.len() as u64;
+    if directory::bad_name_or_time(g.edition, name, time) || model::LONGEST_TRANSFER < len {
+        return Err(Refusal::BadArgument);
     }
-    if model::LONGEST_TRANSFER < bytes.len() as u64 {
-        return not_begun(8);
-    }
-    if let Lowest::At(i) = directory::file_named(img, g, name) {
-        let index = FileIndex(i as u64);
-        let size = directory::size_at(img, index);
-        let n = bytes.len() as u64;
-        let answer = write_file(img, g, index, size, offset, bytes, n, time, list);
-        return Begun {
-            answer,
-            index,
-            size,
-        };
-    }
-    not_begun(9)
+    let Some(i) = directory::file_named(img, g, name) else {
+        return Err(Refusal::NotFound);
+    };
+    let index = FileIndex(i as u64);
+    let size = directory::size_at(img, index);
+    let length = write_file(img, g, index, size, offset, bytes, len, time, list)?;
+    Ok(Begun {
+        length,
+        index,
+        size,
+    })
 }
 
 pub fn write_in(
@@ -295,13 +257,12 @@ pub fn write_in(
     bytes: &[u8],
     time: u64,
     list: &mut [u8],
-) -> Changed
+) -> Result<u64, Refusal>
     requires { Accepted img.now }
-    ensures value { result ≡ in_volume write_answer img.now name.now offset bytes.now time (length list.old) }
+    ensures value { changed_in result ≡ in_volume write_answer img.now name.now offset bytes.now time (length list.old) }
     ensures list_after { list.new ≡ in_volume write_list img.now name.now offset bytes.now time list.old }
 {
-    let b = begin_write(img, name, offset, bytes, time, list);
-    b.answer
+    begin_write(img, name, offset, bytes, time, list).map(|b| b.length)
 }
 
 // ---- resize
@@ -343,25 +304,26 @@ fn put_shrink(
 }
 
 // File i is shrunk to z: refusals 13 and 14, or the list.
-fn shrink_file(img: &[u8], g: Geometry, i: FileIndex, z: u64, time: u64, list: &mut [u8]) -> Changed
-    requires accepted { Accepted img.now }
+fn shrink_file(
+    img: &[u8],
+    g: Geometry,
+    i: FileIndex,
+    z: u64,
+    time: u64,
+    list: &mut [u8],
+) -> Result<u64, Refusal>
     requires opened { Opened img.now g }
     requires i_lt_files { i.0 < g.files }
-    ensures { FileShrinksTo img.now i.0 z time list.old result list.new }
+    ensures { FileShrinksTo img.now i.0 z time list.old (changed_in result) list.new }
 {
-    let mut stages = [0u64; 5];
-    if table::staging(img, g, &mut stages) {
-        if list.len() < shrink_count(img, g, i, z) * lists::RECORD_SIZE {
-            return commit::refused(volume::refusal(14));
-        }
-        let n = put_shrink(img, g, &stages, i, z, time, list);
-        let verdict = volume::refusal(0);
-        return Changed {
-            verdict,
-            length: (n * lists::RECORD_SIZE) as u64,
-        };
+    let Some(stages) = table::staging(img, g) else {
+        return Err(Refusal::VolumeFull);
+    };
+    if list.len() < shrink_count(img, g, i, z) * lists::RECORD_SIZE {
+        return Err(Refusal::TooShort);
     }
-    commit::refused(volume::refusal(13))
+    let n = put_shrink(img, g, &stages, i, z, time, list);
+    Ok((n * lists::RECORD_SIZE) as u64)
 }
 
 // A write of n zeros at the end of file i, whose size is given. A sector of zeros is lent for all of them.
@@ -373,9 +335,9 @@ fn write_zeros(
     n: u64,
     time: u64,
     list: &mut [u8],
-) -> Changed
+) -> Result<u64, Refusal>
     requires { Asked img.now g i.0 size n }
-    ensures { FileWritesTo img.now i.0 size (zeros n) time list.old result list.new }
+    ensures { FileWritesTo img.now i.0 size (zeros n) time list.old (changed_in result) list.new }
 {
     let zeros = [0u8; 512];
     write_file(img, g, i, size, size, &zeros, n, time, list)
@@ -390,145 +352,128 @@ fn resize_file(
     z: u64,
     time: u64,
     list: &mut [u8],
-) -> Changed
+) -> Result<u64, Refusal>
     requires { Asked img.now g i.0 size 0 }
-    ensures { FileResizesTo img.now i.0 z time list.old result list.new }
+    ensures { FileResizesTo img.now i.0 z time list.old (changed_in result) list.new }
 {
     if z < size {
         return shrink_file(img, g, i, z, time, list);
     }
     if model::LONGEST_TRANSFER < z - size {
-        return commit::refused(volume::refusal(8));
+        return Err(Refusal::BadArgument);
     }
     write_zeros(img, g, i, size, z - size, time, list)
 }
 
-// The answer and the list of a resize, and the file that it names.
-fn begin_resize(img: &[u8], name: &[u8], size: u64, time: u64, list: &mut [u8]) -> Begun
+// The list of a resize and the file that it names.
+fn begin_resize(
+    img: &[u8],
+    name: &[u8],
+    size: u64,
+    time: u64,
+    list: &mut [u8],
+) -> Result<Begun, Refusal>
     requires { Accepted img.now }
-    ensures answer_value { result.answer ≡ in_volume resize_answer img.now name.now size time (length list.old) }
-    ensures named { Named img.now name.now size result }
+    ensures answer_value { begun_in result ≡ in_volume resize_answer img.now name.now size time (length list.old) }
+    ensures named { IfOk result (Named img.now name.now size) }
     ensures list_after { list.new ≡ in_volume resize_list img.now name.now size time list.old }
 {
     let g = volume::geometry_in(img);
     if directory::bad_name_or_time(g.edition, name, time) {
-        return not_begun(8);
+        return Err(Refusal::BadArgument);
     }
-    if let Lowest::At(i) = directory::file_named(img, g, name) {
-        let index = FileIndex(i as u64);
-        let old = directory::size_at(img, index);
-        let answer = resize_file(img, g, index, old, size, time, list);
-        return Begun {
-            answer,
-            index,
-            size: old,
-        };
-    }
-    not_begun(9)
+    let Some(i) = directory::file_named(img, g, name) else {
+        return Err(Refusal::NotFound);
+    };
+    let index = FileIndex(i as u64);
+    let old = directory::size_at(img, index);
+    let length = resize_file(img, g, index, old, size, time, list)?;
+    Ok(Begun {
+        length,
+        index,
+        size: old,
+    })
 }
 
-pub fn resize_in(img: &[u8], name: &[u8], size: u64, time: u64, list: &mut [u8]) -> Changed
+pub fn resize_in(
+    img: &[u8],
+    name: &[u8],
+    size: u64,
+    time: u64,
+    list: &mut [u8],
+) -> Result<u64, Refusal>
     requires { Accepted img.now }
-    ensures value { result ≡ in_volume resize_answer img.now name.now size time (length list.old) }
+    ensures value { changed_in result ≡ in_volume resize_answer img.now name.now size time (length list.old) }
     ensures list_after { list.new ≡ in_volume resize_list img.now name.now size time list.old }
 {
-    let b = begin_resize(img, name, size, time, list);
-    b.answer
+    begin_resize(img, name, size, time, list).map(|b| b.length)
 }
 
 // ---- T-11: what a write asks for
 
-fn no_part() -> Part
-    ensures { result ≡ no_part }
-{
-    Part {
-        sector: 0,
-        from: 0,
-        to: 0,
-        position: 0,
-    }
-}
-
-// An answer with what it asks for; the list's length is given with the last sector.
-fn wanting(a: Changed, wanted: Part, last: Part) -> Writing
-    ensures { result ≡ record { code = a.verdict.number; fault = a.verdict.fault; place = a.verdict.place; length = 0; wanted = wanted; last = last; full = a.length } }
-{
-    let v = a.verdict;
-    Writing {
-        code: v.number,
-        fault: v.fault,
-        place: v.place,
-        length: 0,
-        wanted,
-        last,
-        full: a.length,
-    }
-}
+// In a `Writing`, which C reads too, no part: sector 0 is the superblock.
+const NO_PART: Part = Part {
+    sector: 0,
+    from: 0,
+    to: 0,
+    position: 0,
+};
 
 // An answer that asks for nothing.
-fn settled(a: Changed) -> Writing
-    ensures { result ≡ write_asking a [] }
+fn settled(length: u64) -> Writing
+    ensures { result ≡ write_asking (record { verdict = done; length = length }) [] }
 {
-    let v = a.verdict;
     Writing {
-        code: v.number,
-        fault: v.fault,
-        place: v.place,
-        length: a.length,
-        wanted: no_part(),
-        last: no_part(),
-        full: a.length,
+        code: 0,
+        fault: 0,
+        place: 0,
+        length,
+        wanted: NO_PART,
+        last: NO_PART,
+        full: length,
     }
 }
 
 // What the lent forms answer where they refuse.
-pub fn refused_writing(verdict: Verdict) -> Writing
-    ensures { result ≡ write_asking (record { verdict = verdict; length = 0 }) [] }
+pub fn refused_writing(r: Refusal) -> Writing
+    ensures { result ≡ write_asking (record { verdict = verdict_for r; length = 0 }) [] }
 {
-    settled(commit::refused(verdict))
+    Writing {
+        code: r.number(),
+        fault: r.fault(),
+        place: r.place(),
+        ..settled(0)
+    }
 }
 
-// Whether a part isn't all of its sector.
-fn is_partly(p: Part) -> bool
+// The part, unless the span covers all of its sector.
+fn partly(p: Part) -> Option<Part>
     requires { p.from ≤ p.to }
-    ensures { result ≡ ltb (p.to - p.from) 512 }
+    ensures { result ≡ cond (ltb (p.to - p.from) 512) (Some p) None }
 {
-    p.to - p.from < 512
+    (p.to - p.from < 512).then_some(p)
 }
 
-// The touched sector is asked for, or each of two, unless the span covers it.
-fn asked_one(a: Changed, p: Part) -> Writing
-    requires { p.from ≤ p.to }
-    ensures { result ≡ write_asking a (partly p []) }
+// An answer that asks for these; the list's length is given with the last of them.
+fn wanting(full: u64, first: Option<Part>, last: Option<Part>) -> Writing
+    ensures { result ≡ write_asking (record { verdict = done; length = full }) (before first (before last [])) }
 {
-    if is_partly(p) {
-        return wanting(a, p, no_part());
+    let asking = Writing {
+        length: 0,
+        ..settled(full)
+    };
+    match (first, last) {
+        (None, None) => settled(full),
+        (Some(p), None) | (None, Some(p)) => Writing {
+            wanted: p,
+            ..asking
+        },
+        (Some(p), Some(q)) => Writing {
+            wanted: p,
+            last: q,
+            ..asking
+        },
     }
-    settled(a)
-}
-
-fn asked_two(a: Changed, p: Part, q: Part) -> Writing
-    requires { (p.from ≤ p.to) × (q.from ≤ q.to) }
-    ensures { result ≡ write_asking a (partly p (partly q [])) }
-{
-    if is_partly(p) {
-        if is_partly(q) {
-            return wanting(a, p, q);
-        }
-        return wanting(a, p, no_part());
-    }
-    asked_one(a, q)
-}
-
-// The extent that a file takes if it needs one more.
-fn next_extent(img: &[u8], g: Geometry) -> Extent
-    requires { Opened img.now g }
-    ensures { result.0 ≡ index_of (free_extent (catalogue_of (view img.now))) }
-{
-    if let Lowest::At(e) = table::free_extent(img, g) {
-        return Extent(e as u64);
-    }
-    Extent(0)
 }
 
 // The k-th of the sectors that a span of n bytes touches, and the bytes of it that the span covers.
@@ -553,31 +498,32 @@ fn part_at(
     let place = spans::sector_at(img, g, i, held, next, s);
     Part {
         sector: place.0,
-        from: fields::most(offset, base) - base,
-        to: fields::least(offset + n, base + 512) - base,
+        from: offset.max(base) - base,
+        to: (offset + n).min(base + 512) - base,
         position: k,
     }
 }
 
-// A write of n bytes to file i, whose size is given, that has its answer: the sectors that the span covers partly are asked for.
-fn asking(img: &[u8], i: FileIndex, size: u64, offset: u64, n: u64, a: Changed) -> Writing
+// A write of n bytes that is begun: where a list follows, the sectors that the span covers partly are asked for.
+fn asking(img: &[u8], b: Begun, offset: u64, n: u64) -> Writing
     requires accepted { Accepted img.now }
-    requires spans { 0 < a.length → Spans (catalogue_of (view img.now)) i.0 size (offset + n) }
-    ensures { result ≡ write_asking a (cond (eqb a.length 0) [] (partly_covered (catalogue_of (view img.now)) i.0 offset n)) }
+    requires spans { Spans (catalogue_of (view img.now)) b.index.0 b.size (offset + n) }
+    ensures { result ≡ write_asking (record { verdict = done; length = b.length })
+        (cond (eqb b.length 0) [] (partly_covered (catalogue_of (view img.now)) b.index.0 offset n)) }
 {
-    if a.length == 0 {
-        return settled(a);
+    if b.length == 0 {
+        return settled(0);
     }
     let g = volume::geometry_in(img);
-    let extents = table::extents_for(g, size);
+    let held = table::extents_for(g, b.size);
     let next = next_extent(img, g);
-    let touched = (offset + n + 511) / 512 - offset / 512;
-    let first = part_at(img, g, i, extents, next, offset, n, 0);
+    let touched = touched_sectors(offset, n);
+    let first = part_at(img, g, b.index, held, next, offset, n, 0);
     if 1 < touched {
-        let last = part_at(img, g, i, extents, next, offset, n, touched - 1);
-        return asked_two(a, first, last);
+        let last = part_at(img, g, b.index, held, next, offset, n, touched - 1);
+        return wanting(b.length, partly(first), partly(last));
     }
-    asked_one(a, first)
+    wanting(b.length, partly(first), None)
 }
 
 // ---- T-11: write and resize on lent sectors
@@ -594,9 +540,10 @@ pub fn write_lent_in(
     ensures value { result ≡ in_volume write_lent img.now name.now offset bytes.now time (length list.old) }
     ensures list_after { list.new ≡ in_volume write_list img.now name.now offset bytes.now time list.old }
 {
-    let b = begin_write(img, name, offset, bytes, time, list);
-    let a = b.answer;
-    asking(img, b.index, b.size, offset, bytes.len() as u64, a)
+    match begin_write(img, name, offset, bytes, time, list) {
+        Ok(b) => asking(img, b, offset, bytes.len() as u64),
+        Err(r) => refused_writing(r),
+    }
 }
 
 pub fn resize_lent_in(img: &[u8], name: &[u8], size: u64, time: u64, list: &mut [u8]) -> Writing
@@ -604,12 +551,11 @@ pub fn resize_lent_in(img: &[u8], name: &[u8], size: u64, time: u64, list: &mut 
     ensures value { result ≡ in_volume resize_lent img.now name.now size time (length list.old) }
     ensures list_after { list.new ≡ in_volume resize_list img.now name.now size time list.old }
 {
-    let b = begin_resize(img, name, size, time, list);
-    let a = b.answer;
-    if size < b.size {
-        return settled(a);
+    match begin_resize(img, name, size, time, list) {
+        Ok(b) if size < b.size => settled(b.length),
+        Ok(b) => asking(img, b, b.size, size - b.size),
+        Err(r) => refused_writing(r),
     }
-    asking(img, b.index, b.size, b.size, size - b.size, a)
 }
 
 // ---- T-11: the sectors that were asked for
@@ -619,14 +565,10 @@ fn takes_write(w: Writing, n: usize, room: usize) -> bool
     ensures { result ≡ takes_write w n room }
 {
     let p = w.wanted;
-    if volume::is_asked(p.sector, n) {
-        if p.from <= p.to {
-            if p.to <= 512 {
-                return p.position < (room / lists::RECORD_SIZE) as u64;
-            }
-        }
-    }
-    false
+    volume::is_asked(p.sector, n)
+        && p.from <= p.to
+        && p.to <= 512
+        && p.position < (room / lists::RECORD_SIZE) as u64
 }
 
 // The bytes of a sector before and behind those that the span covers, put into its record.
@@ -637,48 +579,29 @@ fn complete(p: Part, bytes: &[u8], list: &mut [u8])
 {
     let at = p.position as usize * lists::RECORD_SIZE + lists::CONTENTS_START;
     let to = p.to as usize;
-    fields::move_bytes(bytes, 0, list, at, p.from as usize);
-    fields::move_bytes(bytes, to, list, at + to, 512 - to);
+    fields::copy_bytes(bytes, 0, list, at, p.from as usize);
+    fields::copy_bytes(bytes, to, list, at + to, 512 - to);
 }
 
-// The list's length once nothing is asked for any more.
-fn length_taken(last: Part, full: u64) -> u64
-    ensures { result ≡ cond (eqb last.sector 0) full 0 }
-{
-    if last.sector == 0 {
-        return full;
-    }
-    0
-}
-
+// The list's length is given once nothing is asked for any more.
 fn write_taken(w: Writing) -> Writing
     ensures { result ≡ write_taken w }
 {
-    let last = w.last;
     Writing {
         code: 0,
-        fault: w.fault,
-        place: w.place,
-        length: length_taken(last, w.full),
-        wanted: last,
-        last: no_part(),
-        full: w.full,
+        length: if w.last.sector == 0 { w.full } else { 0 },
+        wanted: w.last,
+        last: NO_PART,
+        ..w
     }
 }
 
 fn write_not_taken(w: Writing) -> Writing
     ensures { result ≡ write_not_taken w }
 {
-    let wanted = w.wanted;
-    let last = w.last;
     Writing {
-        code: 8,
-        fault: w.fault,
-        place: w.place,
-        length: w.length,
-        wanted,
-        last,
-        full: w.full,
+        code: Refusal::BadArgument.number(),
+        ..w
     }
 }
 
@@ -688,8 +611,7 @@ pub fn write_step(w: Writing, bytes: &[u8], list: &mut [u8]) -> Writing
     ensures list_after { list.new ≡ write_step_list w bytes.now list.old }
 {
     if takes_write(w, bytes.len(), list.len()) {
-        let p = w.wanted;
-        complete(p, bytes, list);
+        complete(w.wanted, bytes, list);
         return write_taken(w);
     }
     write_not_taken(w)

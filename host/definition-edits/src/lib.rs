@@ -135,14 +135,26 @@ fn copy_folder(from: &Path, to: &Path) {
     }
 }
 
-/// The definitions alone: `model` also has the layout's rules as code, whose contracts would fail before any statement does.
+/// What a source file declares: all but its `impl` blocks, each of which ends with the next brace at a line's start.
+fn declarations(code: &str) -> String {
+    let mut kept = String::new();
+    let mut rest = code;
+    while let Some(at) = rest.find("\nimpl ") {
+        kept.push_str(&rest[..at + 1]);
+        let block = &rest[at..];
+        let end = block.find("\n}\n").expect("an impl block ends");
+        rest = &block[end + 3..];
+    }
+    kept + rest
+}
+
+/// The definitions alone: `model` also has rules and numbers as code, whose contracts would fail before any statement does.
 fn copy_definitions(to: &Path, with_proofs: bool) {
     let model = repository().join("crates/model");
     copy_folder(&model.join("specs"), &to.join("specs"));
     fs::create_dir_all(to.join("src")).expect("a folder is made");
     let code = fs::read_to_string(model.join("src/lib.rt")).expect("the declarations are read");
-    let end = code.find("\nimpl ").unwrap_or(code.len());
-    fs::write(to.join("src/lib.rt"), &code[..end]).expect("the declarations are written");
+    fs::write(to.join("src/lib.rt"), declarations(&code)).expect("the declarations are written");
     if !with_proofs {
         return;
     }

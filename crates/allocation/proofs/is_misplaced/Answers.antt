@@ -1,48 +1,20 @@
--- `allocation::is_misplaced` meets its contract. Each return is a case of fault 25.
+-- `allocation::is_misplaced` meets its contract. Each test is one of fault 25's.
 use borrow.Author.Tests.{eq-eqb, ne_eqb, lt-ltb, le-ltb}
 use Rattle.model.specs.Disk.{view}
 use Rattle.allocation.proofs.Misplaced.{fault25-on}
 use Rattle.allocation.proofs.is_misplaced.Goals as goal
+use Rattle.allocation.proofs.is_misplaced.Goals.{then-f-g, else-f-g}
 
-pub returns-then-f-eq-FREE_FILE : goal.returns-then-f-eq-FREE_FILE
-returns-then-f-eq-FREE_FILE c =
-    let s = c in
-    let a = s.args in
-    rw (fault25-on (view a.img.now) a.g s.requires.opened.is a.e.0 s.requires.e_lt_extents, ← c.table_file-f.ensures.value, eq-eqb _ _ c.if-f-eq-FREE_FILE.true)
+pub returns-after-f-g : goal.returns-after-f-g
+returns-after-f-g c =
+    let a = c.args in
+    rw (fault25-on (view a.img.now) a.g c.requires.opened.is a.e.0 c.requires.e_lt_extents, ← c.table_file-f.ensures.value, ne_eqb _ _ c.if-f-ne-FREE_FILE.true)
+    (elim c.if-f-g.branch [
+      | then-f-g w ↦ rw (w.result-is, lt-ltb _ _ w.if-f-g.true, ← w.is_occupied.ensures)
+      | else-f-g w ↦ rw (w.result-is, le-ltb _ _ w.if-f-g.false)
+    ])
 
-pub returns-then-is_occupied : goal.returns-then-is_occupied
-returns-then-is_occupied c =
-    let s = c in
-    let a = s.args in
-    rw (
-      fault25-on (view a.img.now) a.g s.requires.opened.is a.e.0 s.requires.e_lt_extents,
-      ← c.table_file-f.ensures.value,
-      ne_eqb _ _ c.if-f-eq-FREE_FILE.false,
-      lt-ltb _ _ c.if-f-g.true,
-      ← c.is_occupied.ensures,
-      c.if-is_occupied.true,
-    )
-
-pub returns-then-f-g : goal.returns-then-f-g
-returns-then-f-g c =
-    let s = c in
-    let a = s.args in
-    rw (
-      fault25-on (view a.img.now) a.g s.requires.opened.is a.e.0 s.requires.e_lt_extents,
-      ← c.table_file-f.ensures.value,
-      ne_eqb _ _ c.if-f-eq-FREE_FILE.false,
-      lt-ltb _ _ c.if-f-g.true,
-      ← c.is_occupied.ensures,
-      c.if-is_occupied.false,
-    )
-
-pub returns : goal.returns
-returns c =
-    let s = c in
-    let a = s.args in
-    rw (
-      fault25-on (view a.img.now) a.g s.requires.opened.is a.e.0 s.requires.e_lt_extents,
-      ← c.table_file-f.ensures.value,
-      ne_eqb _ _ c.if-f-eq-FREE_FILE.false,
-      le-ltb _ _ c.if-f-g.false,
-    )
+pub returns-else-f-ne-FREE_FILE : goal.returns-else-f-ne-FREE_FILE
+returns-else-f-ne-FREE_FILE c =
+    let a = c.args in
+    rw (fault25-on (view a.img.now) a.g c.requires.opened.is a.e.0 c.requires.e_lt_extents, ← c.table_file-f.ensures.value, eq-eqb _ _ c.if-f-ne-FREE_FILE.false)

@@ -1,15 +1,11 @@
 -- `allocation::needed` meets its contract. A free entry needs none.
 use Rattle.allocation.specs.Marks.{needed}
-use native.Mathlib.Omega.{arith}
 use Rattle.allocation.proofs.needed.Goals as goal
 
-pub returns-then-is_occupied : goal.returns-then-is_occupied
+pub returns-then-is_occupied-clause-value : goal.returns-then-is_occupied-clause-value
 unfolding needed
-returns-then-is_occupied c = rw (← c.is_occupied.ensures, c.if-is_occupied.true, ← c.size_at.ensures) c.extents_for.ensures
+returns-then-is_occupied-clause-value c = rw (← c.is_occupied.ensures, c.if-is_occupied.true, ← c.size_at.ensures) c.extents_for.ensures.value
 
-pub returns : goal.returns
+pub returns-else-is_occupied-clause-value : goal.returns-else-is_occupied-clause-value
 unfolding needed
-returns c = record {
-  value = rw (← c.is_occupied.ensures, c.if-is_occupied.false);
-  upper_bound = omega arith;
-}
+returns-else-is_occupied-clause-value c = rw (← c.is_occupied.ensures, c.if-is_occupied.false)

@@ -1,31 +1,25 @@
--- `carry_out::has_other` meets its contract. The loop's invariant: the greatest byte is 0 exactly if every byte passed is.
-use Prim.Native.Nat.{ℕ, ◌+◌}
-use mathlib.Core.Path.{◌≡◌, refl, sym, ap, ◌∙◌}
-use mathlib.Core.Bool.{Bool, not, ◌&&◌}
-use native.Mathlib.Omega.{arith}
+-- `carry_out::has_other` meets its contract. The greatest byte is 0 exactly if every byte is.
+use Prim.Native.Nat.{ℕ, max}
+use mathlib.Core.Path.{◌≡◌, ap, ◌∙◌}
+use mathlib.Core.Bool.{not}
 use lib.Dec.{eqb}
-use lib.ListN.{get_or}
-use Rattle.model.specs.Search.{all_below}
-use Rattle.laws.proofs.Booleans.{max-zero}
-use Rattle.laws.proofs.Search.{all_below-more}
+use Rattle.std.specs.List.{fold}
+use Rattle.std.proofs.Common.{rules}
+use Rattle.std.proofs.lemmas.Iterator.{YieldsList-from_slice}
+use Rattle.std.proofs.lemmas.Iterator.Consumers.{fold_from_yields_List}
+use Rattle.model.specs.Bytes.{bytes_from}
+use Rattle.laws.proofs.Bytes.{get_or-bytes_from, length-bytes_from}
+use Rattle.laws.proofs.Search.{all_below-ext}
+use Rattle.fields.proofs.Slices.{part, greatest-zero, zero_at}
 use Rattle.carry_out.proofs.has_other.Goals as goal
-use Rattle.carry_out.proofs.has_other.Invariants.{zero_at}
-
-pub loop-i-init : goal.loop-i-init
-unfolding all_below
-loop-i-init c = (omega arith, refl)
-
-pub loop-i-preserved : goal.loop-i-preserved
-loop-i-preserved c =
-    let l = c.loop-i in
-    let a = c.args in
-    let x = get_or a.list.now (a.at + l.i) 0 in (
-      omega arith,
-      ap (λ (n : ℕ). eqb n 0) c.greater-most.ensures ∙ max-zero l.most x ∙ ap (λ (q : Bool). eqb x 0 && q) l.invariant.1 ∙ sym (all_below-more (zero_at a.list.now a.at) l.i),
-    )
 
 pub returns : goal.returns
 returns c =
-    let l = c.loop-i in
-    let e : l.i ≡ 512 = omega arith in
-    ap not (rw e at l.invariant.1)
+    let list = c.args.list.now in
+    let at = c.args.at in
+    let bytes = bytes_from list at 512 in
+    let greatest : c.fold.result ≡ fold max 0 bytes =
+    fold_from_yields_List _ max 0 _ c.fold.ensures.ran (YieldsList-from_slice bytes (c.iter.ensures.rest ∙ part list at 512 c.requires)) (λ a x b q k. search rules) in
+    ap not
+    (ap (λ (n : ℕ). eqb n 0) greatest ∙ greatest-zero bytes
+    ∙ rw (length-bytes_from list at 512) (all_below-ext (zero_at bytes) _ 512 (λ b l. ap (λ (x : ℕ). eqb x 0) (get_or-bytes_from list at 512 b l))))

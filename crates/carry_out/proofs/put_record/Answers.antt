@@ -6,30 +6,20 @@ use lib.ListN.{length}
 use Rattle.carry_out.proofs.Laws.{sector-inside, barrier-stored, sector-stored}
 use Rattle.carry_out.proofs.put_record.Goals as goal
 
-pub returns-then-s : goal.returns-then-s
-returns-then-s c =
-    let a = c.args in
-    barrier-stored a.list.now a.k c.be64-s.result c.be64-s.ensures a.img.now c.if-s.true
-
 pub overflow_mul-s : goal.overflow_mul-s
 overflow_mul-s c =
     let a = c.args in
-    let inside = sector-inside a.list.now a.k c.be64-s.result c.be64-s.ensures (length a.img.now / 512) c.if-s.false
-    c.requires.k_value in
+    let inside = sector-inside a.list.now a.k c.be64-s.result c.be64-s.ensures (length a.img.now / 512) c.if-s.true c.requires.k_value in
     omega arith
 
-pub copy_sector-requires : goal.copy_sector-requires
-copy_sector-requires c =
+pub copy_sector-requires-clause-at_in_bounds : goal.copy_sector-requires-clause-at_in_bounds
+copy_sector-requires-clause-at_in_bounds c =
     let a = c.args in
-    let inside = sector-inside a.list.now a.k c.be64-s.result c.be64-s.ensures (length a.img.now / 512) c.if-s.false
-    c.requires.k_value in record {
-      from_in_bounds = omega arith;
-      at_in_bounds = omega arith;
-    }
+    let inside = sector-inside a.list.now a.k c.be64-s.result c.be64-s.ensures (length a.img.now / 512) c.if-s.true c.requires.k_value in
+    omega arith
 
-pub returns : goal.returns
-returns c =
-    let a = c.args in
-    c.copy_sector.ensures
-    ∙ sector-stored a.list.now a.k c.be64-s.result c.be64-s.ensures a.img.now
-    c.if-s.false
+pub returns-then-s : goal.returns-then-s
+returns-then-s c = c.copy_sector.ensures ∙ sector-stored c.args.list.now c.args.k c.be64-s.result c.be64-s.ensures c.args.img.now c.if-s.true
+
+pub returns-else-s : goal.returns-else-s
+returns-else-s c = barrier-stored c.args.list.now c.args.k c.be64-s.result c.be64-s.ensures c.args.img.now c.if-s.false

@@ -6,34 +6,32 @@ use Rattle.model.specs.Lent.{lent_length}
 use Rattle.model.specs.Opened.{volume_length}
 use Rattle.laws.proofs.Judged.{judged-own, lent-accepted}
 use Rattle.write.proofs.Lent.{refused-write-lent, same-write-lent, same-write-list}
-use Rattle.changes.proofs.Lengths.{number_is}
+use Rattle.changes.proofs.Lengths.{done-number, refusing}
 use Rattle.changes.proofs.write_lent.Goals as goal
 
 pub write_lent_in-requires : goal.write_lent_in-requires
 write_lent_in-requires c =
     let a = c.args in
-    lent-accepted a.front.now a.count (number_is c.judge_lent-v.ensures c.if-v-eq0.true)
+    lent-accepted a.front.now a.count (done-number c.in-Ok.ensures)
 
-pub returns-then-v-eq0 : goal.returns-then-v-eq0
-returns-then-v-eq0 c =
-    let j = c in
-    let a = j.args in
+pub returns-in-Ok : goal.returns-in-Ok
+returns-in-Ok c =
+    let a = c.args in
     let d = view a.front.now in
     let len = lent_length (length a.front.now) a.count d in
-    let e = judged-own len d (number_is j.judge_lent-v.ensures j.if-v-eq0.true) in
-    let k = j.write_lent_in.ensures in record {
+    let e = judged-own len d (done-number c.in-Ok.ensures) in
+    let k = c.write_lent_in.ensures in record {
       value = k.value ∙ same-write-lent (volume_length d) len d e a.name.now a.offset a.bytes.now a.time (length a.list.now);
       list_after = k.list_after ∙ same-write-list (volume_length d) len d e a.name.now a.offset a.bytes.now a.time a.list.now;
     }
 
-pub returns : goal.returns
-returns c =
+pub returns-in-Err : goal.returns-in-Err
+returns-in-Err c =
     let a = c.args in
     let d = view a.front.now in
-    let v = c.judge_lent-v in
     let h =
     refused-write-lent (lent_length (length a.front.now) a.count d) d a.name.now a.offset a.bytes.now a.time a.list.now
-    v.result v.ensures c.if-v-eq0.false in record {
+    _ c.in-Err.ensures (refusing c.in-Err.refusal) in record {
       value = c.refused_writing.ensures ∙ h.0;
       list_after = h.1;
     }

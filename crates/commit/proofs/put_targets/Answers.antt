@@ -11,17 +11,14 @@ use Rattle.commit.proofs.put_targets.Goals as goal
 
 pub loop-j-init : goal.loop-j-init
 unfolding staged_targets tabulate
-loop-j-init c = (omega arith, rw add-zero (emitted-none _ _), refl)
+loop-j-init c = rw add-zero (emitted-none _ _)
 
 pub loop-j-preserved : goal.loop-j-preserved
-loop-j-preserved c =
-    let b = c in
-    let a = b.args in
-    (search rules, targets-more a.from a.numbers.now b.loop-j.j b.loop-j.invariant.1 (search rules) c.put_target.ensures, search rules)
+loop-j-preserved c = targets-more c.args.from c.args.numbers.now c.loop-j.j c.loop-j.invariant (search rules) c.put_target.ensures
 
 pub returns : goal.returns
 returns c =
     let e : c.loop-j.j ≡ c.args.n = omega arith in record {
-      emitted = rw (← e) c.loop-j.invariant.1;
+      emitted = rw (← e) c.loop-j.invariant;
       value = refl;
     }

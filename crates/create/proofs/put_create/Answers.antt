@@ -1,36 +1,24 @@
 -- `create::put_create` meets its contract. The two targets are those of the plan: the root, and the lowest free entry.
-use Prim.Native.Nat.{◌≤◌}
-use native.Mathlib.Omega.{arith}
+use Rattle.std.proofs.Common.{◌<◌, arith}
+use Rattle.model.specs.Disk.{view}
 use Rattle.model.specs.Create.{create_plan}
 use Rattle.commit.proofs.Decided.{edition-is}
 use Rattle.create.proofs.Laws.{free-below}
 use Rattle.create.proofs.put_create.Goals as goal
 
-pub sector-t-requires : goal.sector-t-requires
-sector-t-requires c =
-    let s = c in
-    let h : c.index_of-i.result ≤ s.args.g.files = rw (c.index_of-i.ensures, c.free_entry.ensures, s.requires.opened.is) (free-below _) in
+pub sector-requires : goal.sector-requires
+sector-requires c =
+    let h : c.args.i.0 < c.args.g.files = rw c.requires.opened.is (free-below (view c.args.img.now) c.args.i.0 c.requires.entry) in
     omega arith
-
-pub put_pair-requires : goal.put_pair-requires
-put_pair-requires c = let s = c in record {
-  stages_of = s.requires.stages_of;
-  record_size_in_bounds = s.requires.record_size_in_bounds;
-  opened = s.requires.opened;
-}
 
 pub returns : goal.returns
 unfolding create_plan
 returns c =
-    let s = c in
-    let n = s in
-    let a = n in
     rw (
-      ← s.free_entry.ensures,
-      ← s.index_of-i.ensures,
-      ← s.sector-t.ensures,
-      edition-is a.args.img.now a.args.g a.requires.opened.is,
-      ← n.updated_root-a.ensures,
-      ← n.new-b.ensures,
+      c.requires.entry,
+      ← c.sector.ensures,
+      edition-is c.args.img.now c.args.g c.requires.opened.is,
+      ← c.updated_root-root.ensures,
+      ← c.new-entry.ensures,
     )
-    c.put_pair.ensures
+    c.put_targets_alone.ensures

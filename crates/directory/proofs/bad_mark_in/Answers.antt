@@ -1,12 +1,8 @@
--- `directory::bad_mark_in` meets its contract. The mark is 0, or it is compared with 65535.
-use borrow.Author.Tests.{eq-eqb, ne_eqb}
+-- `directory::bad_mark_in` meets its contract.
+use Rattle.std.proofs.Common.{rules, tests}
 use Rattle.model.specs.Entry.{is_occupied}
 use Rattle.directory.proofs.bad_mark_in.Goals as goal
 
-pub returns-then-mark-eq-FREE_MARK : goal.returns-then-mark-eq-FREE_MARK
+pub returns-then-mark-ne-FREE_MARK : goal.returns-then-mark-ne-FREE_MARK
 unfolding is_occupied
-returns-then-mark-eq-FREE_MARK c = rw (← c.mark-mark.ensures, eq-eqb _ _ c.if-mark-eq-FREE_MARK.true)
-
-pub returns : goal.returns
-unfolding is_occupied
-returns c = rw (← c.mark-mark.ensures, ne_eqb _ _ c.if-mark-eq-FREE_MARK.false)
+returns-then-mark-ne-FREE_MARK c = search (rules, tests)

@@ -4,6 +4,4 @@ use Rattle.laws.proofs.Catalogue.{named-on}
 use Rattle.directory.proofs.file_named.Goals as goal
 
 pub returns : goal.returns
-returns c =
-    let s = c in
-    rw (named-on (view s.args.img.now) s.args.name.now, ← s.requires.opened.is) c.file_named_between.ensures
+returns c = rw (named-on (view c.args.img.now) c.args.name.now, ← c.requires.opened.is) c.file_named_between.ensures

@@ -1,34 +1,22 @@
--- `directory::has_id` meets its contract. The loop's invariant: none of the entries passed is occupied and has the id.
-use borrow.Author.Rules.{rules}
-use mathlib.Core.Path.{◌≡◌, refl, sym, ◌∙◌}
-use native.Mathlib.Omega.{arith}
-use Rattle.model.specs.Search.{any_below}
+-- `directory::has_id` meets its contract.
+use Rattle.std.proofs.Common.{rules, tests}
+use native.Mathlib.Nat.{zero-add, sub-zero}
+use Prim.Native.Nat.{ℕ}
+use mathlib.Core.Bool.{Bool, ◌&&◌}
+use mathlib.Core.List.{List}
+use lib.Dec.{eqb}
+use Rattle.model.specs.Bytes.{number_in}
+use Rattle.model.specs.Geometry.{entry_at}
 use Rattle.model.specs.Disk.{view}
-use Rattle.laws.proofs.Search.{any_below-more, any_below-true}
+use Rattle.model.specs.Entry.{entry_field, is_occupied}
+use Rattle.laws.proofs.Ranges.{any-below}
 use Rattle.directory.proofs.Laws.{id-on}
 use Rattle.directory.proofs.has_id.Goals as goal
-use Rattle.directory.proofs.has_id.Invariants.{hit}
 
-pub loop-i-init : goal.loop-i-init
-unfolding any_below
-loop-i-init c = (search rules, refl)
-
-pub returns-then-has_id_at : goal.returns-then-has_id_at
-returns-then-has_id_at c =
-    let b = c in
-    let s = b in
-    let a = s.args in
-    rw (id-on (view a.img.now) a.id, ← s.requires.is)
-    (sym (any_below-true (hit a.img.now a.id) b.loop-i.i a.g.files (search rules) (sym c.has_id_at.ensures ∙ c.if-has_id_at.true)))
-
-pub loop-i-preserved : goal.loop-i-preserved
-loop-i-preserved c =
-    let b = c in
-    (search rules, rw (any_below-more, ← c.has_id_at.ensures, c.if-has_id_at.false) b.loop-i.invariant.1)
+abbrev hit : List ℕ → ℕ → ℕ → Bool
+hit img id i = is_occupied (view img (entry_at i)) && eqb (number_in (view img (entry_at i)) entry_field.id) id
 
 pub returns : goal.returns
 returns c =
-    let s = c in
-    let a = s.args in
-    let e : c.loop-i.i ≡ a.g.files = omega arith in
-    rw (id-on (view a.img.now) a.id, ← s.requires.is, ← e) (sym c.loop-i.invariant.1)
+    let found = any-below _ _ _ _ (hit c.args.img.now c.args.id) c.any.ensures.ran (λ x q k. search (rules, tests)) (λ x q k. search (rules, tests)) in
+    rw (id-on (view c.args.img.now) c.args.id, ← c.requires.is) (simp (zero-add, sub-zero) at found)

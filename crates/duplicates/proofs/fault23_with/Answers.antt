@@ -1,18 +1,11 @@
--- `duplicates::fault23_with` meets its contract. As `fault23`.
-use mathlib.Core.Path.{sym, ◌∙◌}
+-- `duplicates::fault23_with` meets its contract. Fault 23 is a repeated name; without fault 22 every name ends in its sector.
+use mathlib.Core.Path.{◌∙◌}
 use Rattle.model.specs.Disk.{view}
 use Rattle.duplicates.proofs.Keys.{names-faulty, names-fit}
 use Rattle.duplicates.proofs.fault23_with.Goals as goal
 
-pub first_faulty_with-requires : goal.first_faulty_with-requires
-first_faulty_with-requires c =
-    let s = c in record {
-      opened = s.requires.opened;
-      keys_fit = rw s.requires.opened.is (names-fit (view s.args.img.now) (rw s.requires.opened.is at s.requires.files_value));
-      files_in_bounds = s.requires.files_in_bounds;
-    }
+pub first_faulty_with-requires-clause-keys_fit : goal.first_faulty_with-requires-clause-keys_fit
+first_faulty_with-requires-clause-keys_fit c = names-fit (view c.args.img.now) c.args.g c.requires.opened.is c.requires.files_value
 
 pub returns : goal.returns
-returns c =
-    let s = c in
-    rw s.requires.opened.is (rw s.requires.opened.is at c.first_faulty_with.ensures ∙ sym (names-faulty (view s.args.img.now)))
+returns c = c.first_faulty_with.ensures ∙ names-faulty (view c.args.img.now) c.args.g c.requires.opened.is

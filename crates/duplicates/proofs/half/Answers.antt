@@ -3,9 +3,6 @@ use borrow.Author.Rules.{rules}
 use Rattle.duplicates.specs.Keys.{half_at}
 use Rattle.duplicates.proofs.half.Goals as goal
 
-pub returns : goal.returns
+pub returns-clause-value : goal.returns-clause-value
 unfolding half_at
-returns c = record {
-  value = search rules;
-  upper_bound = search rules;
-}
+returns-clause-value c = search rules

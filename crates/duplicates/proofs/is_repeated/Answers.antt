@@ -15,27 +15,25 @@ use Rattle.duplicates.proofs.is_repeated.Goals as goal
 
 pub loop-j-init : goal.loop-j-init
 loop-j-init c =
-    let s = c in
-    let a = s.args in
+    let a = c.args in
     let n = length a.chains.now / 2 in
-    let only = shares-member a.key (view a.img.now) n a.i (a.place / 256) (ap (λ p. p / 256) s.requires.place_value) in
-    let C = s.requires.chained.chains.chain (a.place / 256) s.requires.place_in_bounds.0 in
+    let only = shares-member a.key (view a.img.now) n a.i (a.place / 256) (ap (λ p. p / 256) c.requires.place_value) in
+    let C = c.requires.chained.chains.chain (a.place / 256) c.requires.place_in_bounds.0 in
     rw c.last-j.ensures.value (walk_start only C)
 
 pub is_shared-requires : goal.is_shared-requires
 is_shared-requires c =
-    let s = c in
-    let a = s.args in
+    let a = c.args in
     let d = view a.img.now in
     let n = length a.chains.now / 2 in
     let j = c.loop-j.j in
     let more : 0 < j = omega (arith, c.loop-j-test.true) in
     let below : j - 1 < a.i = omega (arith, c.loop-j.invariant.within) in record {
-      i_in_bounds = s.requires.i_in_bounds;
+      i_in_bounds = c.requires.i_in_bounds;
       j_in_bounds = omega arith;
-      i_value = s.requires.i_value;
-      link_value = λ e. s.requires.chained.tags (j - 1) below (and_left (is_occupied (d (entry_at (j - 1)))) _ e)
-          ∙ ap (λ p. p % 256) (shares-place a.key d n a.i (j - 1) e ∙ sym s.requires.place_value);
+      i_value = c.requires.i_value;
+      link_value = λ e. c.requires.chained.tags (j - 1) below (and_left (is_occupied (d (entry_at (j - 1)))) _ e)
+          ∙ ap (λ p. p % 256) (shares-place a.key d n a.i (j - 1) e ∙ sym c.requires.place_value);
     }
 
 pub returns-then-is_shared : goal.returns-then-is_shared
@@ -44,20 +42,18 @@ returns-then-is_shared c = sym (walk-found c.loop-j.invariant c.loop-j-test.true
 
 pub loop-j-smaller : goal.loop-j-smaller
 loop-j-smaller c =
-    let s = c in
-    let a = s.args in
+    let a = c.args in
     let n = length a.chains.now / 2 in
-    let only = shares-member a.key (view a.img.now) n a.i (a.place / 256) (ap (λ p. p / 256) s.requires.place_value) in
-    let C = s.requires.chained.chains.chain (a.place / 256) s.requires.place_in_bounds.0 in
+    let only = shares-member a.key (view a.img.now) n a.i (a.place / 256) (ap (λ p. p / 256) c.requires.place_value) in
+    let C = c.requires.chained.chains.chain (a.place / 256) c.requires.place_in_bounds.0 in
     walk-falls only C c.loop-j.invariant c.loop-j-test.true
 
 pub loop-j-preserved : goal.loop-j-preserved
 loop-j-preserved c =
-    let s = c in
-    let a = s.args in
+    let a = c.args in
     let n = length a.chains.now / 2 in
-    let only = shares-member a.key (view a.img.now) n a.i (a.place / 256) (ap (λ p. p / 256) s.requires.place_value) in
-    let C = s.requires.chained.chains.chain (a.place / 256) s.requires.place_in_bounds.0 in
+    let only = shares-member a.key (view a.img.now) n a.i (a.place / 256) (ap (λ p. p / 256) c.requires.place_value) in
+    let C = c.requires.chained.chains.chain (a.place / 256) c.requires.place_in_bounds.0 in
     walk-next only C c.loop-j.invariant c.loop-j-test.true (sym c.is_shared.ensures ∙ c.if-is_shared.false)
 
 pub returns : goal.returns

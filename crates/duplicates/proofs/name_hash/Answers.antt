@@ -1,5 +1,4 @@
 -- `duplicates::name_hash` meets its contract. The loop's invariant: `sum` is that of the first i words.
-use borrow.Author.Rules.{rules}
 use Prim.Native.Nat.{◌/◌}
 use mathlib.Core.Path.{◌≡◌, refl, ◌∙◌}
 use borrow.Author.Tests.{lt-ltb, le-ltb}
@@ -15,12 +14,12 @@ returns-then-n-lt8 c = c.mixed.ensures ∙ rw (lt-ltb _ _ c.if-n-lt8.true, ← c
 
 pub loop-i-init : goal.loop-i-init
 unfolding words_sum
-loop-i-init c = (search rules, refl, search rules)
+loop-i-init c = (refl, omega arith)
 
 pub loop-i-preserved : goal.loop-i-preserved
 loop-i-preserved c =
     let l = c.loop-i in
-    (search rules, rw (words_more, ← l.invariant.1, ← c.part-sum.ensures.value), omega (arith, l.invariant.2, c.part-sum.ensures.upper_bound))
+    (rw (words_more, ← l.invariant.0, ← c.part-sum.ensures.value), omega (arith, l.invariant.1, c.part-sum.ensures.upper_bound))
 
 pub returns : goal.returns
 unfolding name_hash
@@ -28,4 +27,4 @@ returns c =
     let l = c.loop-i in
     let n = length c.args.name.now in
     let e : l.i ≡ n / 8 = omega arith in
-    c.mixed-2.ensures ∙ rw (le-ltb n 8 (omega arith), ← e, ← l.invariant.1, e, ← c.part.ensures.value)
+    c.mixed-2.ensures ∙ rw (le-ltb n 8 (omega arith), ← e, ← l.invariant.0, e, ← c.part.ensures.value)

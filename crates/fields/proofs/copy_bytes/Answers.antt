@@ -1,22 +1,11 @@
--- `fields::copy_bytes` meets its contract. The loop's invariant: the first i bytes are copied.
-use mathlib.Core.Path.{◌≡◌, refl, sym}
-use native.Mathlib.Omega.{arith}
-use lib.ListN.{length-set}
+-- `fields::copy_bytes` meets its contract.
 use Rattle.model.specs.Bytes.{bytes_from}
-use Rattle.laws.proofs.Bytes.{bytes_from-more, put-snoc, put-nil, length-bytes_from}
+use Rattle.laws.proofs.Bytes.{length-bytes_from}
+use Rattle.fields.proofs.Slices.{part, overwritten}
 use Rattle.fields.proofs.copy_bytes.Goals as goal
-
-pub loop-i-init : goal.loop-i-init
-unfolding bytes_from
-loop-i-init c = (omega arith, sym (put-nil _ _), refl)
-
-pub loop-i-preserved : goal.loop-i-preserved
-loop-i-preserved c = (omega arith, rw (bytes_from-more, put-snoc, length-bytes_from, ← c.loop-i.invariant.1), simp length-set c.loop-i.invariant.2)
-
-pub shape_of-dst : goal.shape_of-dst
-shape_of-dst c = c.loop-i.invariant.2
 
 pub returns : goal.returns
 returns c =
-    let e : c.loop-i.i ≡ c.args.n = omega arith in
-    rw (← e) c.loop-i.invariant.1
+    let a = c.args in
+    rw (c.copy_from_slice.ensures.after, part a.src.now a.from a.n c.requires.from_in_bounds)
+    (overwritten a.dst.now a.at a.n (bytes_from a.src.now a.from a.n) (length-bytes_from a.src.now a.from a.n) c.requires.at_in_bounds)

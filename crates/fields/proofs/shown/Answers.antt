@@ -13,7 +13,8 @@ use Rattle.model.specs.Disk.{view}
 use Rattle.laws.proofs.Bytes.{length-bytes_from, length-put, bytes_from-all, bytes_from-ext, get_or-bytes_from, get_or-put-same, get_or-put-other, zeros-at}
 use Rattle.fields.proofs.shown.Goals as goal
 
-filled : (z s : List ℕ) (at from n : ℕ) → length z ≡ 512 → ((p : ℕ) → get_or z p 0 ≡ 0) → from ≡ min at (length s) → n ≡ min 512 (length s - from) → put z 0 (bytes_from s from n) ≡ bytes_from s at 512
+filled : (z s : List ℕ) (at from n : ℕ) → length z ≡ 512 → ((p : ℕ) → get_or z p 0 ≡ 0) → from ≡ min at (length s) → n ≡ min (length s - from) 512
+    → put z 0 (bytes_from s from n) ≡ bytes_from s at 512
 filled z s at from n l zero f m =
     sym (bytes_from-all (put z 0 (bytes_from s from n)) 512 (length-put z 0 (bytes_from s from n) ∙ l))
     ∙ bytes_from-ext (put z 0 (bytes_from s from n)) s 0 at 512 (λ i h. same i h (ltb i n) refl)
@@ -34,4 +35,4 @@ pub returns : goal.returns
 unfolding view
 returns c =
     c.copy_bytes.ensures
-    ∙ filled _ _ _ _ _ refl (zeros-at 512) c.least-from.ensures c.least-n.ensures
+    ∙ filled _ _ _ _ _ refl (zeros-at 512) c.min-from.ensures c.min-n.ensures

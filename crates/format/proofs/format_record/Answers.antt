@@ -6,45 +6,38 @@ use Rattle.format.proofs.Laws.{refused-8, refused-9, refused-14, accepted, bound
 use Rattle.format.proofs.format_record.Goals as goal
 
 pub record_count-requires : goal.record_count-requires
-record_count-requires c = bounded _ _ _ (sym c.can_format.ensures ∙ c.if-can_format.true) (search rules)
+record_count-requires c = bounded _ _ _ (sym c.can_format.ensures ∙ c.if-not-can_format.false) (search rules)
 
-pub put_record-requires : goal.put_record-requires
-put_record-requires c = record {
-  bounded = bounded _ _ _ (sym c.can_format.ensures ∙ c.if-can_format.true) (search rules);
-  p_bound = search rules;
-  record_size_in_bounds = search rules;
-}
+pub put_record-requires-clause-bounded : goal.put_record-requires-clause-bounded
+put_record-requires-clause-bounded c = bounded _ _ _ (sym c.can_format.ensures ∙ c.if-not-can_format.false) (search rules)
 
-pub returns-then-out-ge-RECORD_SIZE : goal.returns-then-out-ge-RECORD_SIZE
-returns-then-out-ge-RECORD_SIZE c =
+pub returns-then-not-can_format : goal.returns-then-not-can_format
+returns-then-not-can_format c =
     let s = c.args in
     let a : Format = record { sectors = s.sectors; files = s.files; edition = s.edition; id = s.id; mode = s.mode; time = s.time } in
     let g = c.geometry_for-g in
-    let r = accepted a s.position s.out.now g.result g.ensures
-    (sym c.can_format.ensures ∙ c.if-can_format.true) (search rules)
-    (search rules) in record {
+    let r = refused-8 a s.position s.out.now g.result g.ensures (sym c.can_format.ensures ∙ c.if-not-can_format.true) in record {
       value = r.0;
-      out_after = c.put_record.ensures a refl refl refl ∙ r.1;
-    }
-
-pub returns-then-position-record_count : goal.returns-then-position-record_count
-returns-then-position-record_count c =
-    let s = c.args in
-    let a : Format = record { sectors = s.sectors; files = s.files; edition = s.edition; id = s.id; mode = s.mode; time = s.time } in
-    let g = c.geometry_for-g in
-    let r = refused-14 a s.position s.out.now g.result g.ensures (sym c.can_format.ensures ∙ c.if-can_format.true)
-    (search rules) (search rules) in record {
-      value = c.refused.ensures ∙ r.0;
       out_after = r.1;
     }
 
-pub returns-then-can_format : goal.returns-then-can_format
-returns-then-can_format c =
+pub returns-then-record_count-position : goal.returns-then-record_count-position
+returns-then-record_count-position c =
     let s = c.args in
     let a : Format = record { sectors = s.sectors; files = s.files; edition = s.edition; id = s.id; mode = s.mode; time = s.time } in
     let g = c.geometry_for-g in
-    let r = refused-9 a s.position s.out.now g.result g.ensures (sym c.can_format.ensures ∙ c.if-can_format.true) (search rules) in record {
-      value = c.refused-then-can_format.ensures ∙ r.0;
+    let r = refused-9 a s.position s.out.now g.result g.ensures (sym c.can_format.ensures ∙ c.if-not-can_format.false) (search rules) in record {
+      value = r.0;
+      out_after = r.1;
+    }
+
+pub returns-then-out-lt-RECORD_SIZE : goal.returns-then-out-lt-RECORD_SIZE
+returns-then-out-lt-RECORD_SIZE c =
+    let s = c.args in
+    let a : Format = record { sectors = s.sectors; files = s.files; edition = s.edition; id = s.id; mode = s.mode; time = s.time } in
+    let g = c.geometry_for-g in
+    let r = refused-14 a s.position s.out.now g.result g.ensures (sym c.can_format.ensures ∙ c.if-not-can_format.false) (search rules) (search rules) in record {
+      value = r.0;
       out_after = r.1;
     }
 
@@ -53,7 +46,7 @@ returns c =
     let s = c.args in
     let a : Format = record { sectors = s.sectors; files = s.files; edition = s.edition; id = s.id; mode = s.mode; time = s.time } in
     let g = c.geometry_for-g in
-    let r = refused-8 a s.position s.out.now g.result g.ensures (sym c.can_format.ensures ∙ c.if-can_format.false) in record {
-      value = c.refused-2.ensures ∙ r.0;
-      out_after = r.1;
+    let r = accepted a s.position s.out.now g.result g.ensures (sym c.can_format.ensures ∙ c.if-not-can_format.false) (search rules) (search rules) in record {
+      value = r.0;
+      out_after = c.put_record.ensures a refl refl refl ∙ r.1;
     }

@@ -4,4 +4,4 @@ use Rattle.format.proofs.geometry_for.Goals as goal
 
 pub returns : goal.returns
 unfolding geometry_for
-returns c = rw (← c.data_room-room.ensures, ← c.extent_sectors_for-s.ensures.value)
+returns c = rw (c.from.ensures, ← c.data_room-room.ensures, ← c.extent_sectors_for-s.ensures.value)

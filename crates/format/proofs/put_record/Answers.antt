@@ -1,5 +1,5 @@
 -- `format::put_record` meets its contract. Each return is a case of the definition.
-use Prim.Native.Nat.{◌+◌}
+use Prim.Native.Nat.{◌+◌, ◌-◌}
 use mathlib.Core.Path.{◌≡◌}
 use native.Mathlib.Omega.{arith}
 use borrow.Author.Tests.{eq-eqb, ne_eqb, lt-ltb, le-ltb}
@@ -17,41 +17,35 @@ returns-then-p-eq1 c = λ a i m t. rw (ne_eqb _ _ c.if-p-eq0.false, eq-eqb _ _ c
 pub returns-then-p-eq2 : goal.returns-then-p-eq2
 unfolding format_record
 returns-then-p-eq2 c = λ a i m t.
-    let d = c in
-    rw (ne_eqb _ _ d.if-p-eq0.false, ne_eqb _ _ d.if-p-eq1.false, eq-eqb _ _ d.if-p-eq2.true, i, m, t, ← c.new-then-p-eq2.ensures)
+    rw (ne_eqb _ _ c.if-p-eq0.false, ne_eqb _ _ c.if-p-eq1.false, eq-eqb _ _ c.if-p-eq2.true, i, m, t, ← c.new-then-p-eq2.ensures)
     c.put_sector-then-p-eq2.ensures
 
-pub returns-then-p-g : goal.returns-then-p-g
+pub returns-then-p-table : goal.returns-then-p-table
 unfolding format_record
-returns-then-p-g c = λ a i m t.
-    let d = c in
-    let e = d in
-    let f = e in
+returns-then-p-table c = λ a i m t.
     rw (
-      ne_eqb _ _ f.if-p-eq0.false,
-      ne_eqb _ _ f.if-p-eq1.false,
-      ne_eqb _ _ f.if-p-eq2.false,
-      lt-ltb _ _ e.if-p-g.true,
-      ← d.sector.ensures,
+      ne_eqb _ _ c.if-p-eq0.false,
+      ne_eqb _ _ c.if-p-eq1.false,
+      ne_eqb _ _ c.if-p-eq2.false,
+      lt-ltb _ _ c.if-p-table.true,
+      ← c.sector.ensures,
       ← c.zero_sector.ensures,
     )
-    c.put_sector-then-p-g.ensures
+    c.put_sector-then-p-table.ensures
 
 pub returns-then-p-table_end : goal.returns-then-p-table_end
 unfolding format_record
 returns-then-p-table_end c = λ a i m t.
-    let d = c in
-    let e = d in
-    let f = e in
-    let h = f in
+    let at : c.args.p - 3 - c.args.g.files ≡ c.args.p - (3 + c.args.g.files) = omega arith in
     rw (
-      ne_eqb _ _ h.if-p-eq0.false,
-      ne_eqb _ _ h.if-p-eq1.false,
-      ne_eqb _ _ h.if-p-eq2.false,
-      le-ltb _ _ f.if-p-g.false,
-      ← e.table_sectors.ensures,
-      lt-ltb _ _ e.if-p-table_end.true,
-      ← d.table_sector.ensures,
+      ne_eqb _ _ c.if-p-eq0.false,
+      ne_eqb _ _ c.if-p-eq1.false,
+      ne_eqb _ _ c.if-p-eq2.false,
+      le-ltb _ _ c.if-p-table.false,
+      ← c.table_sectors.ensures,
+      lt-ltb _ _ c.if-p-table_end.true,
+      at,
+      ← c.table_sector.ensures,
       ← c.free_table_sector.ensures,
     )
     c.put_sector-then-p-table_end.ensures
@@ -59,39 +53,30 @@ returns-then-p-table_end c = λ a i m t.
 pub returns-then-p-table_end-2 : goal.returns-then-p-table_end-2
 unfolding format_record
 returns-then-p-table_end-2 c = λ a i m t.
-    let e = c in
-    let f = e in
-    let h = f in
-    let s = h in
-    let last : s.args.p ≡ 4 + s.args.g.files + e.table_sectors.result = omega arith in
+    let last : c.args.p ≡ 4 + c.args.g.files + c.table_sectors.result = omega arith in
     rw (
-      ne_eqb _ _ h.if-p-eq0.false,
-      ne_eqb _ _ h.if-p-eq1.false,
-      ne_eqb _ _ h.if-p-eq2.false,
-      le-ltb _ _ f.if-p-g.false,
-      ← e.table_sectors.ensures,
-      le-ltb _ _ e.if-p-table_end.false,
+      ne_eqb _ _ c.if-p-eq0.false,
+      ne_eqb _ _ c.if-p-eq1.false,
+      ne_eqb _ _ c.if-p-eq2.false,
+      le-ltb _ _ c.if-p-table.false,
+      ← c.table_sectors.ensures,
+      le-ltb _ _ c.if-p-table_end.false,
       eq-eqb _ _ last,
       ← c.new-then-p-table_end-2.ensures,
     )
     c.put_sector-then-p-table_end-2.ensures
 
-pub returns : goal.returns
+pub returns-else-p-table_end-2 : goal.returns-else-p-table_end-2
 unfolding format_record
-returns c = λ a i m t.
-    let d = c in
-    let e = d in
-    let f = e in
-    let h = f in
-    let s = h in
-    let last : s.args.p ≡ 4 + s.args.g.files + e.table_sectors.result → ⊥ = λ q. d.if-p-table_end-2.false (omega arith) in
+returns-else-p-table_end-2 c = λ a i m t.
+    let last : c.args.p ≡ 4 + c.args.g.files + c.table_sectors.result → ⊥ = λ q. c.if-p-table_end-2.false (omega arith) in
     rw (
-      ne_eqb _ _ h.if-p-eq0.false,
-      ne_eqb _ _ h.if-p-eq1.false,
-      ne_eqb _ _ h.if-p-eq2.false,
-      le-ltb _ _ f.if-p-g.false,
-      ← e.table_sectors.ensures,
-      le-ltb _ _ e.if-p-table_end.false,
+      ne_eqb _ _ c.if-p-eq0.false,
+      ne_eqb _ _ c.if-p-eq1.false,
+      ne_eqb _ _ c.if-p-eq2.false,
+      le-ltb _ _ c.if-p-table.false,
+      ← c.table_sectors.ensures,
+      le-ltb _ _ c.if-p-table_end.false,
       ne_eqb _ _ last,
     )
-    c.put_barrier-2.ensures
+    c.put_barrier-else-p-table_end-2.ensures

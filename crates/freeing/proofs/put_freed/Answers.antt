@@ -1,43 +1,38 @@
 -- `freeing::put_freed` meets its contract. The loop's invariant: those of the table sectors passed are staged.
-use mathlib.Core.Path.{refl}
 use native.Mathlib.Omega.{arith}
 use Rattle.model.specs.Search.{concatenated}
 use Rattle.model.specs.Disk.{view}
 use Rattle.commit.proofs.Laws.{added_none}
 use Rattle.table.specs.Owned.{owned_in}
 use Rattle.freeing.proofs.Laws.{freed-next, freed-room, freed-all}
-use borrow.Author.Rules.{rules}
 use Rattle.freeing.proofs.put_freed.Goals as goal
 
 pub loop-t-init : goal.loop-t-init
 unfolding concatenated
-loop-t-init c = (omega arith, added_none _ _ _ _ _, refl, refl)
+loop-t-init c = added_none _ _ _ _ _
 
 pub put_file_sector-j-requires : goal.put_file_sector-j-requires
 put_file_sector-j-requires c =
     let l = c.loop-t in
-    let s = c in
-    let a = s.args in
-    let room = freed-room (owned_in a.img.now a.i.0 a.o) a.g (view a.img.now) l.t (omega arith) l.invariant.1 in
-    let few = s.requires.opened.bounded.extents-high in record {
-      stages = s.requires.stages;
-      opened = s.requires.opened;
+    let a = c.args in
+    let room = freed-room (owned_in a.img.now a.i.0 a.o) a.g (view a.img.now) l.t (omega arith) l.invariant in
+    let few = c.requires.opened.bounded.extents-high in record {
+      stages = c.requires.stages;
+      opened = c.requires.opened;
       i_lt_free_file = (omega arith, omega arith);
       record_size_in_bounds = (omega (arith, room.0), omega (arith, few, room.1), omega (arith, room.1));
     }
 
 pub loop-t-preserved : goal.loop-t-preserved
 loop-t-preserved c =
-    let l = c in
-    let a = l.args in
-    let more = freed-next (owned_in a.img.now a.i.0 a.o) a.g (view a.img.now) l.loop-t.t in
-    (omega arith, more l.loop-t.invariant.1 c.put_file_sector-j.ensures, search rules, search rules)
+    let a = c.args in
+    freed-next (owned_in a.img.now a.i.0 a.o) a.g (view a.img.now) c.loop-t.t c.loop-t.invariant c.put_file_sector-j.ensures
 
 pub returns : goal.returns
 returns c =
     let l = c.loop-t in
     let a = c.args in
-    let all = freed-all (owned_in a.img.now a.i.0 a.o) a.g (view a.img.now) l.t (omega arith) l.invariant.1 in record {
+    let all = freed-all (owned_in a.img.now a.i.0 a.o) a.g (view a.img.now) l.t (omega arith) l.invariant in record {
       added = all.0;
       value = (all.1, all.2);
     }

@@ -1,27 +1,33 @@
 -- `lengths::longest_list` meets its contract. Each return is one of the answer's cases.
 use mathlib.Core.Path.{sym, ◌∙◌}
+use native.Mathlib.Omega.{arith}
 use Rattle.model.proofs.Areas.{bounds}
-use Rattle.lengths.proofs.Laws.{too_wide, out-of-bounds, no_call, answered}
+use Rattle.laws.proofs.Results.{handed-on}
+use Rattle.lengths.proofs.Laws.{none-called, too_wide, out-of-bounds, no_call, answered}
 use Rattle.lengths.proofs.longest_list.Goals as goal
 
-pub records-n-requires : goal.records-n-requires
-records-n-requires c = bounds _ (sym c.in_bounds.ensures ∙ c.if-in_bounds.true) c.if-sectors-le4294967295.true
+pub returns-in_default : goal.returns-in_default
+returns-in_default c = sym (too_wide _ _ (omega (arith, c.in_default.ensures)))
 
-pub returns-then-n-eq0 : goal.returns-then-n-eq0
-returns-then-n-eq0 c =
-    let d = c in
-    c.refused.ensures
-    ∙ sym (no_call _ _ (sym d.in_bounds.ensures ∙ c.if-in_bounds.true) d.if-sectors-le4294967295.true
-    (sym c.records-n.ensures.value ∙ c.if-n-eq0.true))
+pub returns-then-not-in_bounds : goal.returns-then-not-in_bounds
+returns-then-not-in_bounds c =
+    let b = rw c.in-Ok.ensures.1 at (sym c.in_bounds.ensures ∙ c.if-not-in_bounds.true) in
+    sym (out-of-bounds _ _ b)
 
-pub returns-then-in_bounds : goal.returns-then-in_bounds
-returns-then-in_bounds c =
-    let d = c in
-    let r = c.records-n.ensures.value in
-    rw (answered _ _ (sym d.in_bounds.ensures ∙ c.if-in_bounds.true) d.if-sectors-le4294967295.true (λ z. c.if-n-eq0.false (r ∙ z)), ← r)
+pub returns-in_err-call : goal.returns-in_err-call
+returns-in_err-call c =
+    let k = c in
+    let s = k.in-Ok.ensures in
+    let b = rw s.1 at (sym k.in_bounds.ensures ∙ k.if-not-in_bounds.false) in
+    rw (handed-on _ c.from_residual.ensures.1, c.in_err-call.ensures.0) (sym (no_call _ _ b (omega (arith, s.0)) (none-called _ _ c.in_err-call.ensures.1)))
 
-pub returns-then-sectors-le4294967295 : goal.returns-then-sectors-le4294967295
-returns-then-sectors-le4294967295 c = c.refused-then-sectors-le4294967295.ensures ∙ sym (out-of-bounds _ _ (sym c.in_bounds.ensures ∙ c.if-in_bounds.false))
+pub records-requires : goal.records-requires
+records-requires c = let k = c in bounds _ (sym k.in_bounds.ensures ∙ k.if-not-in_bounds.false) (omega (arith, k.in-Ok.ensures))
 
 pub returns : goal.returns
-returns c = c.refused-2.ensures ∙ sym (too_wide _ _ c.if-sectors-le4294967295.false)
+returns c =
+    let k = c in
+    let s = k.in-Ok.ensures in
+    let n = rw (s.1, k.in_ok-call.ensures) at c.records.ensures.value in
+    let b = rw s.1 at (sym k.in_bounds.ensures ∙ k.if-not-in_bounds.false) in
+    rw (answered _ _ b (omega (arith, s.0)) (rw n at c.records.ensures.bounds.0), n)

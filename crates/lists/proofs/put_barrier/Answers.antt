@@ -1,8 +1,7 @@
 -- `lists::put_barrier` meets its contract. A barrier is a record like any other.
-use Rattle.model.specs.Bytes.{zero_sector}
 use Rattle.model.specs.WriteList.{barrier}
 use Rattle.lists.proofs.put_barrier.Goals as goal
 
 pub returns : goal.returns
-unfolding barrier zero_sector
-returns c = c.put_sector.ensures
+unfolding barrier
+returns c = rw (← c.zero_sector.ensures) c.put_sector.ensures

@@ -4,4 +4,4 @@ use Rattle.queries.proofs.check.Goals as goal
 
 pub returns : goal.returns
 unfolding check_answer
-returns c = rw (← c.judge-verdict.ensures)
+returns c = rw (← c.judge.ensures)

@@ -4,4 +4,4 @@ use Rattle.queries.proofs.check_lent.Goals as goal
 
 pub returns : goal.returns
 unfolding check_answer
-returns c = rw (← c.judge_lent-verdict.ensures)
+returns c = rw (← c.judge_lent.ensures)

@@ -4,7 +4,7 @@ use Rattle.queries.proofs.check_with_lent.Goals as goal
 
 pub returns : goal.returns
 unfolding check_with_answer
-returns c = let k = c.judge_with_lent-verdict in record {
-  value = rw (← k.ensures.value);
-  scratch_after = k.ensures.scratch_after;
+returns c = record {
+  value = rw (← c.judge_with_lent.ensures.value);
+  scratch_after = c.judge_with_lent.ensures.scratch_after;
 }

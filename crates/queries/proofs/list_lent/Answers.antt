@@ -1,32 +1,27 @@
 -- `queries::list_lent` meets its contract. The judgement refuses, or `reading::list_in` gives the answer, the output and the list.
-use mathlib.Core.Path.{sym, ap, ◌∙◌}
-use lib.ListN.{length}
-use Rattle.model.specs.declared.Verdict.{Verdict}
+use Rattle.std.proofs.Common.{length, sym, ap}
+use Rattle.model.specs.Answers.{Verdict}
 use Rattle.model.specs.Disk.{view}
 use Rattle.model.specs.Lent.{lent_length}
 use Rattle.laws.proofs.Judged.{lent-accepted, judged-own}
+use Rattle.laws.proofs.Results.{handed-on}
+use Rattle.reading.proofs.Verdicts.{refusing}
 use Rattle.reading.proofs.ListAnswers.{lists-same, list-judged}
 use Rattle.reading.proofs.Clauses.{value_out_and_list}
 use Rattle.queries.proofs.list_lent.Goals as goal
 
-pub list_in-requires : goal.list_in-requires
-list_in-requires c = lent-accepted _ _ (ap (λ (v : Verdict). v.number) (sym c.judge_lent-v.ensures) ∙ c.if-v-eq0.true)
+pub returns-in_err-judge_lent : goal.returns-in_err-judge_lent
+returns-in_err-judge_lent c =
+    let a = c.args in
+    rw (handed-on _ c.from_residual.ensures.1)
+    (value_out_and_list (list-judged (lent_length (length c.args.front.now) c.args.count (view c.args.front.now)) a.front.now a.out.now a.list.now a.index a.time _ c.in_err-judge_lent.ensures (refusing c.in_err-judge_lent.field-0.0)))
 
-pub returns-then-v-eq0 : goal.returns-then-v-eq0
-returns-then-v-eq0 c =
-    let l = c in
-    let k = l in
-    let j = k in
-    let a = j.args in
-    let len = lent_length (length a.front.now) a.count (view a.front.now) in
-    let ok = ap (λ (v : Verdict). v.number) (sym j.judge_lent-v.ensures) ∙ k.if-v-eq0.true in
-    value_out_and_list (lists-same len a.front.now a.out.now a.list.now a.index a.time _ (judged-own len (view a.front.now) ok)
-    (l.list_in.ensures.value, (l.list_in.ensures.out_after, l.list_in.ensures.list_after)))
+pub list_in-requires : goal.list_in-requires
+list_in-requires c = lent-accepted _ _ (ap (λ (v : Verdict). v.number) (sym c.in_ok-judge_lent.ensures))
 
 pub returns : goal.returns
 returns c =
-    let j = c in
-    let a = j.args in
-    let len = lent_length (length a.front.now) a.count (view a.front.now) in
-    rw c.not_listed.ensures
-    (value_out_and_list (list-judged len a.front.now a.out.now a.list.now a.index a.time j.judge_lent-v.result j.judge_lent-v.ensures c.if-v-eq0.false))
+    let a = c.args in
+    let l = lent_length (length c.args.front.now) c.args.count (view c.args.front.now) in
+    value_out_and_list (lists-same l a.front.now a.out.now a.list.now a.index a.time _ (judged-own l (view a.front.now) (ap (λ (v : Verdict). v.number) (sym c.in_ok-judge_lent.ensures)))
+    (c.list_in.ensures.value, (c.list_in.ensures.out_after, c.list_in.ensures.list_after)))

@@ -9,34 +9,19 @@ use Rattle.repair.proofs.Kept.{kept-freed, kept-none, kept-one}
 use Rattle.repair.proofs.count_extent.Goals as goal
 
 pub returns-then-marks-e-eq1 : goal.returns-then-marks-e-eq1
-returns-then-marks-e-eq1 c =
-    let s = c in
-    let a = s.args in
-    kept-freed a.g (view a.img.now) (is_marked a.marks.now) a.e a.kept.now s.requires.kept (eq-eqb _ 1 c.if-marks-e-eq1.true)
+returns-then-marks-e-eq1 c = kept-freed _ _ _ _ _ c.requires.kept (eq-eqb _ 1 c.if-marks-e-eq1.true)
 
 pub overflow_add-kept : goal.overflow_add-kept
 overflow_add-kept c =
-    let s = c in
-    let a = s.args in
+    let a = c.args in
     let f = c.table_file-f.result in
-    omega (
-      arith,
-      s.requires.kept f c.if-f-g.true,
-      count_below-le (keeps a.g (view a.img.now) (is_marked a.marks.now) f) a.e,
-      s.requires.opened.bounded.extents-high,
-    )
+    let few = count_below-le (keeps a.g (view a.img.now) (is_marked a.marks.now) f) a.e in
+    omega (arith, c.requires.kept f c.if-f-g.true, few, c.requires.opened.bounded.extents-high)
 
 pub returns-then-f-g : goal.returns-then-f-g
 returns-then-f-g c =
-    let s = c in
-    let a = s.args in
     let f = c.table_file-f in
-    kept-one a.g (view a.img.now) (is_marked a.marks.now) a.e a.kept.now s.requires.kept
-    (ne_eqb _ 1 c.if-marks-e-eq1.false)
-    f.result f.ensures.value c.if-f-g.true (omega arith)
+    kept-one _ _ _ _ _ c.requires.kept (ne_eqb _ 1 c.if-marks-e-eq1.false) f.result f.ensures.value c.if-f-g.true (omega arith)
 
-pub returns : goal.returns
-returns c =
-    let s = c in
-    let a = s.args in
-    kept-none a.g (view a.img.now) (is_marked a.marks.now) a.e a.kept.now s.requires.kept (omega (arith, c.table_file-f.ensures.value, c.if-f-g.false))
+pub returns-else-f-g : goal.returns-else-f-g
+returns-else-f-g c = kept-none _ _ _ _ _ c.requires.kept (omega (arith, c.table_file-f.ensures.value, c.if-f-g.false))

@@ -1,55 +1,34 @@
--- `repair::is_needless` meets its contract. The bytes before an offset are fewer than 2^57.
+-- `repair::is_needless` meets its contract.
 use mathlib.Core.Path.{sym, ◌∙◌}
-use native.Mathlib.Nat.{mul-le-mul}
-use native.Mathlib.Omega.{arith}
-use Rattle.model.specs.Geometry.{extent_bytes}
-use Rattle.model.specs.Disk.{view}
+use borrow.Author.Tests.{le-leb}
 use Rattle.repair.proofs.Strays.{stray-outside, stray-unoccupied, stray-beyond, stray-repeated}
 use Rattle.repair.proofs.is_needless.Goals as goal
-
-pub overflow_mul-before-then-is_occupied : goal.overflow_mul-before-then-is_occupied
-overflow_mul-before-then-is_occupied c =
-    let s = c in
-    omega (
-      arith,
-      s.requires.opened.bounded.extent-high,
-      mul-le-mul {n₁ = c.table_offset.result} {m₁ = extent_bytes s.args.g} {n₂ = 65535} {m₂ = 2199023255040} (omega arith)
-          (omega (arith, s.requires.opened.bounded.extent-high)),
-    )
-
-pub returns-then-size_at-before : goal.returns-then-size_at-before
-returns-then-size_at-before c =
-    let s = c in
-    let a = s.args in
-    let f = c.table_file-f in
-    stray-beyond (view a.img.now) a.g s.requires.opened.is (omega (arith, s.requires.opened.bounded.extent-low)) a.e.0 s.requires.e_lt_extents s.requires.free_file_value f.result f.ensures.value
-    c.if-f-g.true (sym c.is_occupied.ensures ∙ c.if-is_occupied.true)
-    c.table_offset.result c.size_at.result c.table_offset.ensures.value
-    c.size_at.ensures c.if-size_at-before.true
-
-pub returns-then-is_occupied : goal.returns-then-is_occupied
-returns-then-is_occupied c =
-    let s = c in
-    let a = s.args in
-    let f = c.table_file-f in
-    s.requires.again_value
-    ∙ stray-repeated (view a.img.now) a.g s.requires.opened.is (omega (arith, s.requires.opened.bounded.extent-low)) a.e.0 s.requires.e_lt_extents s.requires.free_file_value f.result f.ensures.value
-    c.if-f-g.true (sym c.is_occupied.ensures ∙ c.if-is_occupied.true)
-    c.table_offset.result c.size_at.result c.table_offset.ensures.value
-    c.size_at.ensures c.if-size_at-before.false
+use Rattle.repair.proofs.is_needless.Goals.{then-f-g-via-then-f-g, then-f-g-via-else-f-g+then-not-is_occupied}
 
 pub returns-then-f-g : goal.returns-then-f-g
 returns-then-f-g c =
-    let s = c in
-    let a = s.args in
-    let f = c.table_file-f in
-    stray-unoccupied (view a.img.now) a.g s.requires.opened.is (omega (arith, s.requires.opened.bounded.extent-low)) a.e.0 s.requires.e_lt_extents s.requires.free_file_value f.result f.ensures.value
-    c.if-f-g.true (sym c.is_occupied.ensures ∙ c.if-is_occupied.false)
+    let s = c.requires in
+    let q = c.table_file-f.ensures.value in
+    elim c.then-f-g.branch [
+      | then-f-g-via-then-f-g w ↦ stray-outside _ _ s.opened.is s.opened.bounded _ s.e_lt_extents s.free_file_value _ q w.if-f-g.true
+      | then-f-g-via-else-f-g+then-not-is_occupied w ↦
+          stray-unoccupied _ _ s.opened.is s.opened.bounded _ s.e_lt_extents s.free_file_value _ q w.if-f-g.false (sym w.is_occupied.ensures ∙ w.if-not-is_occupied.true)
+    ]
 
-pub returns : goal.returns
-returns c =
-    let s = c in
-    let a = s.args in
-    let f = c.table_file-f in
-    stray-outside (view a.img.now) a.g s.requires.opened.is (omega (arith, s.requires.opened.bounded.extent-low)) a.e.0 s.requires.e_lt_extents s.requires.free_file_value f.result
-    f.ensures.value c.if-f-g.false
+pub returns-then-size_at-before : goal.returns-then-size_at-before
+returns-then-size_at-before c =
+    let s = c.requires in
+    let q = c.table_file-f.ensures.value in
+    let there = sym c.is_occupied.ensures ∙ c.if-not-is_occupied.false in
+    let past = rw c.from.ensures at c.if-size_at-before.true in
+    le-leb _ _ c.if-size_at-before.true
+    ∙ stray-beyond _ _ s.opened.is s.opened.bounded _ s.e_lt_extents s.free_file_value _ q c.if-f-g.false there _ _ c.table_offset.ensures.value c.size_at.ensures past
+
+pub returns-else-size_at-before : goal.returns-else-size_at-before
+returns-else-size_at-before c =
+    let s = c.requires in
+    let q = c.table_file-f.ensures.value in
+    let there = sym c.is_occupied.ensures ∙ c.if-not-is_occupied.false in
+    let within = rw c.from.ensures at c.if-size_at-before.false in
+    s.again_value
+    ∙ stray-repeated _ _ s.opened.is s.opened.bounded _ s.e_lt_extents s.free_file_value _ q c.if-f-g.false there _ _ c.table_offset.ensures.value c.size_at.ensures within

@@ -1,7 +1,4 @@
 -- `repair::put_marked` meets its contract. The loop's invariant: those of the table sectors passed are staged.
-use Prim.Native.Nat.{◌-◌, ◌≤◌}
-use mathlib.Core.Path.{◌≡◌}
-use lib.ListN.{length}
 use Rattle.model.specs.Search.{concatenated}
 use Rattle.model.specs.Disk.{view}
 use Rattle.model.specs.Freeing.{freed_sector}
@@ -10,8 +7,4 @@ use Rattle.table.specs.Owned.{is_marked}
 use Rattle.repair.proofs.put_marked.Given as goal
 
 abbrev pub invariant-loop-t : goal.invariant-loop-t
-invariant-loop-t l = (l.t ≤ l.n) × Added l.g l.stages l.initial.numbers l.initial.list 0 (concatenated (freed_sector (is_marked l.marks) l.g (view l.img)) 0 l.t) l.numbers l.list l.j
-    × (length l.list ≡ length l.initial.list) × (length l.numbers ≡ length l.initial.numbers)
-
-abbrev pub decreases-loop-t : goal.decreases-loop-t
-decreases-loop-t l = l.n - l.t
+invariant-loop-t l = Added l.g l.stages l.initial.numbers l.initial.list 0 (concatenated (freed_sector (is_marked l.marks) l.g (view l.img)) 0 l.t) l.numbers l.list l.j

@@ -1,15 +1,15 @@
 -- `search::goofs_free_extent` meets its contract. The image is refused, or its table is searched.
-use mathlib.Core.Path.{sym, ap, ◌∙◌}
-use borrow.Author.Tests.{eq-eqb, ne_eqb}
-use Rattle.model.specs.declared.Verdict.{Verdict}
+use Rattle.std.proofs.Common.{sym, ap}
+use Rattle.model.specs.Answers.{Verdict}
 use Rattle.laws.proofs.Refusals.{readable}
+use Rattle.laws.proofs.Results.{refused}
 use Rattle.search.proofs.goofs_free_extent.Goals as goal
 
 pub search_in-requires : goal.search_in-requires
-search_in-requires c = readable _ (ap (λ (v : Verdict). v.number) (sym c.image_verdict-v.ensures) ∙ c.if-v-eq0.true)
+search_in-requires c = readable _ (ap (λ (v : Verdict). v.number) (sym c.in-Ok.ensures))
 
-pub returns-then-v-eq0 : goal.returns-then-v-eq0
-returns-then-v-eq0 c = rw (← c.image_verdict-v.ensures, eq-eqb _ _ c.if-v-eq0.true) c.search_in.ensures
+pub returns-in-Ok : goal.returns-in-Ok
+returns-in-Ok c = rw (← c.in-Ok.ensures) c.search_in.ensures
 
-pub returns : goal.returns
-returns c = rw (← c.image_verdict-v.ensures, ne_eqb _ _ c.if-v-eq0.false)
+pub returns-in-Err : goal.returns-in-Err
+returns-in-Err c = rw (← c.in-Err.ensures, refused c.in-Err.refusal, ← c.number.ensures)

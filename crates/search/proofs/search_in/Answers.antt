@@ -11,8 +11,8 @@ geometry_in-g-requires c = readable-length _ c.requires
 pub free_extent-requires : goal.free_extent-requires
 free_extent-requires c = opened _ _ c.geometry_in-g.ensures (omega arith) c.requires
 
-pub returns-in-At : goal.returns-in-At
-returns-in-At c = ap extent_numbers (sym c.in-At.is ∙ c.free_extent.ensures)
+pub returns-in-Some : goal.returns-in-Some
+returns-in-Some c = ap extent_numbers (sym c.in-Some.is ∙ c.free_extent.ensures)
 
-pub returns : goal.returns
-returns c = ap extent_numbers (sym c.in_default.is ∙ c.free_extent.ensures)
+pub returns-in-None : goal.returns-in-None
+returns-in-None c = ap extent_numbers (sym c.in-None.is ∙ c.free_extent.ensures)

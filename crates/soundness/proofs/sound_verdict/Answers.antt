@@ -1,28 +1,23 @@
 -- `soundness::sound_verdict` meets its contract. The state is refused, or the first fault gives the verdict.
-use native.Mathlib.Omega.{arith}
-use borrow.Author.Tests.{eq-eqb, ne_eqb}
-use Rattle.model.specs.Refusals.{sound_verdict}
-use Rattle.laws.proofs.Refusals.{readable-length, opened}
+use Rattle.std.proofs.Common.{arith}
+use Rattle.laws.proofs.Refusals.{opened}
+use Rattle.laws.proofs.Results.{refused, handed-on}
+use Rattle.soundness.proofs.Laws.{unsound, sound-by}
 use Rattle.soundness.proofs.sound_verdict.Goals as goal
 
-pub state_on-requires : goal.state_on-requires
-state_on-requires c = readable-length _ c.requires
-
-pub geometry_in-g-requires : goal.geometry_in-g-requires
-geometry_in-g-requires c = readable-length _ c.requires
+pub returns-in_err-state_verdict : goal.returns-in_err-state_verdict
+returns-in_err-state_verdict c =
+    rw (handed-on _ c.from_residual.ensures.1, sound-by _ _ _ c.state_on.ensures c.in_err-state_verdict.ensures, refused c.in_err-state_verdict.field-0.0)
 
 pub first_fault-requires : goal.first_fault-requires
 first_fault-requires c = opened _ _ c.geometry_in-g.ensures (omega arith) c.requires
 
-pub returns-then-n-eq0 : goal.returns-then-n-eq0
-unfolding sound_verdict
-returns-then-n-eq0 c = rw (
-  ← c.state_on.ensures,
-  ← c.state_number-n.ensures,
-  eq-eqb _ _ c.if-n-eq0.true,
-  ← c.first_fault.ensures,
-) c.fault_verdict.ensures
+pub returns-in_err-first_fault : goal.returns-in_err-first_fault
+returns-in_err-first_fault c = rw (
+  unsound _ c.from_residual-in_err-first_fault.ensures.1,
+  sound-by _ _ _ c.state_on.ensures c.in_ok-state_verdict.ensures,
+  ← c.in_err-first_fault.ensures,
+)
 
 pub returns : goal.returns
-unfolding sound_verdict
-returns c = rw (← c.state_on.ensures, ← c.state_number-n.ensures, ne_eqb _ _ c.if-n-eq0.false) c.refusal.ensures
+returns c = rw (sound-by _ _ _ c.state_on.ensures c.in_ok-state_verdict.ensures, ← c.in_ok-first_fault.ensures)

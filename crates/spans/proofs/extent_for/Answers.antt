@@ -5,5 +5,5 @@ use Rattle.spans.proofs.extent_for.Goals as goal
 pub returns-then-o-held : goal.returns-then-o-held
 returns-then-o-held c = rw (lt-ltb _ _ c.if-o-held.true) c.extent_of.ensures.result_value
 
-pub returns : goal.returns
-returns c = rw (le-ltb _ _ c.if-o-held.false)
+pub returns-else-o-held : goal.returns-else-o-held
+returns-else-o-held c = rw (le-ltb _ _ c.if-o-held.false)

@@ -5,17 +5,15 @@ use Rattle.spans.proofs.place_in.Goals as goal
 
 pub returns-then-bytes-len : goal.returns-then-bytes-len
 returns-then-bytes-len c =
-    let s = c in
-    let a = s.args in record {
-      n_in_bounds = omega (arith, c.if-bytes-len.true, s.requires.n_bound.0);
+    let a = c.args in record {
+      n_in_bounds = omega (arith, c.if-bytes-len.true, c.requires.n_bound.0);
       n_value = own-run a.bytes.now a.len a.at a.n c.if-bytes-len.true;
     }
 
-pub returns : goal.returns
-returns c =
-    let s = c in
-    let a = s.args in
+pub returns-else-bytes-len : goal.returns-else-bytes-len
+returns-else-bytes-len c =
+    let a = c.args in
     let o = c.if-bytes-len.false in record {
-      n_in_bounds = omega (arith, s.requires.source.sector o, s.requires.n_bound.1);
-      n_value = other-run a.bytes.now a.len s.requires.source a.at a.n o s.requires.n_bound.0;
+      n_in_bounds = omega (arith, c.requires.source.sector o, c.requires.n_bound.1);
+      n_value = other-run a.bytes.now a.len c.requires.source a.at a.n o c.requires.n_bound.0;
     }

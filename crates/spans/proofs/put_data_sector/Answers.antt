@@ -13,14 +13,13 @@ returns-then-to-from-eq512 c =
     let a = c.args in
     let d = view a.img.now a.place.0 in
     let span = span_of a.bytes.now a.len in
-    let from = c.most-from in
-    let to = c.least-to in
+    let from = c.max-from in
+    let to = c.min-to in
     let last = to.ensures ∙ ap (λ (x : ℕ). min (a.offset + x) (512 * a.s + 512)) (sym (length-span a.bytes.now a.len)) in
-    let read = c.place_in-at.ensures.n_value in
     let whole = c.if-to-from-eq512.true in
     rw (
       ← splice-whole a.offset a.s span d from.result to.result from.ensures last (length-view a.img.now a.place.0) whole,
-      ← rw whole at read,
+      ← rw whole at c.place_in-at.ensures.n_value,
     )
     c.put_from.ensures
 
@@ -29,13 +28,12 @@ returns c =
     let a = c.args in
     let d = view a.img.now a.place.0 in
     let span = span_of a.bytes.now a.len in
-    let from = c.most-from in
-    let to = c.least-to in
+    let from = c.max-from in
+    let to = c.min-to in
     let last = to.ensures ∙ ap (λ (x : ℕ). min (a.offset + x) (512 * a.s + 512)) (sym (length-span a.bytes.now a.len)) in
-    let read = c.place_in-at.ensures.n_value in
     rw (
       ← splice-part a.offset a.s span d from.result to.result from.ensures last,
-      ← read,
+      ← c.place_in-at.ensures.n_value,
       ← c.shown-a.ensures,
       ← c.copy_bytes.ensures,
     )

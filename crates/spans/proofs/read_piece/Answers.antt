@@ -6,67 +6,47 @@ use Rattle.spans.proofs.Laws.{extent-below, offset-within, piece_inside, piece_i
 use Rattle.spans.proofs.read_piece.Goals as goal
 
 pub extent_at-start-requires : goal.extent_at-start-requires
-extent_at-start-requires c = record {
-  bounded = c.requires.opened.bounded;
-  e_le_extents = omega (
-    arith,
-    c.extent_of.ensures.result_value,
-    extent-below c.args.img.now c.args.g c.requires.opened
-        c.args.i.0 (c.args.offset / extent_bytes c.args.g),
-  );
-}
+extent_at-start-requires c =
+    let a = c.args in
+    let opened = c.requires.opened in record {
+      bounded = opened.bounded;
+      e_le_extents = omega (arith, c.extent_of.ensures.result_value, extent-below a.img.now a.g opened a.i.0 (a.offset / extent_bytes a.g));
+    }
 
 pub overflow_sub-e : goal.overflow_sub-e
-overflow_sub-e c = omega (
-  arith,
-  offset-within c.args.g c.requires.opened.bounded c.args.offset,
-)
+overflow_sub-e c = omega (arith, offset-within c.args.g c.requires.opened.bounded c.args.offset)
 
 pub overflow_mul-start : goal.overflow_mul-start
-overflow_mul-start c = omega (
-  arith,
-  piece_inside c.args.img.now c.args.g
-      c.requires.opened c.args.i.0
-      c.args.offset c.extent_of.result.0 c.extent_at-start.result.0
-      c.extent_of.ensures.result_value c.extent_at-start.ensures c.requires.g_in_bounds,
-)
+overflow_mul-start c =
+    let a = c.args in
+    let e = c.extent_of in
+    let at = c.extent_at-start in
+    omega (arith, piece_inside a.img.now a.g c.requires.opened a.i.0 a.offset e.result.0 at.result.0 e.ensures.result_value at.ensures c.requires.g_in_bounds)
 
 pub overflow_add-start : goal.overflow_add-start
-overflow_add-start c = omega (
-  arith,
-  piece_inside c.args.img.now c.args.g
-      c.requires.opened c.args.i.0
-      c.args.offset c.extent_of.result.0 c.extent_at-start.result.0
-      c.extent_of.ensures.result_value c.extent_at-start.ensures c.requires.g_in_bounds,
-  offset-within c.args.g c.requires.opened.bounded
-      c.args.offset,
-)
+overflow_add-start c =
+    let a = c.args in
+    let e = c.extent_of in
+    let at = c.extent_at-start in
+    let w = offset-within a.g c.requires.opened.bounded a.offset in
+    omega (arith, piece_inside a.img.now a.g c.requires.opened a.i.0 a.offset e.result.0 at.result.0 e.ensures.result_value at.ensures c.requires.g_in_bounds)
 
 pub copy_bytes-requires : goal.copy_bytes-requires
-copy_bytes-requires c = omega (
-  arith,
-  piece_inside c.args.img.now c.args.g
-      c.requires.opened c.args.i.0
-      c.args.offset c.extent_of.result.0 c.extent_at-start.result.0
-      c.extent_of.ensures.result_value c.extent_at-start.ensures c.requires.g_in_bounds,
-  offset-within c.args.g c.requires.opened.bounded
-      c.args.offset,
-)
+copy_bytes-requires c =
+    let a = c.args in
+    let e = c.extent_of in
+    let at = c.extent_at-start in
+    let w = offset-within a.g c.requires.opened.bounded a.offset in
+    omega (arith, piece_inside a.img.now a.g c.requires.opened a.i.0 a.offset e.result.0 at.result.0 e.ensures.result_value at.ensures c.requires.g_in_bounds)
 
 pub returns : goal.returns
 returns c =
-    let m = c.least-m.result in
-    let e = extent_bytes c.args.g in
-    let w = offset-within c.args.g
-    c.requires.opened.bounded
-    c.args.offset in
-    let l : c.args.offset % e + m ≤ e = omega arith in record {
+    let a = c.args in
+    let m = c.min-m.result in
+    let w = offset-within a.g c.requires.opened.bounded a.offset in
+    let l : a.offset % extent_bytes a.g + m ≤ extent_bytes a.g = omega arith in
+    let e = c.extent_of in
+    let at = c.extent_at-start in record {
       result_nonzero = (omega arith, omega arith);
-      out_after = rw (piece_is c.args.img.now
-          c.args.g
-          c.requires.opened
-          c.args.i.0
-          c.args.offset c.extent_of.result.0
-          c.extent_at-start.result.0 c.extent_of.ensures.result_value
-          c.extent_at-start.ensures m l) c.copy_bytes.ensures;
+      out_after = rw (piece_is a.img.now a.g c.requires.opened a.i.0 a.offset e.result.0 at.result.0 e.ensures.result_value at.ensures m l) c.copy_bytes.ensures;
     }

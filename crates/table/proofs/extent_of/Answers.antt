@@ -1,38 +1,40 @@
--- `table::extent_of` meets its contract. The loop's invariant: the search has passed the extents below e.
-use mathlib.Core.Path.{sym, ap, ◌∙◌}
+-- `table::extent_of` meets its contract.
+use Rattle.std.proofs.Common.{rules, tests}
+use Prim.Native.Nat.{ℕ, ◌+◌, ◌*◌, ◌/◌}
+use mathlib.Core.Bool.{Bool}
+use mathlib.Core.Path.{refl, ap, ◌∙◌}
 use native.Mathlib.Omega.{arith}
-use Rattle.model.specs.Search.{index_of}
 use Rattle.model.specs.Disk.{view}
-use Rattle.laws.proofs.Seeking.{seek-start, seek-over}
-use Rattle.table.proofs.Laws.{extent-of-is, nowhere-from}
+use mathlib.Core.List.{List}
+use Rattle.model.specs.Search.{any_below}
+use Rattle.model.specs.Search.{index_of}
+use Rattle.model.specs.Catalogue.{catalogue_of, is_part}
+use Rattle.table.proofs.Laws.{extent-of-is, sectors-passed}
+use Rattle.laws.proofs.Folds.{Passed, find-passed}
 use Rattle.table.proofs.extent_of.Goals as goal
-use Rattle.table.proofs.extent_of.Invariants.{hit}
+use Rattle.table.proofs.extent_of.Goals.{After-unwrap_or-t}
 
-pub loop-e-init : goal.loop-e-init
-loop-e-init c = seek-start
+abbrev part : List ℕ → ℕ → ℕ → ℕ → Bool
+part img i o e = is_part i o ((catalogue_of (view img)).table e)
 
-pub returns-then-holds_part : goal.returns-then-holds_part
-returns-then-holds_part c =
-    let b = c in
-    let s = b in
-    let a = s.args in record {
-      result_value = rw (extent-of-is (view a.img.now) a.g s.requires.opened.is a.i.0 a.o)
-          (c.part_from.ensures.result_value ∙ ap index_of b.loop-e.invariant.rest);
-      result_lt_extents = c.part_from.ensures.result_lt_extents;
-    }
+abbrev sector : List ℕ → ℕ → ℕ → ℕ → Bool
+sector img i o t = any_below (λ k. part img i o (128 * t + k)) 128
 
-pub loop-e-preserved : goal.loop-e-preserved
-loop-e-preserved c =
-    let b = c in
-    let a = b.args in
-    seek-over b.loop-e.invariant 128 (omega arith) (nowhere-from (hit a.img.now a.i.0 a.o) b.loop-e.e 128 (sym c.holds_part.ensures ∙ c.if-holds_part.false))
+-- the sectors passed over do not hold it
+passed : (c : After-unwrap_or-t) → Passed (sector c.args.img.now c.args.i.0 c.args.o) (c.args.g.extents / 128) c.unwrap_or-t.result
+passed c =
+    rw c.unwrap_or-t.ensures
+    (find-passed _ _ _ _ (sector c.args.img.now c.args.i.0 c.args.o) (c.args.g.extents / 128) c.find.ensures.ran refl
+    (λ x q k. search (rules, tests)) (λ x q k. search (rules, tests)))
 
-pub returns : goal.returns
-returns c =
-    let b = c in
-    let s = b in
-    let a = s.args in record {
-      result_value = rw (extent-of-is (view a.img.now) a.g s.requires.opened.is a.i.0 a.o)
-          (c.part_from-2.ensures.result_value ∙ ap index_of b.loop-e.invariant.rest);
-      result_lt_extents = c.part_from-2.ensures.result_lt_extents;
-    }
+pub overflow_mul-t : goal.overflow_mul-t
+overflow_mul-t c = omega (arith, (passed c).0)
+
+pub part_from-requires-clause-i_lt_free_file : goal.part_from-requires-clause-i_lt_free_file
+part_from-requires-clause-i_lt_free_file c = (c.requires.i_lt_free_file, omega (arith, (passed c).0))
+
+pub returns-clause-result_value : goal.returns-clause-result_value
+returns-clause-result_value c =
+    let before = sectors-passed (part c.args.img.now c.args.i.0 c.args.o) c.args.g.extents (c.args.g.extents / 128) c.unwrap_or-t.result refl
+    (passed (goal.at.returns-clause-result_value c).After-unwrap_or-t) in
+    rw (extent-of-is (view c.args.img.now) c.args.g c.requires.opened.is c.args.i.0 c.args.o) (c.part_from.ensures.result_value ∙ ap index_of before)

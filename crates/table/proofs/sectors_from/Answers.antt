@@ -1,30 +1,20 @@
--- `table::sectors_from` meets its contract. The loop's invariant: how many of the sectors passed hold one.
-use mathlib.Core.Path.{◌≡◌, refl}
-use native.Mathlib.Omega.{arith}
-use Rattle.model.specs.Search.{count_below}
-use Rattle.model.specs.Table.{sectors_holding}
-use Rattle.laws.proofs.Search.{count_below-more}
+-- `table::sectors_from` meets its contract.
+use Rattle.std.proofs.Common.{rules, tests}
+use mathlib.Core.Path.{◌∙◌}
+use native.Mathlib.Nat.{sub-zero}
+use Rattle.model.specs.Table.{holds_any, sectors_holding}
+use Rattle.table.specs.Owned.{owned_in}
+use Rattle.std.proofs.lemmas.Iterator.{YieldsList-from_range}
+use Rattle.std.proofs.lemmas.Iterator.Consumers.{count_from_yields_List, YieldsList-from_filter}
+use Rattle.laws.proofs.Folds.{counted}
 use Rattle.table.proofs.sectors_from.Goals as goal
-use Rattle.table.proofs.sectors_from.Invariants.{hit}
 
-pub loop-t-init : goal.loop-t-init
-unfolding count_below
-loop-t-init c = (omega arith, omega arith, refl)
-
-pub loop-t-preserved : goal.loop-t-preserved
-loop-t-preserved c =
-    let l = c.loop-t in
-    let a = c.args in (
-      omega arith,
-      omega arith,
-      rw (count_below-more (hit a.img.now a.i.0 a.o) l.t, ← c.holds_from.ensures, ← c.bit.ensures.0, ← l.invariant.2) (omega arith),
-    )
-
-pub returns : goal.returns
+pub returns-clause-value : goal.returns-clause-value
 unfolding sectors_holding
-returns c =
-    let l = c.loop-t in
-    let e : l.t ≡ c.table_sectors-n.result = omega arith in record {
-      value = rw (← c.table_sectors-n.ensures) (rw e at l.invariant.2);
-      upper_bound = omega arith;
-    }
+returns-clause-value c =
+    let n = c.table_sectors.result in
+    let holds = holds_any (owned_in c.args.img.now c.args.i.0 c.args.o) in
+    rw (← c.table_sectors.ensures)
+    (count_from_yields_List c.filter.result c.count.result c.count.ensures.ran
+    (YieldsList-from_filter _ holds (YieldsList-from_range 0 n n c.filter.ensures.source (sub-zero n)) c.filter.ensures.closure (λ x r q k. search (rules, tests)))
+    ∙ counted holds n)

@@ -1,51 +1,38 @@
--- `table::staging` meets its contract. The loop's invariant: the free extents from e on stand in the last places of the reserve's, from place
--- left on.
-use Prim.Native.Nat.{◌≤◌, ◌<◌}
-use mathlib.Core.Bool.{false≢true}
+-- `table::staging` meets its contract. The loop's invariant: the free extents from e on stand in the last places of the reserve's, from place k on.
+use Prim.Native.Nat.{◌≤◌}
+use mathlib.Core.Path.{refl}
 use native.Mathlib.Omega.{arith}
 use Rattle.model.specs.Disk.{view}
-use Rattle.table.specs.Highest.{Highest}
+use Rattle.model.specs.Catalogue.{catalogue_of}
 use Rattle.table.proofs.Laws.{geometry-of}
 use Rattle.table.proofs.Stages.{reserve-five, search-start, search-more, search-failed, search-done, search-found}
 use Rattle.table.proofs.staging.Goals as goal
-use Rattle.table.proofs.staging.Invariants.{said}
 
-pub loop-left-init : goal.loop-left-init
-loop-left-init c =
-    let s = c in
-    let a = s.args in
-    let start = search-start a.g (said a.img.now) s.requires.opened.bounded in
-    let most : c.reserve_extents-left.result ≤ 5 = rw c.reserve_extents-left.ensures (reserve-five a.g s.requires.opened.bounded) in
-    (most, rw s.requires.stages_value, rw (c.reserve_extents-left.ensures, s.requires.stages_value) start)
+pub loop-k-init : goal.loop-k-init
+loop-k-init c =
+    let most : c.reserve_extents-k.result ≤ 5 = rw c.reserve_extents-k.ensures (reserve-five c.args.g c.requires.bounded) in
+    (most, refl, rw c.reserve_extents-k.ensures (search-start c.args.g (catalogue_of (view c.args.img.now)) c.requires.bounded))
 
-pub returns-then-next-eq0 : goal.returns-then-next-eq0
-returns-then-next-eq0 c =
-    let b = c in
-    let s = b in
-    let a = s.args in
-    let none : Highest (said a.img.now) b.loop-left.e 0 = rw c.if-next-eq0.true at c.highest_free-next.ensures.highest in
-    let g = geometry-of (view a.img.now) a.g s.requires.opened.is in record {
-      img_value = search-failed a.g (said a.img.now) s.requires.opened.bounded b.loop-left.invariant.2 g (omega arith) none;
-      stages_of = λ q. absurd (false≢true q);
-    }
+pub highest_free-requires-clause-end_le_extents : goal.highest_free-requires-clause-end_le_extents
+highest_free-requires-clause-end_le_extents c = c.loop-k.invariant.2.within
 
-pub loop-left-preserved : goal.loop-left-preserved
-loop-left-preserved c =
-    let b = c in
-    let s = b in
-    let a = s.args in
-    let next = c.highest_free-next in
-    let more = search-more a.g (said a.img.now) s.requires.opened.bounded b.loop-left.invariant.2 next.result (omega arith) (omega (arith, c.if-next-eq0.false)) next.ensures.upper_bound
-    next.ensures.highest in
+pub returns-in_err-e-clause-lacking : goal.returns-in_err-e-clause-lacking
+returns-in_err-e-clause-lacking c =
+    let d = view c.args.img.now in
+    rw c.from_residual.ensures
+    (search-failed c.args.g (catalogue_of d) c.requires.bounded c.loop-k.invariant.2 (geometry-of d c.args.g c.requires.is) (omega arith) c.in_err-e.ensures)
+
+pub loop-k-preserved : goal.loop-k-preserved
+loop-k-preserved c =
+    let more = search-more c.args.g (catalogue_of (view c.args.img.now)) c.requires.bounded c.loop-k.invariant.2 c.in_ok-e.e (omega arith) c.in_ok-e.ensures in
     (omega arith, more.five, more)
 
-pub returns : goal.returns
-returns c =
-    let b = c in
-    let s = b in
-    let a = s.args in
-    let g = geometry-of (view a.img.now) a.g s.requires.opened.is in
-    let end : 0 < b.loop-left.left → ⊥ = λ l. omega arith in record {
-      img_value = search-done a.g (said a.img.now) s.requires.opened.bounded b.loop-left.invariant.2 g end;
-      stages_of = λ q. search-found a.g (view a.img.now) s.requires.opened.bounded b.loop-left.invariant.2 g end;
-    }
+pub returns-clause-lacking : goal.returns-clause-lacking
+returns-clause-lacking c =
+    let d = view c.args.img.now in
+    search-done c.args.g (catalogue_of d) c.requires.bounded c.loop-k.invariant.2 (geometry-of d c.args.g c.requires.is) (λ l. omega arith)
+
+pub returns-clause-stages_of : goal.returns-clause-stages_of
+returns-clause-stages_of c =
+    let d = view c.args.img.now in
+    search-found c.args.g d c.requires.bounded c.loop-k.invariant.2 (geometry-of d c.args.g c.requires.is) (λ l. omega arith)

@@ -16,6 +16,6 @@ returns-then-in_bounds c =
     let q : 512 * n / 512 ≡ n = omega arith in
     rw (← c.geometry_in-g.ensures, ← c.in_bounds.ensures, c.if-in_bounds.true, ← c.volume_sectors.ensures, q)
 
-pub returns : goal.returns
+pub returns-else-in_bounds : goal.returns-else-in_bounds
 unfolding fits_image
-returns c = rw (← c.geometry_in-g.ensures, ← c.in_bounds.ensures, c.if-in_bounds.false)
+returns-else-in_bounds c = rw (← c.geometry_in-g.ensures, ← c.in_bounds.ensures, c.if-in_bounds.false)

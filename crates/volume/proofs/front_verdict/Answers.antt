@@ -1,5 +1,6 @@
 -- `volume::front_verdict` meets its contract. By the count, or, where the front ends early, by what is lent.
-use mathlib.Core.Path.{sym, ◌∙◌}
+use Rattle.std.proofs.Common.{max, ◌≡◌, sym}
+use mathlib.Core.Path.{◌∙◌}
 use native.Mathlib.Omega.{arith}
 use Rattle.model.specs.Lent.{lent_length}
 use Rattle.laws.proofs.Refusals.{front-holds}
@@ -8,11 +9,13 @@ use Rattle.volume.proofs.front_verdict.Goals as goal
 pub sectors_verdict-requires : goal.sectors_verdict-requires
 sectors_verdict-requires c =
     let f = front-holds _ _ (sym c.is_front.ensures ∙ c.if-is_front.true) in
-    (omega (arith, f.1), omega (arith, c.most.ensures))
+    (omega (arith, f.1), omega (arith, c.max.ensures))
 
 pub returns-then-is_front : goal.returns-then-is_front
 unfolding lent_length
-returns-then-is_front c = rw (← c.is_front.ensures, c.if-is_front.true, ← c.most.ensures) c.sectors_verdict.ensures
+returns-then-is_front c =
+    let m : max 1 c.args.count ≡ c.max.result = omega (arith, c.max.ensures) in
+    rw (← c.is_front.ensures, c.if-is_front.true, m) c.sectors_verdict.ensures
 
 pub returns : goal.returns
 unfolding lent_length

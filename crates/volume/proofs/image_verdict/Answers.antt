@@ -15,14 +15,14 @@ sectors-of : (len : ℕ) → is_whole len ≡ true → 512 * (len / 512) ≡ len
 unfolding is_whole
 sectors-of len h = omega (arith, eqb-true (len % 512) 0 (and_right (ltb 0 len) (eqb (len % 512) 0) h))
 
+pub returns-then-not-is_whole : goal.returns-then-not-is_whole
+unfolding image_verdict verdict_of
+returns-then-not-is_whole c = rw (← c.is_whole.ensures, c.if-not-is_whole.true)
+
 pub sectors_verdict-requires : goal.sectors_verdict-requires
 sectors_verdict-requires c =
-    let h = whole-true _ (sym c.is_whole.ensures ∙ c.if-is_whole.true) in
+    let h = whole-true _ (sym c.is_whole.ensures ∙ c.if-not-is_whole.false) in
     (h, omega (arith, h))
 
-pub returns-then-is_whole : goal.returns-then-is_whole
-returns-then-is_whole c = rw (sectors-of _ (sym c.is_whole.ensures ∙ c.if-is_whole.true)) at c.sectors_verdict.ensures
-
 pub returns : goal.returns
-unfolding image_verdict verdict_of
-returns c = rw (← c.is_whole.ensures, c.if-is_whole.false) c.refusal.ensures
+returns c = rw (sectors-of _ (sym c.is_whole.ensures ∙ c.if-not-is_whole.false)) at c.sectors_verdict.ensures

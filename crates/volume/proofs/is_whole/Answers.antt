@@ -7,6 +7,6 @@ pub returns-then-len-gt0 : goal.returns-then-len-gt0
 unfolding is_whole
 returns-then-len-gt0 c = rw (lt-ltb _ _ c.if-len-gt0.true)
 
-pub returns : goal.returns
+pub returns-else-len-gt0 : goal.returns-else-len-gt0
 unfolding is_whole
-returns c = rw (le-ltb _ _ c.if-len-gt0.false)
+returns-else-len-gt0 c = rw (le-ltb _ _ c.if-len-gt0.false)

@@ -6,30 +6,18 @@ use Rattle.volume.proofs.superblock_verdict.Goals as goal
 
 pub returns-then-s-lt512 : goal.returns-then-s-lt512
 unfolding superblock_verdict verdict_of
-returns-then-s-lt512 c = rw (lt-ltb _ _ c.if-s-lt512.true) c.refusal.ensures
+returns-then-s-lt512 c = rw (lt-ltb _ _ c.if-s-lt512.true)
 
-pub returns-then-in_bounds : goal.returns-then-in_bounds
+pub returns-then-not-is_volume : goal.returns-then-not-is_volume
 unfolding superblock_verdict verdict_of
-returns-then-in_bounds c = rw (
-  le-ltb _ _ c.if-s-lt512.false,
-  ← c.is_volume.ensures,
-  c.if-is_volume.true,
-  ← c.geometry_in-g.ensures,
-  ← c.in_bounds.ensures,
-  c.if-in_bounds.true,
-) c.refusal-then-in_bounds.ensures
+returns-then-not-is_volume c = rw (le-ltb _ _ c.if-s-lt512.false, ← c.is_volume.ensures, c.if-not-is_volume.true)
 
-pub returns-then-is_volume : goal.returns-then-is_volume
+pub returns-then-not-in_bounds : goal.returns-then-not-in_bounds
 unfolding superblock_verdict verdict_of
-returns-then-is_volume c = rw (
-  le-ltb _ _ c.if-s-lt512.false,
-  ← c.is_volume.ensures,
-  c.if-is_volume.true,
-  ← c.geometry_in-g.ensures,
-  ← c.in_bounds.ensures,
-  c.if-in_bounds.false,
-) c.refusal-then-is_volume.ensures
+returns-then-not-in_bounds c =
+    rw (le-ltb _ _ c.if-s-lt512.false, ← c.is_volume.ensures, c.if-not-is_volume.false, ← c.geometry_in-g.ensures, ← c.in_bounds.ensures, c.if-not-in_bounds.true)
 
 pub returns : goal.returns
 unfolding superblock_verdict verdict_of
-returns c = rw (le-ltb _ _ c.if-s-lt512.false, ← c.is_volume.ensures, c.if-is_volume.false) c.refusal-2.ensures
+returns c =
+    rw (le-ltb _ _ c.if-s-lt512.false, ← c.is_volume.ensures, c.if-not-is_volume.false, ← c.geometry_in-g.ensures, ← c.in_bounds.ensures, c.if-not-in_bounds.false)

@@ -4,4 +4,4 @@ use Rattle.write.proofs.complete.Goals as goal
 
 pub returns : goal.returns
 unfolding completed
-returns c = rw (c.move_bytes-2.ensures, c.move_bytes.ensures)
+returns c = rw (c.copy_bytes-2.ensures, c.copy_bytes.ensures)

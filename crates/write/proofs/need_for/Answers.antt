@@ -1,41 +1,35 @@
--- `write::need_for` meets its contract. An extent is free, or none is.
-use mathlib.Core.Path.{sym, ap, ap₂, ◌∙◌}
-use native.Mathlib.Omega.{arith}
-use lib.Dec.{ltb}
-use lib.ListN.{get_or}
-use Rattle.model.specs.Search.{index_of}
-use Rattle.write.proofs.Laws.{held-is, more-is, free-below, spare-is, spare-none}
+-- `write::need_for` meets its contract. One more extent is needed and no more than K are free, or not.
+use Rattle.std.proofs.Common.{◌∙◌, ltb, get_or, arith}
+use mathlib.Core.Path.{ap₂}
+use Rattle.write.proofs.Laws.{held-is, more-is, next-below, room-full, room-left}
+use Rattle.write.proofs.need_for.Goals.{else-more-via-then-more+else-stages-next, else-more-via-else-more}
 use Rattle.write.proofs.need_for.Goals as goal
 
-pub bounds-stages-0 : goal.bounds-stages-0
-bounds-stages-0 c = omega (arith, c.requires.stages_of.inside.five)
+pub returns-then-stages-next-clause-lacking : goal.returns-then-stages-next-clause-lacking
+returns-then-stages-next-clause-lacking c =
+    let a = c.args in
+    let r = c.requires in
+    room-full a.img.now a.g r.opened r.img_value c.next_extent-next.result.0 (get_or a.stages.now 0 0) c.next_extent-next.ensures (r.stages_of.are 0) a.i.0 a.size a.z
+    r.size_value (omega (arith, c.extents_for-held.ensures.value, c.extents_for.ensures.value, c.if-more.true)) c.if-stages-next.true
 
-pub returns-in-At : goal.returns-in-At
-returns-in-At c =
-    let s = c in
-    let img = s.args.img.now in
-    let q = sym c.in-At.is ∙ c.free_extent.ensures in record {
-      grown = record {
-        extents = c.extents_for-held.ensures.value ∙ held-is img s.args.g s.requires.opened s.args.i.0 s.args.size s.requires.size_value;
-        needs-one = ap₂ ltb c.extents_for-held.ensures.value c.extents_for.ensures.value
-            ∙ more-is img s.args.g s.requires.opened s.args.i.0 s.args.size s.args.z s.requires.size_value;
-        has_one = spare-is img s.args.g s.requires.opened s.requires.img_value c.in-At.e (get_or s.args.stages.now 0 0) q (s.requires.stages_of.are 0);
-        taken = ap index_of q;
-      };
-      next_lt_extents = free-below img s.args.g s.requires.opened c.in-At.e q;
-    }
+pub returns-clause-lacking : goal.returns-clause-lacking
+returns-clause-lacking c =
+    let a = c.args in
+    let r = c.requires in
+    room-left a.img.now a.g r.opened r.img_value c.next_extent-next.result.0 (get_or a.stages.now 0 0) c.next_extent-next.ensures (r.stages_of.are 0) a.i.0 a.size a.z
+    r.size_value (λ m. elim c.else-more.branch [
+      | else-more-via-then-more+else-stages-next w ↦ w.if-stages-next.false
+      | else-more-via-else-more w ↦ absurd (omega (arith, m, c.extents_for-held.ensures.value, c.extents_for.ensures.value, w.if-more.false))
+    ])
 
-pub returns : goal.returns
-returns c =
-    let s = c in
-    let img = s.args.img.now in
-    let q = sym c.in_default.is ∙ c.free_extent.ensures in record {
-      grown = record {
-        extents = c.extents_for-held.ensures.value ∙ held-is img s.args.g s.requires.opened s.args.i.0 s.args.size s.requires.size_value;
-        needs-one = ap₂ ltb c.extents_for-held.ensures.value c.extents_for.ensures.value
-            ∙ more-is img s.args.g s.requires.opened s.args.i.0 s.args.size s.args.z s.requires.size_value;
-        has_one = spare-none img s.args.g s.requires.opened q;
-        taken = ap index_of q;
-      };
-      next_lt_extents = omega (arith, s.requires.opened.bounded.extents-low);
-    }
+pub returns-clause-grown : goal.returns-clause-grown
+returns-clause-grown c =
+    let a = c.args in
+    let r = c.requires in (
+      record {
+        extents = c.extents_for-held.ensures.value ∙ held-is a.img.now a.g r.opened a.i.0 a.size r.size_value;
+        needs-one = ap₂ ltb c.extents_for-held.ensures.value c.extents_for.ensures.value ∙ more-is a.img.now a.g r.opened a.i.0 a.size a.z r.size_value;
+        taken = c.next_extent-next.ensures;
+      },
+      next-below a.img.now a.g r.opened c.next_extent-next.result.0 c.next_extent-next.ensures,
+    )

@@ -1,7 +1,5 @@
 -- `write::write_step` meets its contract. The sector is taken into the list, or nothing changes.
-use mathlib.Core.Path.{refl, sym, ◌∙◌}
-use native.Mathlib.Omega.{arith}
-use lib.ListN.{length}
+use Rattle.std.proofs.Common.{refl, sym, ◌∙◌, length, arith}
 use Rattle.model.specs.Lent.{write_step, write_step_list}
 use Rattle.write.proofs.Lent.{takes-yes}
 use Rattle.write.proofs.write_step.Goals as goal
@@ -16,18 +14,8 @@ complete-requires c =
 
 pub returns-then-takes_write : goal.returns-then-takes_write
 unfolding write_step write_step_list
-returns-then-takes_write c =
-    let t = sym c.takes_write.ensures ∙ c.if-takes_write.true in
-    rw t record {
-      value = c.write_taken.ensures;
-      list_after = c.complete.ensures;
-    }
+returns-then-takes_write c = rw (sym c.takes_write.ensures ∙ c.if-takes_write.true) record { value = c.write_taken.ensures; list_after = c.complete.ensures }
 
 pub returns : goal.returns
 unfolding write_step write_step_list
-returns c =
-    let t = sym c.takes_write.ensures ∙ c.if-takes_write.false in
-    rw t record {
-      value = c.write_not_taken.ensures;
-      list_after = refl;
-    }
+returns c = rw (sym c.takes_write.ensures ∙ c.if-takes_write.false) record { value = c.write_not_taken.ensures; list_after = refl }

@@ -1,4 +1,4 @@
--- `layout::edition::is_edition` meets its contract. The version is 1, or it is compared with 2.
+-- `layout::edition::is_edition` meets its contract.
 use Rattle.std.proofs.Common.{eq-eqb, ne_eqb}
 use Rattle.model.specs.Edition.{is_edition}
 use Rattle.layout.proofs.edition.is_edition.Goals as goal
@@ -7,6 +7,6 @@ pub returns-then-version-eq1 : goal.returns-then-version-eq1
 unfolding is_edition
 returns-then-version-eq1 c = rw (eq-eqb _ _ c.if-version-eq1.true)
 
-pub returns : goal.returns
+pub returns-else-version-eq1 : goal.returns-else-version-eq1
 unfolding is_edition
-returns c = rw (ne_eqb _ _ c.if-version-eq1.false)
+returns-else-version-eq1 c = rw (ne_eqb _ _ c.if-version-eq1.false)

@@ -1,8 +1,8 @@
 -- `layout::entry::accessed` meets its contract. The store is that of the definition.
-use Rattle.model.specs.Entry.{accessed_entry_sector}
 use Rattle.std.proofs.Common.{◌∙◌}
+use Rattle.model.specs.Entry.{accessed_entry_sector}
 use Rattle.layout.proofs.entry.accessed.Goals as goal
 
 pub returns : goal.returns
 unfolding accessed_entry_sector
-returns c = c.set_to.ensures ∙ rw (c.owned-a.ensures, ← c.of-e.ensures.result_value)
+returns c = c.set_to.ensures ∙ rw (c.owned-a.ensures, ← c.of.ensures.result_value)

@@ -6,17 +6,14 @@ use Rattle.layout.proofs.entry.fields_in.Goals as goal
 pub returns : goal.returns
 unfolding fields_of entry_in
 returns c =
-    let l = c in
-    let m = l in
-    let e = m in
     rw (
       length-name_in,
-      ← e.of-e.ensures.result_value,
-      ← m.number_in-version.ensures.value,
-      ← m.number_in-mode.ensures.value,
-      ← m.number_in-access_time.ensures.value,
-      ← l.number_in-change_time.ensures.value,
-      ← l.number_in-name_length.ensures.value,
-      ← c.size-size.ensures,
-      ← c.id-id.ensures,
+      ← c.of-e.ensures.result_value,
+      ← c.number_in.ensures.value,
+      ← c.number_in-2.ensures.value,
+      ← c.number_in-3.ensures.value,
+      ← c.number_in-4.ensures.value,
+      ← c.number_in-5.ensures.value,
+      ← c.size.ensures,
+      ← c.id.ensures,
     )

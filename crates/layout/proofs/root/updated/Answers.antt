@@ -11,5 +11,5 @@ returns c =
       c.owned-a.ensures,
       c.raised_version-version.ensures,
       c.number_in.ensures.value,
-      ← c.of-e.ensures.result_value,
+      ← c.of.ensures.result_value,
     )

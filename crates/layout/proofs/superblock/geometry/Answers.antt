@@ -4,6 +4,4 @@ use Rattle.layout.proofs.superblock.geometry.Goals as goal
 
 pub returns : goal.returns
 unfolding geometry_in
-returns c =
-    let d = c in
-    rw (← d.number_in-files.ensures.value, ← d.number_in-extents.ensures.value, ← c.number_in-extent_sectors.ensures.value, ← c.number_in-edition.ensures.value)
+returns c = rw (← c.number_in.ensures.value, ← c.number_in-2.ensures.value, ← c.number_in-3.ensures.value, ← c.number_in-4.ensures.value)

@@ -3,5 +3,5 @@ use Rattle.std.proofs.Common.{arith, sym, ◌∙◌}
 use Rattle.model.proofs.Areas.{bounds}
 use Rattle.model.proofs.Summary.start_of.Goals as goal
 
-pub start_of-sector-requires : goal.start_of-sector-requires
-start_of-sector-requires c = bounds _ (sym c.in_bounds.ensures ∙ c.if-in_bounds.true) (omega arith)
+pub start_of-requires : goal.start_of-requires
+start_of-requires c = bounds _ (sym c.in_bounds.ensures ∙ c.if-in_bounds.true) (omega arith)

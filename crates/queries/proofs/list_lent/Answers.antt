@@ -13,8 +13,9 @@ use Rattle.queries.proofs.list_lent.Goals as goal
 pub returns-in_err-judge_lent : goal.returns-in_err-judge_lent
 returns-in_err-judge_lent c =
     let a = c.args in
+    let l = lent_length (length a.front.now) a.count (view a.front.now) in
     rw (handed-on _ c.from_residual.ensures.1)
-    (value_out_and_list (list-judged (lent_length (length c.args.front.now) c.args.count (view c.args.front.now)) a.front.now a.out.now a.list.now a.index a.time _ c.in_err-judge_lent.ensures (refusing c.in_err-judge_lent.field-0.0)))
+    (value_out_and_list (list-judged l a.front.now a.out.now a.list.now a.index a.time _ c.in_err-judge_lent.ensures (refusing c.in_err-judge_lent.field-0.0)))
 
 pub list_in-requires : goal.list_in-requires
 list_in-requires c = lent-accepted _ _ (ap (λ (v : Verdict). v.number) (sym c.in_ok-judge_lent.ensures))

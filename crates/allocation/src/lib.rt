@@ -98,7 +98,7 @@ impl Mark for u32 {
     }
 
     fn lacks_mark(s: &[u32], a: usize, b: usize) -> bool {
-        (a..b).any(|k| s[k] == 0)
+        s[a..b].iter().fold(1, |least, &x| least.min(x)) == 0
     }
 }
 

@@ -57,6 +57,8 @@ pub fn name_at(img: &[u8], edition: u64, i: FileIndex) -> &[u8]
 }
 
 // Whether an entry's sector is occupied and has the name. The lengths are compared first: the comparison sees no byte past the name.
+// Inlined: a search asks it of each entry.
+#[inline(always)]
 pub fn is_named(s: &[u8], edition: u64, name: &[u8]) -> bool
     requires s_len { length s.now ≡ 512 }
     requires name_len_bound { length name.now ≤ (layout_of edition).longest_name }
@@ -68,6 +70,7 @@ pub fn is_named(s: &[u8], edition: u64, name: &[u8]) -> bool
 }
 
 // Whether entry i is occupied and has the name.
+#[inline(always)]
 pub fn has_name(img: &[u8], edition: u64, i: FileIndex, name: &[u8]) -> bool
     requires i_in_bounds { 512 * entry_at i.0 + 512 ≤ length img.now }
     requires name_len_bound { length name.now ≤ (layout_of edition).longest_name }

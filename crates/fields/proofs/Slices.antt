@@ -117,6 +117,10 @@ least_from (x ∷ xs) a =
 pub least-zero : (bytes : List ℕ) → eqb (fold min 255 bytes) 0 ≡ any_below (zero_at bytes) (length bytes)
 least-zero bytes = least_from bytes 255
 
+-- the same of numbers, where a fold begins with 1
+pub least-one : (numbers : List ℕ) → eqb (fold min 1 numbers) 0 ≡ any_below (zero_at numbers) (length numbers)
+least-one numbers = least_from numbers 1
+
 and_three : (a b c : Bool) → ((a && b) && c) ≡ (b && (a && c))
 and_three true b c = refl
 and_three false true c = refl

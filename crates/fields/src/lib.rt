@@ -96,7 +96,7 @@ pub fn starts_with(part: &[u8], text: &[u8]) -> bool
     requires { length text.now ≤ length part.now }
     ensures { result ≡ equal_bytes (bytes_from part.now 0 (length text.now)) text.now }
 {
-    part.starts_with(text)
+    is_same(&part[..text.len()], text)
 }
 
 // Whether both are the same bytes.

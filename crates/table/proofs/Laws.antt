@@ -1,5 +1,5 @@
 -- What a disk's catalogue says of an extent, in the terms that the code tests; a quotient rounded up. Assumes nothing.
-use Prim.Native.Nat.{ℕ, ◌+◌, ◌-◌, ◌*◌, ◌/◌, ◌%◌, ◌≤◌, ◌<◌}
+use Prim.Native.Nat.{ℕ, zero, suc, ◌+◌, ◌-◌, ◌*◌, ◌/◌, ◌%◌, ◌≤◌, ◌<◌, max}
 use mathlib.Core.Path.{◌≡◌, refl, sym, ap, ◌∙◌}
 use mathlib.Core.Bool.{Bool, true, false, cond, not, ◌&&◌}
 use mathlib.Core.List.{List}
@@ -19,7 +19,7 @@ use Rattle.model.specs.Superblock.{geometry_in}
 use Rattle.model.specs.Table.{free_file, table_file, table_offset}
 use Rattle.model.specs.Catalogue.{Owner, catalogue_of, is_free, is_part, owned_from, free_extent, extent_of}
 use Rattle.laws.proofs.Disk.{be_at-view}
-use Rattle.laws.proofs.Search.{first-ext, scan-none, none-at}
+use Rattle.laws.proofs.Search.{first-ext, scan-none, scan-next, none-at}
 use Rattle.laws.proofs.Catalogue.{table_on, part-is}
 use Rattle.laws.proofs.Seeking.{seek-start, seek_found, seek-over}
 use Rattle.laws.proofs.Folds.{Passed}
@@ -40,11 +40,31 @@ sectors-passed p n m t e h = rw (zero-add (128 * t)) at (seek-over (seek-start {
         let at : 128 * (k / 128) + k % 128 ≡ k = omega arith in
         rw at at (none-at (λ j. p (128 * (k / 128) + j)) 128 (h.1 (k / 128) (omega arith)) (k % 128) (omega arith))))
 
--- a search that ended among the first few, or else what the whole search finds
-pub found-early : (p : ℕ → Bool) (n few : ℕ) (o r : Option ℕ) {N : Type 0} → o ≡ scan p (few - 0) 0 → few ≤ n → MatchOption o N (λ k. r ≡ Some k) → (N → r ≡ first p n)
-    → r ≡ first p n
+-- a search goes on behind w indexes that fail
+scan-over : (p : ℕ → Bool) (n i w : ℕ) → i + w ≤ n → ((k : ℕ) → i ≤ k → k < i + w → p k ≡ false) → scan p (n - (i + w)) (i + w) ≡ scan p (n - i) i
+scan-over p n i zero l h =
+    let z : i + zero ≡ i = omega arith in
+    ap (λ j. scan p (n - j) j) z
+scan-over p n i (suc w) l h =
+    let e : i + suc w ≡ i + 1 + w = omega arith in
+    ap (λ j. scan p (n - j) j) e ∙ scan-over p n (i + 1) w (omega arith) (λ k a b. h k (omega arith) (omega arith))
+    ∙ sym (scan-next p n i (omega arith) (h i (omega arith) (omega arith)))
+
+-- where the first table sectors hold no extent that passes, a search from some index on goes on behind them
+pub sectors-over : (p : ℕ → Bool) (n from m t : ℕ) → from ≤ n → m ≡ (n - from) / 128 → Passed (λ j. any_below (λ k. p (128 * j + k)) 128) m t
+    → scan p (n - max from (128 * t)) (max from (128 * t)) ≡ scan p (n - from) from
+sectors-over p n from m t l e h =
+    let s : max from (128 * t) ≡ from + (128 * t - from) = omega arith in
+    ap (λ j. scan p (n - j) j) s
+    ∙ scan-over p n from (128 * t - from) (omega (arith, h.0)) (λ k a b.
+    let at : 128 * (k / 128) + k % 128 ≡ k = omega arith in
+    rw at at (none-at (λ j. p (128 * (k / 128) + j)) 128 (h.1 (k / 128) (omega arith)) (k % 128) (omega arith)))
+
+-- a search that ended among the first few, or else what the search behind them finds
+pub found-early : (p : ℕ → Bool) (n few : ℕ) (o r : Option ℕ) {N : Type 0} → o ≡ scan p (few - 0) 0 → few ≤ n → MatchOption o N (λ k. r ≡ Some k)
+    → (N → r ≡ scan p (n - few) few) → r ≡ first p n
 found-early p n few (Some k) r e l h other = h ∙ seek_found (seek-start {p = p} {n = n}) few (omega arith) (rw (sub-zero few) at e)
-found-early p n few None r e l h other = other h
+found-early p n few None r e l h other = other h ∙ rw (zero-add few) at (seek-over (seek-start {p = p} {n = n}) few (omega arith) (rw (sub-zero few) at e)).rest
 
 vacant : (b : Bool) (w : Owner) → is_free (cond (not b) (some w) none) ≡ b
 vacant true w = refl

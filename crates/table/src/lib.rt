@@ -104,26 +104,27 @@ fn free_between(img: &[u8], g: Geometry, from: usize, to: usize) -> Option<usize
     (from..to).find(|&e| is_free(img, g, Extent(e as u64)))
 }
 
-// The lowest free extent. Table sectors with no free one are passed over whole.
-fn free_by_sectors(img: &[u8], g: Geometry) -> Option<usize>
-    requires { Opened img.now g }
-    ensures { result ≡ free_extent (catalogue_of (view img.now)) }
+// The lowest free extent from `from` on. Table sectors with no free one are passed over whole, where there are so many extents behind `from`.
+fn free_from(img: &[u8], g: Geometry, from: usize) -> Option<usize>
+    requires opened { Opened img.now g }
+    requires from_le_extents { from ≤ g.extents }
+    ensures { result ≡ scan (λ e. eqb (table_file g (view img.now) e) free_file) (g.extents - from) from }
 {
     let n = g.extents as usize;
-    let whole = n / 128;
+    let whole = (n - from) / 128;
     let t = (0..whole)
         .find(|&t| holds_free(img, g, 128 * t as u64))
         .unwrap_or(whole);
-    free_between(img, g, 128 * t, n)
+    free_between(img, g, from.max(128 * t), n)
 }
 
-// The same. The first ones are looked at one by one, as the search ends there on a volume that is nearly empty.
+// The lowest free extent. The first ones are looked at one by one, as the search ends there on a volume that is nearly empty.
 pub fn free_extent(img: &[u8], g: Geometry) -> Option<usize>
     requires { Opened img.now g }
     ensures { result ≡ free_extent (catalogue_of (view img.now)) }
 {
     let few = g.extents.min(8) as usize;
-    free_between(img, g, 0, few).or_else(|| free_by_sectors(img, g))
+    free_between(img, g, 0, few).or_else(|| free_from(img, g, few))
 }
 
 // ---- the highest free extents

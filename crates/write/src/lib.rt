@@ -28,18 +28,18 @@ use model::{Extent, FileIndex, Geometry, Part, Refusal, Writing};
 
 // What a new size needs: the extents that the file has, whether it takes one more, and the lowest free one, which it then takes.
 #[derive(Clone, Copy)]
-struct Growth {
-    held: u64,
-    more: bool,
-    next: Extent,
+pub struct Growth {
+    pub held: u64,
+    pub more: bool,
+    pub next: Extent,
 }
 
 // What a write or a resize comes to that nothing refuses: the list's length in bytes, and the file, with the size that it had.
 #[derive(Clone, Copy)]
-struct Begun {
-    length: u64,
-    index: FileIndex,
-    size: u64,
+pub struct Begun {
+    pub length: u64,
+    pub index: FileIndex,
+    pub size: u64,
 }
 
 // The table sector of extent x, in which x is given to file i as its extent of that offset.

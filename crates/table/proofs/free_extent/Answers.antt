@@ -7,7 +7,6 @@ use Rattle.table.proofs.free_extent.Goals as goal
 
 pub returns : goal.returns
 returns c =
-    let whole = free-extent-is (view c.args.img.now) c.args.g c.requires.is in
-    rw whole
-    (found-early (free_in c.args.img.now c.args.g) c.args.g.extents c.min-few.result _ _ c.free_between.ensures (omega (arith, c.min-few.ensures)) c.or_else.ensures
-    (λ h. rw (← whole) (search rules)))
+    rw (free-extent-is (view c.args.img.now) c.args.g c.requires.is)
+    (found-early (free_in c.args.img.now c.args.g) c.args.g.extents c.min.result _ _ c.free_between.ensures (omega (arith, c.min.ensures)) c.or_else.ensures
+    (λ h. search rules))

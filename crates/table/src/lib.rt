@@ -104,7 +104,8 @@ fn free_between(img: &[u8], g: Geometry, from: usize, to: usize) -> Option<usize
     (from..to).find(|&e| is_free(img, g, Extent(e as u64)))
 }
 
-// The lowest free extent from `from` on. Table sectors with no free one are passed over whole, where there are so many extents behind `from`.
+// The lowest free extent from `from` on. Table sectors with no free one are passed over whole, as many as there are
+// times 128 extents from `from` on: a shorter table isn't read twice.
 fn free_from(img: &[u8], g: Geometry, from: usize) -> Option<usize>
     requires opened { Opened img.now g }
     requires from_le_extents { from ≤ g.extents }

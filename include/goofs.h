@@ -8,15 +8,15 @@
  *     files up to                          1,024    1,024    1,024    65,535
  *     extents up to                        1,024    4,096   65,535    65,535
  *
- *     check                                6,624    6,624   68,064   262,744
- *     find, list, read, create, write      6,864    6,864   68,304   262,984
- *     resize, delete, rename              13,664   13,664   68,240   262,920
- *     rename_set                           8,824    8,824   68,240   262,920
+ *     check                                6,624    6,624   68,064   262,728
+ *     find, list, read, create, write      6,864    6,864   68,304   262,968
+ *     resize, delete, rename              13,680   13,680   68,240   262,904
+ *     rename_set                           8,824    8,824   68,240   262,904
  *     repair                              15,848   51,688  338,408   338,408
  *     recover                              1,480    1,480    1,480     1,480
  *     the same of another writer's journal 5,800    5,800    5,800   133,864
  *     recover_slice                        1,416    1,416    1,416     1,416
- *     check_with                             472      472      472       472
+ *     check_with                             456      456      456       456
  *     format_record                        1,176    1,176    1,176     1,176
  *     summary, carry_out, longest_list       152      152      152       152
  *
